@@ -1,0 +1,46 @@
+-- The numbers of document 01, "Operations and their refusals".
+use Prim.Native.Nat.{ℕ}
+use Rattle.refusal.specs.declared.Refusal.{Refusal}
+use Rattle.refusal.specs.declared.Refusal.the-variants.{ChainCount, Width, Sum, Height, TableTooShort, OutputTooShort, NumberTooLarge, CodewordLength, DigitTooLarge, CodewordSum, LeafOutOfRange, KeySpent, SignatureLength, LeafPassed, RootDiffers, MessageLength, SheetLine, HashTooLong}
+use Rattle.refusal.specs.declared.Outcome.{Outcome}
+use Rattle.refusal.specs.declared.Outcome.the-variants.{Granted, Refused}
+
+abbrev pub code : Refusal → ℕ
+-- "1 l, 2 w, 3 s, 4 h outside its range"
+code ChainCount = 1
+code Width = 2
+code Sum = 3
+code Height = 4
+-- "5 work slice under 5 × (l + 1) × (s + 1) words"
+code TableTooShort = 5
+-- "6 output under l bytes", and under the bytes that each other operation names
+code OutputTooShort = 6
+-- "7 number not below the count"
+code NumberTooLarge = 7
+-- "8 the row hasn't l bytes"
+code CodewordLength = 8
+-- "9 a length above w − 1"
+code DigitTooLarge = 9
+-- "10 sum other than s"
+code CodewordSum = 10
+-- "11, leaf not below 2^h"
+code LeafOutOfRange = 11
+-- "12 next leaf not below 2^h"
+code KeySpent = 12
+-- "13 values not 16 × l bytes", "13 signature not 20 + 16 × l + 16 × h bytes"
+code SignatureLength = 13
+-- "14 leaf below the lowest still taken"
+code LeafPassed = 14
+-- "15 recovered root differs"
+code RootDiffers = 15
+-- "16 order text empty or over 200 bytes"
+code MessageLength = 16
+-- "17 with the number, from 1, of the first line that is wrong"
+code SheetLine = 17
+-- "18, if the total with the new bytes is over 65,535"
+code HashTooLong = 18
+
+-- 0 for granted, else the number of the cause
+abbrev pub outcomeCode : Outcome → ℕ
+outcomeCode Granted = 0
+outcomeCode (Refused r) = code r

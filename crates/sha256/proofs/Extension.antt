@@ -1,0 +1,36 @@
+-- What a granted add makes of a state, by the two ways of the code.
+-- Assumes nothing.
+use mathlib.Core.Path.{_≡_, _∙_, ap}
+use mathlib.Core.List.{List, _++_, append-assoc}
+use Prim.Native.Nat.{ℕ, _+_, _-_, _%_, _<_, _≤_}
+use native.Mathlib.Omega.{arith}
+use lib.ListN.{length, take, drop, replicate, length-append, take-append-drop}
+use lib.Seq.{length-take-le}
+use Rattle.sha256_block.specs.Compression.{compress}
+use Rattle.sha256.specs.Digest.{compressAll}
+use Rattle.sha256.specs.Running.{pending, rest, extended}
+use Rattle.sha256.specs.declared.running.Hash.{Hash}
+use Rattle.sha256.proofs.Blocks.{all-short, all-append, rest-short, rest-append}
+
+module _ (s : Hash) (bytes : List ℕ) (e : length (pending s) ≡ s .total % 64) where
+  -- the bytes leave the block short
+  pub within-block : (block : List ℕ) → s .total % 64 + length bytes < 64
+      → block ≡ pending s ++ bytes ++ replicate (64 - (s .total % 64 + length bytes)) 0
+      → record { words = s .words; block = block; total = s .total + length bytes } ≡ extended s bytes
+  unfolding extended
+  within-block block h q =
+      let long : length (pending s ++ bytes) ≡ s .total % 64 + length bytes = length-append (pending s) bytes ∙ ap (λ k. k + length bytes) e in
+      let words = all-short (s .words) (pending s ++ bytes) (omega arith) in
+      let left = rest-short (pending s ++ bytes) (omega arith) in
+      rw (words, left, q, long)
+
+  -- the bytes fill the block, and go on behind it
+  pub past-block : (first : List ℕ) → 64 ≤ s .total % 64 + length bytes → first ≡ pending s ++ take (64 - s .total % 64) bytes
+      → record { words = compressAll (compress (s .words) first) (drop (64 - s .total % 64) bytes); block = rest (drop (64 - s .total % 64) bytes); total = s .total + length bytes } ≡ extended s bytes
+  unfolding extended
+  past-block first h q =
+      let room = 64 - s .total % 64 in
+      let more = drop room bytes in
+      let whole : first ++ more ≡ pending s ++ bytes = rw (q, append-assoc, take-append-drop) in
+      let long : length first ≡ 64 = rw q (length-append (pending s) (take room bytes) ∙ rw (e, length-take-le room bytes (omega arith)) (omega arith)) in
+      rw (← whole, all-append (s .words) first more long, rest-append first more long)

@@ -1,0 +1,38 @@
+-- `sha256::running::Hash::add` meets its contract: the test is the definition's, and a granted add is what `extended` ensures.
+use Prim.Native.Nat.{_+_, _≤_, _<_}
+use native.Mathlib.Omega.{arith}
+use denote.Ref.{now}
+use lib.ListN.{length}
+use borrow.Author.Needs.{needs}
+use borrow.Author.Tests.{lt-ltb, le-ltb}
+use Rattle.sha256.specs.Running.{addNumber, addState}
+use Rattle.sha256.proofs.running.Hash.add.Statement.{statement}
+use Rattle.sha256.proofs.running.Hash.add.Tie as tie
+
+cast-total : tie.Need-cast-total
+cast-total c = search needs
+
+sub-if1 : tie.Need-sub-if1
+sub-if1 c = search needs
+
+returns : tie.Need-returns
+unfolding addNumber addState
+returns c =
+    let args = c .before .before .before .args in
+    let over : 65535 < args .self .total + length (now (args .bytes)) = omega arith in
+    let test = lt-ltb 65535 (args .self .total + length (now (args .bytes))) over in
+    record { number = rw test; state = rw test }
+
+extended-requires : tie.Need-extended-requires
+extended-requires c κs = search needs
+
+returns-2 : tie.Need-returns-2
+unfolding addNumber addState
+returns-2 c =
+    let args = c .before .before .before .before .args in
+    let fits : args .self .total + length (now (args .bytes)) ≤ 65535 = omega arith in
+    let test = le-ltb 65535 (args .self .total + length (now (args .bytes))) fits in
+    record { number = rw test; state = rw test (c .extended .ensures) }
+
+pub add-spec : {M : Type 1} → statement M
+add-spec = tie.close (tie.spec cast-total sub-if1 returns extended-requires returns-2)

@@ -1,0 +1,18 @@
+-- `sha256::running::Hash::finish` meets its contract: a fresh state with the words that `final_words` ensures.
+use Rattle.sha256.specs.Running.{finished}
+use borrow.Author.Needs.{needs}
+use Rattle.sha256.proofs.running.Hash.finish.Statement.{statement}
+use Rattle.sha256.proofs.running.Hash.finish.Tie as tie
+
+final-words-requires : tie.Need-final-words-requires
+final-words-requires c κs = search needs
+
+fresh-requires : tie.Need-fresh-requires
+fresh-requires c κs = search needs
+
+returns : tie.Need-returns
+unfolding finished
+returns c = cc
+
+pub finish-spec : {M : Type 1} → statement M
+finish-spec = tie.close (tie.spec final-words-requires fresh-requires returns)

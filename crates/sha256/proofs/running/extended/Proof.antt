@@ -1,0 +1,124 @@
+-- `sha256::running::extended` meets its contract: the bytes stay within the block, or fill it and go on behind it.
+use mathlib.Core.Path.{sym, ap}
+use mathlib.Core.List.{List, _++_, append-nil}
+use Prim.Native.Nat.{ℕ, _+_, _-_, _%_}
+use native.Mathlib.Omega.{arith}
+use denote.Ref.{now}
+use lib.ListN.{length, take, replicate}
+use lib.Seq.{length-take-le}
+use Rattle.sha256.specs.Running.{pending}
+use Rattle.sha256.specs.declared.running.Hash.{Hash}
+use Rattle.sha256.proofs.Extension.{within-block, past-block}
+use Rattle.words.proofs.Fill.{pasted, part-to-end}
+use mathlib.Core.Path.{_≡_, _∙_}
+use borrow.Author.Needs.{needs}
+use Rattle.sha256.proofs.running.extended.Statement.{statement}
+use Rattle.sha256.proofs.running.extended.Tie as tie
+
+cast-total : tie.Need-cast-total
+cast-total c = search needs
+
+sub-room : tie.Need-sub-room
+sub-room c = search needs
+
+kept-requires : tie.Need-kept-requires
+kept-requires c κs = search needs
+
+add-n : tie.Need-add-n
+add-n c = search needs
+
+cast-n : tie.Need-cast-n
+cast-n c = search needs
+
+put-requires : tie.Need-put-requires
+put-requires c κs = search needs
+
+-- the state that came in, the new bytes and the room in the block
+abbrev state : tie.After-kept → Hash
+state c = c .before .before .before .before .before .args .s
+
+abbrev added : tie.After-kept → List ℕ
+added c = now (c .before .before .before .before .before .args .bytes)
+
+abbrev room : tie.After-kept → ℕ
+room c = 64 - state c .total % 64
+
+-- as many bytes are pending as the total says
+long : (c : tie.After-kept) → length (take (state c .total % 64) (state c .block)) ≡ state c .total % 64
+long c =
+    let all : length (state c .block) ≡ 64 = search needs in
+    length-take-le (state c .total % 64) (state c .block) (omega arith)
+
+returns : tie.Need-returns
+unfolding pending
+returns c =
+    let at-kept = c .before .before in
+    let s = state at-kept in
+    let bytes = added at-kept in
+    let block = pasted (take (s .total % 64) (s .block)) 0 bytes (s .total % 64) 64 (long at-kept) (omega arith) (at-kept .kept .ensures) (c .put .ensures) in
+    within-block s bytes (long at-kept) (c .put .result) (omega arith) block
+
+slice-aggregate-put : tie.Need-slice-aggregate-put
+slice-aggregate-put c = let at-kept = c .before .before in sym (length-take-le (room at-kept) (added at-kept) (c .before .if1 .left))
+
+put-requires-2 : tie.Need-put-requires-2
+put-requires-2 c κs = let at-kept = c .before .before in omega (arith, length-take-le (room at-kept) (added at-kept) (c .before .if1 .left))
+
+sub-more : tie.Need-sub-more
+sub-more c = search needs
+
+part-more-start : tie.Need-part-more-start
+part-more-start c = search needs
+
+part-more-end : tie.Need-part-more-end
+part-more-end c = search needs
+
+slice-aggregate-compress : tie.Need-slice-aggregate-compress
+slice-aggregate-compress c = search needs
+
+compress-requires : tie.Need-compress-requires
+compress-requires c κs = search needs
+
+absorb-requires : tie.Need-absorb-requires
+absorb-requires c κs = search needs
+
+rest-requires : tie.Need-rest-requires
+rest-requires c κs = search needs
+
+returns-2 : tie.Need-returns-2
+unfolding pending
+returns-2 c =
+    let at-put = c .before .before .before .before .before in
+    let at-kept = at-put .before .before .before in
+    let s = state at-kept in
+    let bytes = added at-kept in
+    let front = take (s .total % 64) (s .block) in
+    let filler = take (room at-kept) bytes in
+    let filler-long = length-take-le (room at-kept) bytes (at-put .before .before .if1 .left) in
+    let none : 64 - (s .total % 64 + length filler) ≡ 0 = omega (arith, filler-long) in
+    let first : at-put .put2 .result ≡ front ++ filler =
+    pasted front 0 filler (s .total % 64) 64 (long at-kept) (omega (arith, filler-long)) (at-kept .kept .ensures) (at-put .put2 .ensures)
+    ∙ ap (λ k. (front ++ filler) ++ replicate k 0) none ∙ append-nil (front ++ filler) in
+    cc (part-to-end bytes (room at-kept), past-block s bytes (long at-kept) (at-put .put2 .result) (omega arith) first)
+
+pub extended-spec : {M : Type 1} → statement M
+extended-spec =
+    tie.close
+    (tie.spec
+    cast-total
+    sub-room
+    kept-requires
+    add-n
+    cast-n
+    put-requires
+    returns
+    slice-aggregate-put
+    put-requires-2
+    sub-more
+    part-more-start
+    part-more-end
+    slice-aggregate-compress
+    compress-requires
+    absorb-requires
+    rest-requires
+    returns-2)

@@ -1,0 +1,62 @@
+-- The constants keep the rule of FIPS 180-4: each word is from the whole part of a root of its prime.
+-- Assumes nothing.
+use mathlib.Core.Path.{_≡_, refl}
+use mathlib.Core.Bool.{Bool, true, false, cond}
+use Prim.Native.Nat.{ℕ, zero, suc, _+_, _*_, _^_, _≤_, _<_}
+use native.Mathlib.Nat.{pow-suc}
+use native.Mathlib.Omega.{arith}
+use borrow.Author.Tests.{leb-true, leb-false}
+use lib.Dec.{leb}
+use lib.ListN.{length, getD, take, List·getD-map}
+use lib.Seq.{getD-take}
+use Rattle.sha256_block.specs.Constants.{hasDivisor, isPrime, primesFrom, primes, IsWholeRoot, IsRootWord, rootFrom, wholeRoot, rootWord, roundWords, initialWords}
+use Rattle.words.proofs.Lists.{Below, below-by-test}
+
+-- the search keeps r^e ≤ n < (r + 2^b)^e while b falls
+root-from : (e n b r : ℕ) → r ^ e ≤ n → n < (r + 2 ^ b) ^ e → IsWholeRoot e n (rootFrom e n b r)
+unfolding rootFrom
+root-from e n zero r low high = record { least = low; most = high }
+root-from e n (suc b) r low high =
+    step (leb ((r + 2 ^ b) ^ e) n) refl
+    (λ below. root-from e n b (r + 2 ^ b) below (rw double high))
+    (λ above. root-from e n b r low above)
+  where
+    double : r + 2 ^ b + 2 ^ b ≡ r + 2 ^ suc b
+    double = rw pow-suc (omega arith)
+
+    step : (t : Bool) → leb ((r + 2 ^ b) ^ e) n ≡ t
+        → ((r + 2 ^ b) ^ e ≤ n → IsWholeRoot e n (rootFrom e n b (r + 2 ^ b)))
+        → (n < (r + 2 ^ b) ^ e → IsWholeRoot e n (rootFrom e n b r))
+        → IsWholeRoot e n (rootFrom e n b (cond t (r + 2 ^ b) r))
+    step true q up stay = up (leb-true ((r + 2 ^ b) ^ e) n q)
+    step false q up stay = stay (leb-false ((r + 2 ^ b) ^ e) n q)
+
+-- the definition finds the word
+root-word : (e p : ℕ) → 0 ^ e ≤ p * 2 ^ (32 * e) → p * 2 ^ (32 * e) < (2 ^ 35) ^ e → IsRootWord e p (rootWord e p)
+unfolding rootWord wholeRoot
+root-word e p low high = record { root = wholeRoot e (p * 2 ^ (32 * e)); whole = root-from e (p * 2 ^ (32 * e)) 35 0 low high; word = refl }
+
+-- 4.2.2: sixty-four primes, each below 512
+pub sixty-four : length primes ≡ 64
+unfolding primes primesFrom isPrime hasDivisor
+sixty-four = refl
+
+small : Below 512 primes
+unfolding primes primesFrom isPrime hasDivisor
+small = below-by-test 512 primes tt
+
+small-eight : Below 64 (take 8 primes)
+unfolding primes primesFrom isPrime hasDivisor
+small-eight = below-by-test 64 (take 8 primes) tt
+
+-- 4.2.2: each round word is from the cube root of its prime
+pub round-word-rule : (k : ℕ) → IsRootWord 3 (getD primes k 0) (getD roundWords k 0)
+unfolding roundWords rootWord wholeRoot rootFrom
+round-word-rule k = rw (List·getD-map (rootWord 3) primes k 0) (root-word 3 (getD primes k 0) (omega arith) (omega (arith, small k)))
+
+-- 5.3.3: each of the eight initial words is from the square root of its prime
+pub initial-word-rule : (k : ℕ) → k < 8 → IsRootWord 2 (getD primes k 0) (getD initialWords k 0)
+unfolding initialWords rootWord wholeRoot rootFrom
+initial-word-rule k h =
+    let same = getD-take 8 primes k 0 h in
+    rw (List·getD-map (rootWord 2) (take 8 primes) k 0, same) (root-word 2 (getD primes k 0) (omega arith) (omega (arith, rw same at (small-eight k))))

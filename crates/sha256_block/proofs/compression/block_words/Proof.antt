@@ -1,0 +1,72 @@
+-- `sha256_block::compression::block_words` meets its contract. The invariant: after t turns the first t words are there, and the others are zero.
+use mathlib.Core.List.{List}
+use Prim.Native.Nat.{ℕ, suc, _*_, _<_}
+use lib.ListN.{set, take, drop}
+use Rattle.words.specs.Bytes.{fromBytes}
+use Rattle.words.proofs.Fill.{store-next}
+use Rattle.sha256_block.proofs.Schedule.{length-words, words-next}
+use mathlib.Core.Path.{_≡_, refl}
+use mathlib.Core.List.{_++_}
+use Prim.Native.Nat.{_≤_, _-_}
+use native.Mathlib.Numerals.{add-one}
+use native.Mathlib.Omega.{arith}
+use lib.ListN.{replicate}
+use Rattle.sha256_block.specs.Compression.{wordsOf}
+use borrow.Author.Needs.{needs}
+use Rattle.sha256_block.proofs.compression.block_words.Statement.{statement}
+use Rattle.sha256_block.proofs.compression.block_words.Tie as tie
+
+abbrev Inv-loop : tie.InvT-loop
+Inv-loop block ws₀ t₀ ws t = (t ≤ 16) × (ws ≡ wordsOf t block ++ replicate (64 - t) 0)
+
+abbrev μ-loop : tie.MeasureT-loop
+μ-loop block ws₀ t₀ ws t = 16 - t
+
+-- a turn's store
+turn : (bytes : List ℕ) (t : ℕ) (ws : List ℕ) (w : ℕ) → t < 16 → ws ≡ wordsOf t bytes ++ replicate (64 - t) 0 → w ≡ fromBytes (take 4 (drop (4 * t) bytes))
+    → set ws t w ≡ wordsOf (suc t) bytes ++ replicate (64 - suc t) 0
+turn bytes t ws w h e f = rw (e, f, words-next) (store-next (wordsOf t bytes) 0 (fromBytes (take 4 (drop (4 * t) bytes))) t 64 (length-words t bytes) (omega arith))
+
+loop-holds : tie.Need-loop-holds Inv-loop μ-loop
+unfolding wordsOf
+loop-holds c = (omega arith, refl)
+
+mul-word-at : tie.Need-mul-word-at Inv-loop μ-loop
+mul-word-at c = search needs
+
+word-at-requires : tie.Need-word-at-requires Inv-loop μ-loop
+word-at-requires c κs = search needs
+
+mul-ws : tie.Need-mul-ws Inv-loop μ-loop
+mul-ws c = search needs
+
+array-write-ws : tie.Need-array-write-ws Inv-loop μ-loop
+array-write-ws c = search needs
+
+add-t : tie.Need-add-t Inv-loop μ-loop
+add-t c = search needs
+
+loop-less : tie.Need-loop-less Inv-loop μ-loop
+loop-less c = search needs
+
+loop-again : tie.Need-loop-again Inv-loop μ-loop
+loop-again c = (omega arith, rw add-one (turn _ _ _ _ (omega arith) (c .before .before .loop .inv .1) (c .word-at .ensures)))
+
+returns : tie.Need-returns Inv-loop μ-loop
+returns c = let all : c .before .loop .t ≡ 16 = omega arith in rw all at (c .before .loop .inv .1)
+
+pub block-words-spec : {M : Type 1} → statement M
+block-words-spec =
+    tie.close
+    (tie.spec
+    Inv-loop
+    μ-loop
+    loop-holds
+    mul-word-at
+    word-at-requires
+    mul-ws
+    array-write-ws
+    add-t
+    loop-less
+    loop-again
+    returns)

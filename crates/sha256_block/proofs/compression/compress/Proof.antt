@@ -1,0 +1,21 @@
+-- `sha256_block::compression::compress` meets its contract: each call gives the term of the definition.
+use Rattle.sha256_block.specs.Compression.{compress}
+use borrow.Author.Needs.{needs}
+use Rattle.sha256_block.proofs.compression.compress.Statement.{statement}
+use Rattle.sha256_block.proofs.compression.compress.Tie as tie
+
+schedule-requires : tie.Need-schedule-requires
+schedule-requires c κs = search needs
+
+rounds-requires : tie.Need-rounds-requires
+rounds-requires c κs = search needs
+
+add-words-requires : tie.Need-add-words-requires
+add-words-requires c κs = search needs
+
+returns : tie.Need-returns
+unfolding compress
+returns c = cc
+
+pub compress-spec : {M : Type 1} → statement M
+compress-spec = tie.close (tie.spec schedule-requires rounds-requires add-words-requires returns)

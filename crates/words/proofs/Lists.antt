@@ -1,0 +1,57 @@
+-- Lists: a part written out as its elements, and elements that are all below a bound.
+use mathlib.Core.Path.{_≡_, refl, _∙_}
+use mathlib.Core.Bool.{Bool, true, false, _&&_}
+use mathlib.Core.List.{List, [], _∷_}
+use Prim.Native.Nat.{ℕ, zero, suc, _+_, _^_, _≤_, _<_}
+use native.Mathlib.Nat.{add-zero}
+use native.Mathlib.Omega.{arith}
+use lib.Dec.{T, ltb, ltb→lt}
+use lib.ListN.{length, getD, take, drop}
+use lib.Seq.{drop-cons}
+use mir.Syntax.{Width}
+use mir.Val.{Fits, bits}
+
+pub and-left : (a b : Bool) → T (a && b) → T a
+and-left true b t = tt
+and-left false b t = t
+
+pub and-right : (a b : Bool) → T (a && b) → T b
+and-right true b t = t
+and-right false b t = absurd t
+
+-- n values of f, from f k on
+abbrev pub listed : {A : Type 0} → (ℕ → A) → ℕ → ℕ → List A
+listed f k zero = []
+listed f k (suc n) = f k ∷ listed f (k + 1) n
+
+module _ {A : Type 0} (d : A) (l : List A) (at : ℕ) where
+  part-from : (k n : ℕ) → at + k + n ≤ length l → take n (drop (at + k) l) ≡ listed (λ j. getD l (at + j) d) k n
+  part-from k zero h = refl
+  part-from k (suc n) h =
+      let next : at + (k + 1) ≡ suc (at + k) = omega arith in
+      rw (drop-cons l (at + k) d (omega arith), ← next, part-from (k + 1) n (omega arith))
+
+  -- the n elements from index `at` on
+  pub part : (n : ℕ) → at + n ≤ length l → take n (drop at l) ≡ listed (λ j. getD l (at + j) d) 0 n
+  part n h = rw add-zero at (part-from 0 n (omega arith))
+
+  pub part-4 : at + 4 ≤ length l → take 4 (drop at l) ≡ getD l at d ∷ getD l (at + 1) d ∷ getD l (at + 2) d ∷ getD l (at + 3) d ∷ []
+  part-4 h = part 4 h ∙ rw add-zero
+
+-- every element is below m
+abbrev pub Below : ℕ → List ℕ → Type 0
+Below m l = (i : ℕ) → getD l i 0 < m
+
+-- the same as a test, for a list that is written out
+abbrev pub allBelow : ℕ → List ℕ → Bool
+allBelow m [] = ltb 0 m
+allBelow m (x ∷ xs) = ltb x m && allBelow m xs
+
+pub below-by-test : (m : ℕ) (l : List ℕ) → T (allBelow m l) → Below m l
+below-by-test m [] t i = ltb→lt 0 m t
+below-by-test m (x ∷ xs) t zero = ltb→lt x m (and-left (ltb x m) (allBelow m xs) t)
+below-by-test m (x ∷ xs) t (suc i) = below-by-test m xs (and-right (ltb x m) (allBelow m xs) t) i
+
+-- the elements of an array or a slice, each of which fits its type
+pub below-fits : (w : Width) (l : List ℕ) → ((i : ℕ) → Fits w (getD l i 0)) → Below (2 ^ bits w) l
+below-fits w l h i = h i .fits

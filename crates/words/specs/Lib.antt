@@ -1,0 +1,3 @@
+-- What numbers written in bytes and in words mean.
+pub mod Bytes
+pub mod Number

@@ -1,0 +1,35 @@
+// 32-bit words in bytes, most significant byte first.
+ghost use mathlib.Core.Path.{_≡_};
+ghost use mathlib.Core.List.{[], _∷_};
+ghost use Prim.Native.Nat.{_+_, _≤_};
+ghost use lib.ListN.{length, take, drop};
+ghost use Rattle.words.specs.Bytes.{fromBytes, toBytes};
+
+// The word that four bytes are.
+fn word_of(a: u8, b: u8, c: u8, d: u8) -> u32
+    ensures { λ r. ⌜ r ≡ fromBytes (a ∷ b ∷ c ∷ d ∷ []) ⌝ }
+{
+    let high = a as u32 * 256 + b as u32;
+    let low = c as u32 * 256 + d as u32;
+    high * 65536 + low
+}
+
+// The word that stands in four bytes from index `at` on.
+pub fn word_at(bytes: &[u8], at: usize) -> u32
+    requires { ⌜ at + 4 ≤ length (now bytes) ⌝ }
+    ensures { λ r. ⌜ r ≡ fromBytes (take 4 (drop at (now (bytes .entry)))) ⌝ }
+{
+    word_of(bytes[at], bytes[at + 1], bytes[at + 2], bytes[at + 3])
+}
+
+// The four bytes of a word.
+pub fn word_bytes(x: u32) -> [u8; 4]
+    ensures { λ r. ⌜ r ≡ toBytes 4 x ⌝ }
+{
+    [
+        (x / 16777216 % 256) as u8,
+        (x / 65536 % 256) as u8,
+        (x / 256 % 256) as u8,
+        (x % 256) as u8,
+    ]
+}
