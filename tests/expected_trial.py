@@ -5,12 +5,15 @@
 
 Digests of messages come from hashlib. hashlib cannot start from a given state, so the tests of
 states that a caller hands in use the SHA-256 below, written from FIPS 180-4, which is first held to
-hashlib. Nothing here is taken from the program or from the library under test.
+hashlib. Counts, rows and numbers come from zarosnik.py, which is first held to lists of all rows.
+Nothing here is taken from the program or from the library under test.
 """
 
 import hashlib
 import math
 import sys
+
+import zarosnik
 
 MASK = 0xFFFFFFFF
 MOST = 65535
@@ -155,7 +158,7 @@ def added_lines(label, state, data):
     return [state_line(front, after), digest_line(front, after)]
 
 
-def lines():
+def hash_lines():
     message = bytes((i * 7 + i // 256 + 3) % 256 for i in range(MOST + 1))
     hold_to_hashlib(message)
     for text in EXAMPLES:
@@ -177,6 +180,170 @@ def lines():
     yield from added_lines(f"{label}, 60 bytes added", stale, message[:60])
     full = Hash(STALE_WORDS, b"\xa5" * 64, MOST)
     yield from added_lines("stale block at total 65535, 1 byte added", full, message[:1])
+
+
+# Count, Spread and Gather. A shape is (l, w, s).
+
+SHAPES = [
+    (1, 2, 0),
+    (1, 16, 15),
+    (3, 3, 3),
+    (3, 3, 6),
+    (4, 2, 2),
+    (17, 5, 30),
+    (40, 2, 20),
+    (40, 2, 40),
+    (40, 16, 0),
+    (40, 16, 300),
+    (40, 16, 600),
+    (34, 16, 255),
+]
+
+# The shape, and how many words are lent.
+COUNT_REFUSALS = [
+    ((0, 3, 0), 80),
+    ((41, 3, 3), 840),
+    ((3, 1, 0), 20),
+    ((3, 0, 0), 20),
+    ((3, 17, 3), 80),
+    ((3, 3, 7), 160),
+    ((40, 16, 601), 123208),
+    ((3, 3, 3), 80),
+    ((3, 3, 3), 79),
+    ((3, 3, 3), 0),
+    ((34, 16, 255), 44799),
+    ((40, 16, 600), 123204),
+    ((41, 17, 700), 2),
+    ((40, 17, 700), 2),
+    ((40, 16, 700), 2),
+    ((MASK, MASK, MASK), 2),
+    ((40, MASK, MASK), 2),
+    ((40, 16, MASK), 2),
+]
+
+# The shape, the number, and how many words and bytes are lent.
+SPREAD_REFUSALS = [
+    ((41, 3, 3), 0, 840, 41),
+    ((3, 17, 3), 0, 80, 3),
+    ((3, 3, 7), 0, 160, 3),
+    ((3, 3, 3), 0, 79, 3),
+    ((3, 3, 3), 0, 80, 2),
+    ((3, 3, 3), 6, 80, 3),
+    ((3, 3, 3), 7, 80, 3),
+    ((3, 3, 3), 1 << 32, 80, 3),
+    ((3, 3, 3), 1 << 128, 80, 3),
+    ((3, 3, 3), (1 << 160) - 1, 80, 3),
+    ((41, 17, 700), 7, 2, 2),
+    ((3, 17, 700), 7, 2, 2),
+    ((3, 3, 7), 7, 2, 2),
+    ((3, 3, 3), 7, 79, 2),
+    ((3, 3, 3), 7, 80, 2),
+    ((3, 3, 3), 7, 80, 0),
+]
+
+# The shape, the row, and how many words are lent.
+GATHER_REFUSALS = [
+    ((41, 16, 0), [0] * 41, 210),
+    ((3, 17, 3), [1, 1, 1], 80),
+    ((3, 3, 7), [2, 2, 2], 160),
+    ((3, 3, 3), [1, 1, 1], 79),
+    ((3, 3, 3), [1, 1, 1], 80),
+    ((3, 3, 3), [], 80),
+    ((3, 3, 3), [1, 2], 80),
+    ((3, 3, 3), [1, 1, 1, 0], 80),
+    ((3, 3, 3), [3, 0, 0], 80),
+    ((3, 3, 3), [0, 0, 3], 80),
+    ((3, 3, 3), [1, 2, 1], 80),
+    ((3, 3, 3), [0, 2, 0], 80),
+    ((41, 17, 700), [3, 9], 2),
+    ((3, 17, 700), [3, 9], 2),
+    ((3, 3, 7), [3, 9], 2),
+    ((3, 3, 3), [3, 9], 79),
+    ((3, 3, 3), [3, 9], 80),
+    ((3, 3, 3), [0, 0, 255], 80),
+    # 600 and 88 are the same modulo 256.
+    ((40, 16, 88), [15] * 40, 18245),
+]
+
+
+def stale_words(count):
+    return [0xA5000000 + i for i in range(count)]
+
+
+def stale_bytes(count):
+    return bytes(160 + i % 64 for i in range(count))
+
+
+def work_digest(words):
+    """SHA-256 over pieces of 16,000 words, most significant byte first, each behind the digest of
+    the piece before it, and the first behind 32 zeros."""
+    digest = bytes(32)
+    for at in range(0, len(words), 16000):
+        piece = b"".join(word.to_bytes(4, "big") for word in words[at : at + 16000])
+        digest = hashlib.sha256(digest + piece).digest()
+    return digest
+
+
+def call_line(name, shape, words, given, outcome, answer, work):
+    l, w, s = shape
+    call = f"{name} l {l}, w {w}, s {s}, {words} words{given}"
+    return f"{call}: outcome {outcome}, {answer}, work {upper_hex(work_digest(work))}"
+
+
+def count_line(shape, words):
+    outcome, count, work = zarosnik.count(*shape, stale_words(words))
+    return call_line("count", shape, words, "", outcome, f"count {count:040X}", work)
+
+
+def spread_line(shape, number, words, size):
+    outcome, row, work = zarosnik.spread(*shape, number, stale_words(words), stale_bytes(size))
+    given = f", {size} bytes, number {number:040X}"
+    return call_line("spread", shape, words, given, outcome, f"row {upper_hex(row)}", work)
+
+
+def gather_line(shape, row, words):
+    outcome, number, work = zarosnik.gather(*shape, row, stale_words(words))
+    given = f", row {upper_hex(row)}"
+    return call_line("gather", shape, words, given, outcome, f"number {number:040X}", work)
+
+
+def some_numbers(count):
+    """Every number below a small count; else the first, the last, the middle one and two more."""
+    if count < 8:
+        return range(count)
+    parts = [0x80000000, 0x9E3779B9, 0x243F6A88]
+    return [0, count - 1] + [count * part >> 32 for part in parts]
+
+
+def shape_lines(shape):
+    """Three words and three bytes more than needed are lent. The count itself has no row."""
+    l, w, s = shape
+    count = zarosnik.ways(w, l, s)
+    words = zarosnik.table_length(l, s) + 3
+    yield count_line(shape, words)
+    for number in some_numbers(count):
+        yield spread_line(shape, number, words, l + 3)
+        yield gather_line(shape, zarosnik.row_of(l, w, s, number), words)
+    yield spread_line(shape, count, words, l + 3)
+
+
+def code_lines():
+    wrong = zarosnik.disagreement()
+    if wrong:
+        sys.exit(f"zarosnik.py is wrong at l, w, s = {wrong}")
+    for shape in SHAPES:
+        yield from shape_lines(shape)
+    for shape, words in COUNT_REFUSALS:
+        yield count_line(shape, words)
+    for shape, number, words, size in SPREAD_REFUSALS:
+        yield spread_line(shape, number, words, size)
+    for shape, row, words in GATHER_REFUSALS:
+        yield gather_line(shape, bytes(row), words)
+
+
+def lines():
+    yield from hash_lines()
+    yield from code_lines()
 
 
 def check(path, expected):

@@ -1,4 +1,6 @@
 -- The numbers of document 01, "Operations and their refusals".
+use mathlib.Core.Bool.{Bool, cond}
+use mathlib.Core.List.{List, [], _∷_}
 use Prim.Native.Nat.{ℕ}
 use Rattle.refusal.specs.declared.Refusal.{Refusal}
 use Rattle.refusal.specs.declared.Refusal.the-variants.{ChainCount, Width, Sum, Height, TableTooShort, OutputTooShort, NumberTooLarge, CodewordLength, DigitTooLarge, CodewordSum, LeafOutOfRange, KeySpent, SignatureLength, LeafPassed, RootDiffers, MessageLength, SheetLine, HashTooLong}
@@ -44,3 +46,8 @@ code HashTooLong = 18
 abbrev pub outcomeCode : Outcome → ℕ
 outcomeCode Granted = 0
 outcomeCode (Refused r) = code r
+
+-- "refused exactly for the causes …, the first in its order giving the number": of causes in order, each a test with its number, the number of the first that holds, or 0
+abbrev pub firstCause : List (Bool × ℕ) → ℕ
+firstCause [] = 0
+firstCause (cause ∷ more) = cond (cause .0) (cause .1) (firstCause more)

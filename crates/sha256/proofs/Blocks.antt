@@ -1,5 +1,4 @@
 -- Whole blocks and what is left behind them.
--- Assumes nothing.
 use mathlib.Core.Path.{_≡_, _∙_}
 use mathlib.Core.List.{List, _++_}
 use Prim.Native.Nat.{ℕ, suc, _+_, _-_, _*_, _/_, _%_, _<_, _≤_}
@@ -7,9 +6,9 @@ use native.Mathlib.Omega.{arith}
 use lib.ListN.{length, take, drop, replicate, length-append, length-drop}
 use lib.Seq.{take-at, drop-at, drop-append-add, take-length}
 use Rattle.sha256_block.specs.Compression.{compress}
+use Rattle.sha256_block.specs.declared.compression.HashWords.{HashWords}
 use Rattle.sha256.specs.Digest.{compressBlocks, compressAll}
 use Rattle.sha256.specs.Running.{rest}
-use Rattle.sha256_block.specs.declared.compression.HashWords.{HashWords}
 
 -- bytes short of a block change nothing
 pub all-short : (v : HashWords) (bytes : List ℕ) → length bytes < 64 → compressAll v bytes ≡ v

@@ -1,5 +1,4 @@
 -- What a granted add makes of a state, by the two ways of the code.
--- Assumes nothing.
 use mathlib.Core.Path.{_≡_, _∙_, ap}
 use mathlib.Core.List.{List, _++_, append-assoc}
 use Prim.Native.Nat.{ℕ, _+_, _-_, _%_, _<_, _≤_}

@@ -1,5 +1,4 @@
 -- The law of the running hash: start, any list of granted adds and finish give the digest of the bytes joined.
--- Assumes nothing.
 use mathlib.Core.Path.{_≡_, refl, _∙_, ap, sym}
 use mathlib.Core.Bool.{Bool, true, false, cond}
 use mathlib.Core.List.{List, [], _∷_, _++_, append-assoc, append-nil}
@@ -10,9 +9,9 @@ use lib.Dec.{ltb}
 use lib.ListN.{length, take, drop, replicate, length-append, length-drop, take-append-drop}
 use lib.Seq.{length-take-le, take-at}
 use Rattle.sha256_block.specs.Compression.{compress, initial}
+use Rattle.sha256_block.specs.declared.compression.HashWords.{HashWords}
 use Rattle.sha256.specs.Digest.{compressAll, padding, finalWords, wordBytes, digest}
 use Rattle.sha256.specs.Running.{pending, rest, started, extended, addNumber, addState, finished, hashed, addAll, AllGranted, joined}
-use Rattle.sha256_block.specs.declared.compression.HashWords.{HashWords}
 use Rattle.sha256.specs.declared.running.Hash.{Hash}
 use Rattle.sha256.proofs.Blocks.{all-short, all-append, rest-append}
 

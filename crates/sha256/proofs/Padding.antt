@@ -1,5 +1,4 @@
 -- The pending bytes with the padding are one block or two.
--- Assumes nothing.
 use mathlib.Core.Path.{_≡_, refl, _∙_, ap, sym}
 use mathlib.Core.List.{List, [], _∷_, _++_, append-assoc}
 use Prim.Native.Nat.{ℕ, _+_, _-_, _*_, _%_, _<_, _≤_}
@@ -7,11 +6,11 @@ use native.Mathlib.Omega.{arith}
 use lib.ListN.{length, take, replicate, length-append, length-replicate, replicate-append-replicate}
 use Rattle.words.specs.Bytes.{toBytes}
 use Rattle.words.proofs.ByteLaws.{length-toBytes}
-use Rattle.sha256_block.specs.Compression.{compress}
-use Rattle.sha256.specs.Digest.{padding, compressAll}
-use Rattle.sha256_block.specs.declared.compression.HashWords.{HashWords}
-use Rattle.sha256.proofs.Blocks.{all-append, all-one}
 use Rattle.words.proofs.Fill.{take-fill}
+use Rattle.sha256_block.specs.Compression.{compress}
+use Rattle.sha256_block.specs.declared.compression.HashWords.{HashWords}
+use Rattle.sha256.specs.Digest.{padding, compressAll}
+use Rattle.sha256.proofs.Blocks.{all-append, all-one}
 
 -- the pending bytes and the mark, in a block of zeros
 abbrev pub marked : List ℕ → ℕ → List ℕ

@@ -1,14 +1,14 @@
 -- Document 01, Hashing and "Hash, as start, add and finish": the running hash and its operations, for any state.
-use mathlib.Core.Bool.{cond}
 use mathlib.Core.Path.{_≡_}
+use mathlib.Core.Bool.{cond}
 use mathlib.Core.List.{List, [], _∷_, _++_}
 use Prim.Native.Nat.{ℕ, _+_, _-_, _*_, _/_, _%_}
 use lib.Dec.{ltb}
 use lib.ListN.{length, take, drop, replicate}
 use Rattle.refusal.specs.Code.{outcomeCode}
 use Rattle.sha256_block.specs.Compression.{initial}
-use Rattle.sha256.specs.Digest.{padding, compressAll}
 use Rattle.sha256_block.specs.declared.compression.HashWords.{HashWords}
+use Rattle.sha256.specs.Digest.{padding, compressAll}
 use Rattle.sha256.specs.declared.running.Hash.{Hash}
 use Rattle.sha256.specs.declared.running.Added.{Added}
 

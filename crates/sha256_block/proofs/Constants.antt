@@ -1,5 +1,4 @@
 -- The constants keep the rule of FIPS 180-4: each word is from the whole part of a root of its prime.
--- Assumes nothing.
 use mathlib.Core.Path.{_≡_, refl}
 use mathlib.Core.Bool.{Bool, true, false, cond}
 use Prim.Native.Nat.{ℕ, zero, suc, _+_, _*_, _^_, _≤_, _<_}
@@ -9,8 +8,8 @@ use borrow.Author.Tests.{leb-true, leb-false}
 use lib.Dec.{leb}
 use lib.ListN.{length, getD, take, List·getD-map}
 use lib.Seq.{getD-take}
-use Rattle.sha256_block.specs.Constants.{hasDivisor, isPrime, primesFrom, primes, IsWholeRoot, IsRootWord, rootFrom, wholeRoot, rootWord, roundWords, initialWords}
 use Rattle.words.proofs.Lists.{Below, below-by-test}
+use Rattle.sha256_block.specs.Constants.{hasDivisor, isPrime, primesFrom, primes, IsWholeRoot, IsRootWord, rootFrom, wholeRoot, rootWord, roundWords, initialWords}
 
 -- the search keeps r^e ≤ n < (r + 2^b)^e while b falls
 root-from : (e n b r : ℕ) → r ^ e ≤ n → n < (r + 2 ^ b) ^ e → IsWholeRoot e n (rootFrom e n b r)

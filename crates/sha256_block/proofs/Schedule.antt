@@ -1,5 +1,4 @@
 -- The message schedule, word by word.
--- Assumes nothing.
 use mathlib.Core.Path.{_≡_, refl, _∙_, ap, sym}
 use mathlib.Core.List.{List, [], _∷_, _++_}
 use Prim.Native.Nat.{ℕ, zero, suc, _+_, _-_, _*_, _<_, _≤_}
@@ -8,8 +7,8 @@ use native.Mathlib.Omega.{arith}
 use lib.ListN.{length, take, drop, set, replicate, length-append, List·getD-append}
 use lib.Seq.{drop-drop}
 use Rattle.words.specs.Bytes.{fromBytes}
-use Rattle.sha256_block.specs.Compression.{wordsOf, nextWord, extend}
 use Rattle.words.proofs.Fill.{store-next}
+use Rattle.sha256_block.specs.Compression.{wordsOf, nextWord, extend}
 
 pub length-words : (n : ℕ) (bytes : List ℕ) → length (wordsOf n bytes) ≡ n
 unfolding wordsOf

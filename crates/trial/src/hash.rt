@@ -5,7 +5,6 @@ ghost use lib.ListN.{length};
 use super::line::Line;
 use super::message::first;
 use super::message::pattern;
-use refusal::Outcome;
 use sha256::Added;
 use sha256::Hash;
 use sha256_block::HashWords;
@@ -21,12 +20,6 @@ pub fn run() {
     hash_prefixes(&message, true);
     refusals(&message);
     stale_states(&message);
-}
-
-// The line goes on with what follows the outcome.
-fn with_outcome(line: Line, outcome: Outcome) -> Line {
-    let number = refusal::outcome_number(outcome);
-    line.text(b": outcome ").decimal(number as usize).text(b",")
 }
 
 fn write_digest(line: Line, hash: Hash) {
@@ -48,14 +41,14 @@ fn write_state(line: Line, hash: Hash) {
 fn write_added(line: Line, added: Added) {
     let outcome = added.outcome;
     let hash = added.hash;
-    write_digest(with_outcome(line, outcome), hash);
+    write_digest(line.outcome(outcome), hash);
 }
 
 // The same, with the state on a line of its own.
 fn write_added_state(line: Line, added: Added) {
     let outcome = added.outcome;
     let hash = added.hash;
-    let front = with_outcome(line, outcome);
+    let front = line.outcome(outcome);
     write_state(front, hash);
     write_digest(front, hash);
 }
@@ -111,7 +104,7 @@ fn hash_prefixes(message: &[u8], cut: bool)
     }
 }
 
-fn least(a: usize, b: usize) -> usize
+pub fn least(a: usize, b: usize) -> usize
     ensures { λ r. ⌜ r ≡ min a b ⌝ }
 {
     if a < b { a } else { b }

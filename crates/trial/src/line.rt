@@ -3,10 +3,11 @@ ghost use mathlib.Core.Path.{_≡_};
 ghost use Prim.Native.Nat.{_+_, _<_, _≤_};
 ghost use lib.ListN.{set};
 use super::message::first;
+use refusal::Outcome;
 
 // The first `length` bytes are the text. What does not fit is left out; no line of the tests is so long.
 pub struct Line {
-    pub bytes: [u8; 256],
+    pub bytes: [u8; 320],
     pub length: usize,
 }
 
@@ -23,16 +24,16 @@ impl Line {
         ensures { λ r. ⌜ r .length ≡ 0 ⌝ }
     {
         Line {
-            bytes: [0; 256],
+            bytes: [0; 320],
             length: 0,
         }
     }
 
     fn byte(self, b: u8) -> Line
-        ensures { λ r. ⌜ (self .length < 256 → (r .length ≡ self .length + 1) × (r .bytes ≡ set (self .bytes) (self .length) b)) ⌝ }
+        ensures { λ r. ⌜ (self .length < 320 → (r .length ≡ self .length + 1) × (r .bytes ≡ set (self .bytes) (self .length) b)) ⌝ }
     {
         let at = self.length;
-        if 256 <= at {
+        if 320 <= at {
             return self;
         }
         let mut bytes = self.bytes;
@@ -70,10 +71,26 @@ impl Line {
         line
     }
 
+    fn word(self, x: u32) -> Line {
+        let bytes = words::bytes::word_bytes(x);
+        self.hex(&bytes)
+    }
+
     pub fn decimal(self, n: usize) -> Line {
         let mut digits = [0u8; 20];
         let k = io::decimal(n as u64, &mut digits);
         self.text(&digits[..k])
+    }
+
+    // A number of five words, most significant byte first.
+    pub fn number(self, n: [u32; 5]) -> Line {
+        self.word(n[4]).word(n[3]).word(n[2]).word(n[1]).word(n[0])
+    }
+
+    // The line goes on with what follows the outcome.
+    pub fn outcome(self, outcome: Outcome) -> Line {
+        let number = refusal::outcome_number(outcome);
+        self.text(b": outcome ").decimal(number as usize).text(b",")
     }
 
     // To standard output, with a line end.

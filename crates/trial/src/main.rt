@@ -1,8 +1,12 @@
 // Runs the library's public functions on fixed inputs, and writes a line for each test.
+mod cases;
+mod codes;
 mod hash;
 mod line;
 mod message;
+mod work;
 
 fn main() {
     hash::run();
+    codes::run();
 }

@@ -1,8 +1,8 @@
 -- Lists that are filled from the front, and runs of stores.
--- Assumes nothing.
 use mathlib.Core.Path.{_≡_, _∙_, ap, sym}
 use mathlib.Core.List.{List, [], _∷_, _++_, append-assoc}
 use Prim.Native.Nat.{ℕ, suc, _+_, _-_, _<_, _≤_}
+use native.Mathlib.Numerals.{add-one, add-two, add-three, add-four}
 use native.Mathlib.Omega.{arith}
 use lib.ListN.{length, take, drop, set, replicate, length-append, length-drop, length-replicate, replicate-append-replicate}
 use lib.Seq.{take-all, set-at, append-snoc, take-at, take-length, drop-at, drop-append-add, sets-eq, paste}
@@ -47,11 +47,12 @@ module _ {A : Type 0} where
   pub part-to-end : (l : List A) (a : ℕ) → take (length l - a) (drop a l) ≡ drop a l
   part-to-end l a = take-all (length l - a) (drop a l) (omega (arith, length-drop a l))
 
-  -- four stores in a row
-  pub store-4 : (l : List A) (at : ℕ) (a b c d : A) → at + 4 ≤ length l
-      → set (set (set (set l at a) (at + 1) b) (at + 2) c) (at + 3) d ≡ take at l ++ (a ∷ b ∷ c ∷ d ∷ []) ++ drop (at + 4) l
-  store-4 l at a b c d h =
-      let e₁ : at + 1 ≡ suc at = omega arith in
-      let e₂ : at + 2 ≡ suc (suc at) = omega arith in
-      let e₃ : at + 3 ≡ suc (suc (suc at)) = omega arith in
-      rw (e₁, e₂, e₃) (sets-eq (a ∷ b ∷ c ∷ d ∷ []) l at h)
+  -- four stores in a row, and five
+  module _ (l : List A) (at : ℕ) (a b c d : A) where
+    pub store-4 : at + 4 ≤ length l
+        → set (set (set (set l at a) (at + 1) b) (at + 2) c) (at + 3) d ≡ take at l ++ (a ∷ b ∷ c ∷ d ∷ []) ++ drop (at + 4) l
+    store-4 h = rw (add-one, add-two, add-three) (sets-eq (a ∷ b ∷ c ∷ d ∷ []) l at h)
+
+    pub store-5 : (e : A) → at + 5 ≤ length l
+        → set (set (set (set (set l at a) (at + 1) b) (at + 2) c) (at + 3) d) (at + 4) e ≡ take at l ++ (a ∷ b ∷ c ∷ d ∷ e ∷ []) ++ drop (at + 5) l
+    store-5 e h = rw (add-one, add-two, add-three, add-four) (sets-eq (a ∷ b ∷ c ∷ d ∷ e ∷ []) l at h)

@@ -38,6 +38,9 @@ module _ {A : Type 0} (d : A) (l : List A) (at : ℕ) where
   pub part-4 : at + 4 ≤ length l → take 4 (drop at l) ≡ getD l at d ∷ getD l (at + 1) d ∷ getD l (at + 2) d ∷ getD l (at + 3) d ∷ []
   part-4 h = part 4 h ∙ rw add-zero
 
+  pub part-5 : at + 5 ≤ length l → take 5 (drop at l) ≡ getD l at d ∷ getD l (at + 1) d ∷ getD l (at + 2) d ∷ getD l (at + 3) d ∷ getD l (at + 4) d ∷ []
+  part-5 h = part 5 h ∙ rw add-zero
+
 -- every element is below m
 abbrev pub Below : ℕ → List ℕ → Type 0
 Below m l = (i : ℕ) → getD l i 0 < m

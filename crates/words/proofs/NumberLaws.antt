@@ -1,8 +1,8 @@
 -- Numbers in 32-bit words, least first: `toWords` and `value` are inverse, and what each gives is in range.
 use mathlib.Core.Path.{_≡_, refl, sym, ap, _∙_}
 use mathlib.Core.List.{List, [], _∷_}
-use Prim.Native.Nat.{ℕ, zero, suc, _+_, _*_, _/_, _%_, _^_, _<_}
-use native.Mathlib.Nat.{pow-suc, one-le-pow, mod-eq-of-lt, mod-one}
+use Prim.Native.Nat.{ℕ, zero, suc, _+_, _*_, _/_, _-_, _%_, _^_, _<_, _≤_}
+use native.Mathlib.Nat.{pow-suc, one-le-pow, mod-eq-of-lt, mod-one, lt-of-le-of-lt, add-mod-right}
 use native.Mathlib.Omega.{arith}
 use lib.Arith.{mod-mul}
 use lib.Dec.{lit<}
@@ -55,3 +55,22 @@ toWords-value (w ∷ ws) h =
     let low : w % 2 ^ 32 ≡ w = omega (arith, h 0) in
     let high : w / 2 ^ 32 + value ws ≡ value ws = omega (arith, h 0) in
     toWords-split (length ws) w (value ws) ∙ rw (low, high, toWords-value ws (λ i. h (suc i)))
+
+-- the words are those of the remainder
+toWords-mod : (k n : ℕ) → toWords k (n % (2 ^ 32) ^ k) ≡ toWords k n
+toWords-mod k n =
+    let words = toWords-value (toWords k n) (toWords-lt k n) in
+    rw (← value-toWords k n) (rw length-toWords at words)
+
+-- a sum of five-word numbers
+pub add-exact : (a b : ℕ) → a < 2 ^ 160 → b < 2 ^ 160 → toWords 5 (value (toWords 5 a) + value (toWords 5 b)) ≡ toWords 5 (a + b)
+add-exact a b ha hb = rw (value-toWords-5 a ha, value-toWords-5 b hb)
+
+moved : (a b m : ℕ) → b ≤ a → a + m - b ≡ a - b + m
+moved a b m h = omega arith
+
+-- a difference that is not below zero
+pub subtract-exact : (a b : ℕ) → a < 2 ^ 160 → b ≤ a → toWords 5 (value (toWords 5 a) + 2 ^ 160 - value (toWords 5 b)) ≡ toWords 5 (a - b)
+subtract-exact a b ha h =
+    rw (value-toWords-5 a ha, value-toWords-5 b (lt-of-le-of-lt h ha), moved a b (2 ^ 160) h)
+    (sym (toWords-mod 5 (a - b + 2 ^ 160)) ∙ ap (toWords 5) (add-mod-right (a - b) (2 ^ 160)) ∙ toWords-mod 5 (a - b))

@@ -1,7 +1,7 @@
 -- `refusal::number` meets its contract: in each arm the cause is known, and `code` of it is the number returned.
 use mathlib.Core.Path.{ap, sym}
-use Rattle.refusal.specs.Code.{code}
 use borrow.Author.Needs.{needs}
+use Rattle.refusal.specs.Code.{code}
 use Rattle.refusal.proofs.number.Statement.{statement}
 use Rattle.refusal.proofs.number.Tie as tie
 

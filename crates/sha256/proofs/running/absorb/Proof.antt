@@ -1,17 +1,16 @@
 -- `sha256::running::absorb` meets its contract. The invariant: what is still to be absorbed, absorbed into v, gives the whole.
-use mathlib.Core.List.{List}
-use Prim.Native.Nat.{ℕ}
-use Rattle.sha256_block.specs.Compression.{compress}
-use Rattle.sha256_block.specs.declared.compression.HashWords.{HashWords}
 use mathlib.Core.Path.{_≡_, refl, _∙_, sym}
-use Prim.Native.Nat.{_+_, _-_, _≤_}
+use mathlib.Core.List.{List}
+use Prim.Native.Nat.{ℕ, _+_, _-_, _≤_}
 use native.Mathlib.Omega.{arith}
+use borrow.Author.Needs.{needs}
 use denote.Ref.{now}
 use lib.ListN.{length, take, drop, length-drop}
 use lib.Seq.{drop-drop}
+use Rattle.sha256_block.specs.Compression.{compress}
+use Rattle.sha256_block.specs.declared.compression.HashWords.{HashWords}
 use Rattle.sha256.specs.Digest.{compressAll}
 use Rattle.sha256.proofs.Blocks.{all-short, all-step}
-use borrow.Author.Needs.{needs}
 use Rattle.sha256.proofs.running.absorb.Statement.{statement}
 use Rattle.sha256.proofs.running.absorb.Tie as tie
 

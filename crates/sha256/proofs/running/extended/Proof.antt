@@ -1,17 +1,16 @@
 -- `sha256::running::extended` meets its contract: the bytes stay within the block, or fill it and go on behind it.
-use mathlib.Core.Path.{sym, ap}
+use mathlib.Core.Path.{sym, ap, _≡_, _∙_}
 use mathlib.Core.List.{List, _++_, append-nil}
 use Prim.Native.Nat.{ℕ, _+_, _-_, _%_}
 use native.Mathlib.Omega.{arith}
+use borrow.Author.Needs.{needs}
 use denote.Ref.{now}
 use lib.ListN.{length, take, replicate}
 use lib.Seq.{length-take-le}
+use Rattle.words.proofs.Fill.{pasted, part-to-end}
 use Rattle.sha256.specs.Running.{pending}
 use Rattle.sha256.specs.declared.running.Hash.{Hash}
 use Rattle.sha256.proofs.Extension.{within-block, past-block}
-use Rattle.words.proofs.Fill.{pasted, part-to-end}
-use mathlib.Core.Path.{_≡_, _∙_}
-use borrow.Author.Needs.{needs}
 use Rattle.sha256.proofs.running.extended.Statement.{statement}
 use Rattle.sha256.proofs.running.extended.Tie as tie
 

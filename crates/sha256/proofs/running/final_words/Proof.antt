@@ -3,13 +3,13 @@ use mathlib.Core.Path.{_≡_, _∙_}
 use mathlib.Core.List.{[], _∷_}
 use Prim.Native.Nat.{_%_}
 use native.Mathlib.Omega.{arith}
+use borrow.Author.Needs.{needs}
 use lib.ListN.{length, take}
 use lib.Seq.{length-take-le}
+use Rattle.words.proofs.Fill.{pasted}
 use Rattle.sha256.specs.Running.{finished, pending}
 use Rattle.sha256.specs.declared.running.Hash.{Hash}
-use Rattle.words.proofs.Fill.{pasted}
 use Rattle.sha256.proofs.Padding.{marked, one-block, two-blocks}
-use borrow.Author.Needs.{needs}
 use Rattle.sha256.proofs.running.final_words.Statement.{statement}
 use Rattle.sha256.proofs.running.final_words.Tie as tie
 

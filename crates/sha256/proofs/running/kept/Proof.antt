@@ -4,10 +4,10 @@ use mathlib.Core.List.{List, _++_}
 use Prim.Native.Nat.{ℕ, _+_, _-_, _≤_, _<_}
 use native.Mathlib.Numerals.{add-one}
 use native.Mathlib.Omega.{arith}
+use borrow.Author.Needs.{needs}
 use lib.ListN.{length, getD, take, set, replicate}
 use lib.Seq.{length-take-le, take-suc}
 use Rattle.words.proofs.Fill.{store-next}
-use borrow.Author.Needs.{needs}
 use Rattle.sha256.proofs.running.kept.Statement.{statement}
 use Rattle.sha256.proofs.running.kept.Tie as tie
 

@@ -1,12 +1,12 @@
 -- `sha256::running::put` meets its contract. The invariant: the first i bytes are pasted from `at` on.
-use denote.Ref.{now}
 use mathlib.Core.Path.{_≡_}
 use Prim.Native.Nat.{_-_, _≤_}
 use native.Mathlib.Numerals.{add-one}
 use native.Mathlib.Omega.{arith}
+use borrow.Author.Needs.{needs}
+use denote.Ref.{now}
 use lib.ListN.{length}
 use lib.Seq.{paste, paste-zero, paste-suc}
-use borrow.Author.Needs.{needs}
 use Rattle.sha256.proofs.running.put.Statement.{statement}
 use Rattle.sha256.proofs.running.put.Tie as tie
 

@@ -1,10 +1,10 @@
 -- `sha256::running::put_word` meets its contract: four stores are a paste of four bytes.
 use mathlib.Core.Path.{_≡_}
-use lib.ListN.{length}
 use native.Mathlib.Omega.{arith}
+use borrow.Author.Needs.{needs}
+use lib.ListN.{length}
 use Rattle.words.specs.Bytes.{toBytes}
 use Rattle.words.proofs.Fill.{store-4}
-use borrow.Author.Needs.{needs}
 use Rattle.sha256.proofs.running.put_word.Statement.{statement}
 use Rattle.sha256.proofs.running.put_word.Tie as tie
 

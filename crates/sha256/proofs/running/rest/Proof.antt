@@ -3,11 +3,11 @@ use mathlib.Core.Path.{_≡_, refl, _∙_}
 use mathlib.Core.List.{[]}
 use Prim.Native.Nat.{_+_, _*_, _/_, _%_}
 use native.Mathlib.Omega.{arith}
+use borrow.Author.Needs.{needs}
 use denote.Ref.{now}
 use lib.ListN.{length, drop, length-drop}
-use Rattle.sha256.specs.Running.{rest}
 use Rattle.words.proofs.Fill.{paste-next, part-to-end}
-use borrow.Author.Needs.{needs}
+use Rattle.sha256.specs.Running.{rest}
 use Rattle.sha256.proofs.running.rest.Statement.{statement}
 use Rattle.sha256.proofs.running.rest.Tie as tie
 

@@ -2,11 +2,11 @@
 use mathlib.Core.Path.{_≡_, _∙_, ap}
 use mathlib.Core.List.{List, [], _∷_, _++_, append-nil}
 use Prim.Native.Nat.{ℕ, _*_, _/_, _%_, _^_, _<_}
+use native.Mathlib.Omega.{arith}
+use borrow.Author.Needs.{needs}
 use lib.ListN.{length, take, drop, drop-of-length-le}
 use lib.Seq.{sets-eq}
-use native.Mathlib.Omega.{arith}
 use Rattle.words.specs.Bytes.{toBytes}
-use borrow.Author.Needs.{needs}
 use Rattle.sha256.proofs.running.with_length.Statement.{statement}
 use Rattle.sha256.proofs.running.with_length.Tie as tie
 

@@ -1,7 +1,7 @@
 -- `sha256_block::compression::add_words` meets its contract: each sum is what `wrapping_add_u32` ensures.
+use borrow.Author.Needs.{needs}
 use Rattle.sha256_block.specs.Functions.{_⊞_}
 use Rattle.sha256_block.specs.Compression.{addWords}
-use borrow.Author.Needs.{needs}
 use Rattle.sha256_block.proofs.compression.add_words.Statement.{statement}
 use Rattle.sha256_block.proofs.compression.add_words.Tie as tie
 

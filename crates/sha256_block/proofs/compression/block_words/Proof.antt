@@ -1,18 +1,15 @@
 -- `sha256_block::compression::block_words` meets its contract. The invariant: after t turns the first t words are there, and the others are zero.
-use mathlib.Core.List.{List}
-use Prim.Native.Nat.{ℕ, suc, _*_, _<_}
-use lib.ListN.{set, take, drop}
-use Rattle.words.specs.Bytes.{fromBytes}
-use Rattle.words.proofs.Fill.{store-next}
-use Rattle.sha256_block.proofs.Schedule.{length-words, words-next}
 use mathlib.Core.Path.{_≡_, refl}
-use mathlib.Core.List.{_++_}
-use Prim.Native.Nat.{_≤_, _-_}
+use mathlib.Core.List.{List, _++_}
+use Prim.Native.Nat.{ℕ, suc, _*_, _<_, _≤_, _-_}
 use native.Mathlib.Numerals.{add-one}
 use native.Mathlib.Omega.{arith}
-use lib.ListN.{replicate}
-use Rattle.sha256_block.specs.Compression.{wordsOf}
 use borrow.Author.Needs.{needs}
+use lib.ListN.{set, take, drop, replicate}
+use Rattle.words.specs.Bytes.{fromBytes}
+use Rattle.words.proofs.Fill.{store-next}
+use Rattle.sha256_block.specs.Compression.{wordsOf}
+use Rattle.sha256_block.proofs.Schedule.{length-words, words-next}
 use Rattle.sha256_block.proofs.compression.block_words.Statement.{statement}
 use Rattle.sha256_block.proofs.compression.block_words.Tie as tie
 

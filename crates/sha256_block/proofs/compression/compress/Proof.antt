@@ -1,6 +1,6 @@
 -- `sha256_block::compression::compress` meets its contract: each call gives the term of the definition.
-use Rattle.sha256_block.specs.Compression.{compress}
 use borrow.Author.Needs.{needs}
+use Rattle.sha256_block.specs.Compression.{compress}
 use Rattle.sha256_block.proofs.compression.compress.Statement.{statement}
 use Rattle.sha256_block.proofs.compression.compress.Tie as tie
 

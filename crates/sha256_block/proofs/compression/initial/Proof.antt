@@ -1,5 +1,4 @@
 -- `sha256_block::compression::initial` meets its contract: the eight words are computed from the definition.
--- Assumes nothing.
 use mathlib.Core.Path.{refl}
 use Rattle.sha256_block.specs.Constants.{hasDivisor, isPrime, primesFrom, primes, rootFrom, wholeRoot, rootWord, initialWords}
 use Rattle.sha256_block.specs.Compression.{initial, hashWords}

@@ -1,7 +1,7 @@
 -- `sha256_block::compression::next_word` meets its contract: each call gives the term of the definition.
+use borrow.Author.Needs.{needs}
 use Rattle.sha256_block.specs.Functions.{_⊞_}
 use Rattle.sha256_block.specs.Compression.{nextWord}
-use borrow.Author.Needs.{needs}
 use Rattle.sha256_block.proofs.compression.next_word.Statement.{statement}
 use Rattle.sha256_block.proofs.compression.next_word.Tie as tie
 

@@ -1,7 +1,7 @@
 -- `sha256_block::compression::round` meets its contract: each call gives the term of the definition.
+use borrow.Author.Needs.{needs}
 use Rattle.sha256_block.specs.Functions.{_⊞_}
 use Rattle.sha256_block.specs.Compression.{round}
-use borrow.Author.Needs.{needs}
 use Rattle.sha256_block.proofs.compression.round.Statement.{statement}
 use Rattle.sha256_block.proofs.compression.round.Tie as tie
 

@@ -3,8 +3,8 @@ use mathlib.Core.Path.{_≡_, refl}
 use Prim.Native.Nat.{_≤_, _-_}
 use native.Mathlib.Numerals.{add-one}
 use native.Mathlib.Omega.{arith}
-use Rattle.sha256_block.specs.Compression.{rounds as roundsOf}
 use borrow.Author.Needs.{needs}
+use Rattle.sha256_block.specs.Compression.{rounds as roundsOf}
 use Rattle.sha256_block.proofs.compression.rounds.Statement.{statement}
 use Rattle.sha256_block.proofs.compression.rounds.Tie as tie
 

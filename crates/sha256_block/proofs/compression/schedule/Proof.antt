@@ -3,10 +3,10 @@ use mathlib.Core.Path.{_≡_, _∙_}
 use mathlib.Core.List.{List, append-nil}
 use Prim.Native.Nat.{ℕ, suc, _+_, _-_, _≤_, _<_}
 use native.Mathlib.Omega.{arith}
+use borrow.Author.Needs.{needs}
 use lib.ListN.{set}
 use Rattle.sha256_block.specs.Compression.{wordsOf, nextWord, extend, schedule}
 use Rattle.sha256_block.proofs.Schedule.{length-words, filled, fill-next}
-use borrow.Author.Needs.{needs}
 use Rattle.sha256_block.proofs.compression.schedule.Statement.{statement}
 use Rattle.sha256_block.proofs.compression.schedule.Tie as tie
 

@@ -1,6 +1,6 @@
 -- `sha256_block::functions::big_sigma0` meets its contract: the rotations are what `rotr` ensures.
-use Rattle.sha256_block.specs.Functions.{Σ₀}
 use borrow.Author.Needs.{needs}
+use Rattle.sha256_block.specs.Functions.{Σ₀}
 use Rattle.sha256_block.proofs.functions.big_sigma0.Statement.{statement}
 use Rattle.sha256_block.proofs.functions.big_sigma0.Tie as tie
 

@@ -1,7 +1,7 @@
 -- `sha256_block::functions::rotr` meets its contract: the code is the definition.
 use mathlib.Core.Path.{refl}
-use Rattle.sha256_block.specs.Functions.{rotr, shr, shl}
 use borrow.Author.Needs.{needs}
+use Rattle.sha256_block.specs.Functions.{rotr, shr, shl}
 use Rattle.sha256_block.proofs.functions.rotr.Statement.{statement}
 use Rattle.sha256_block.proofs.functions.rotr.Tie as tie
 

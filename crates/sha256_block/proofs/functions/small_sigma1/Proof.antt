@@ -1,6 +1,6 @@
 -- `sha256_block::functions::small_sigma1` meets its contract: the rotations are what `rotr` ensures.
-use Rattle.sha256_block.specs.Functions.{σ₁, shr}
 use borrow.Author.Needs.{needs}
+use Rattle.sha256_block.specs.Functions.{σ₁, shr}
 use Rattle.sha256_block.proofs.functions.small_sigma1.Statement.{statement}
 use Rattle.sha256_block.proofs.functions.small_sigma1.Tie as tie
 

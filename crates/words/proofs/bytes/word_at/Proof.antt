@@ -1,7 +1,7 @@
 -- `words::bytes::word_at` meets its contract: the part that it names is its four elements.
 use mathlib.Core.Path.{sym, ap, _∙_}
-use denote.Ref.{now}
 use borrow.Author.Needs.{needs}
+use denote.Ref.{now}
 use Rattle.words.specs.Bytes.{fromBytes}
 use Rattle.words.proofs.Lists.{part-4}
 use Rattle.words.proofs.bytes.word_at.Statement.{statement}

@@ -2,8 +2,8 @@
 use mathlib.Core.Path.{_≡_, refl, sym, ap, _∙_}
 use Prim.Native.Nat.{_+_, _-_, _≤_}
 use native.Mathlib.Omega.{arith}
-use lib.ListN.{length}
 use borrow.Author.Needs.{needs}
+use lib.ListN.{length}
 use Rattle.words.specs.Number.{value, toWords}
 use Rattle.words.proofs.Turns.{whole, whole-all, sum-left, sum-turn}
 use Rattle.words.proofs.number.add.Statement.{statement}

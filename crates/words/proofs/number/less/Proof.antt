@@ -3,11 +3,11 @@ use mathlib.Core.Path.{_≡_, sym, ap, _∙_}
 use Prim.Native.Nat.{ℕ, suc, _-_, _<_, _≤_}
 use native.Mathlib.Nat.{le-of-eq}
 use native.Mathlib.Omega.{arith}
+use borrow.Author.Needs.{needs}
+use borrow.Author.Tests.{le-ltb}
 use lib.ListN.{length, drop, drop-of-length-le}
 use lib.Seq.{drop-cons}
 use mir.Syntax.{w32}
-use borrow.Author.Needs.{needs}
-use borrow.Author.Tests.{le-ltb}
 use Rattle.words.specs.Number.{value}
 use Rattle.words.proofs.Lists.{below-fits}
 use Rattle.words.proofs.Turns.{decided}

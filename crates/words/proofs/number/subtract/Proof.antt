@@ -3,9 +3,9 @@ use mathlib.Core.Path.{_≡_, refl, sym, ap, _∙_}
 use Prim.Native.Nat.{_+_, _-_, _^_, _≤_}
 use native.Mathlib.Nat.{sub-zero}
 use native.Mathlib.Omega.{arith}
+use borrow.Author.Needs.{needs}
 use lib.ListN.{length}
 use mir.Syntax.{w32}
-use borrow.Author.Needs.{needs}
 use Rattle.words.specs.Number.{value, toWords}
 use Rattle.words.proofs.Lists.{below-fits}
 use Rattle.words.proofs.Turns.{whole, whole-all, difference-left, difference-turn}

@@ -1,10 +1,10 @@
 -- `sha256::running::Hash::add` meets its contract: the test is the definition's, and a granted add is what `extended` ensures.
 use Prim.Native.Nat.{_+_, _≤_, _<_}
 use native.Mathlib.Omega.{arith}
-use denote.Ref.{now}
-use lib.ListN.{length}
 use borrow.Author.Needs.{needs}
 use borrow.Author.Tests.{lt-ltb, le-ltb}
+use denote.Ref.{now}
+use lib.ListN.{length}
 use Rattle.sha256.specs.Running.{addNumber, addState}
 use Rattle.sha256.proofs.running.Hash.add.Statement.{statement}
 use Rattle.sha256.proofs.running.Hash.add.Tie as tie

@@ -1,6 +1,6 @@
 -- `sha256::running::Hash::finish` meets its contract: a fresh state with the words that `final_words` ensures.
-use Rattle.sha256.specs.Running.{finished}
 use borrow.Author.Needs.{needs}
+use Rattle.sha256.specs.Running.{finished}
 use Rattle.sha256.proofs.running.Hash.finish.Statement.{statement}
 use Rattle.sha256.proofs.running.Hash.finish.Tie as tie
 

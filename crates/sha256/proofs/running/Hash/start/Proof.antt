@@ -1,6 +1,6 @@
 -- `sha256::running::Hash::start` meets its contract: a fresh state with the initial words.
-use Rattle.sha256.specs.Running.{started}
 use borrow.Author.Needs.{needs}
+use Rattle.sha256.specs.Running.{started}
 use Rattle.sha256.proofs.running.Hash.start.Statement.{statement}
 use Rattle.sha256.proofs.running.Hash.start.Tie as tie
 

@@ -1,0 +1,3 @@
+-- The claims proved.
+pub mod Proved
+pub mod TrialValues

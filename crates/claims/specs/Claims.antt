@@ -1,0 +1,38 @@
+-- Demand 3, its first two sentences, and the order of the rows (document 01, Counts and rows).
+use mathlib.Core.Path.{_≡_}
+use mathlib.Core.Logic.{_↔_}
+use mathlib.Core.List.{List}
+use Prim.Native.Nat.{ℕ, _<_, _≤_}
+use lib.ListN.{getD}
+use Rattle.profile.specs.declared.Shape.{Shape}
+use Rattle.counts.specs.Counts.{count}
+use Rattle.counts.specs.Table.{countNumber}
+use Rattle.codewords.specs.Codeword.{codeword, IsCodeword, Before}
+use Rattle.codewords.specs.Operations.{rankNumber}
+
+-- "A row belongs to a number when the placing rule above gives that row for it"
+abbrev pub rowOf : Shape → ℕ → List ℕ
+rowOf p n = codeword (p .width) (p .chains) (p .sum) n
+
+-- "Under one profile, two message numbers below the count are equal exactly when no chain in the first one's signature stands
+-- higher than the same chain in the second's": a chain stands at the length that the number's row has at the chain's place
+abbrev pub Incomparable : Shape → Type 0
+Incomparable p =
+    (m n : ℕ) → m < count p → n < count p
+    → (m ≡ n) ↔ ((c : ℕ) → c < p .chains → getD (rowOf p m) c 0 ≤ getD (rowOf p n) c 0)
+
+-- "Every row of l lengths from 0 to w − 1 with sum s belongs to exactly one number below the count"
+abbrev pub Complete : Shape → Type 0
+Complete p =
+    (row : List ℕ) → IsCodeword (p .width) (p .chains) (p .sum) row
+    → (n : ℕ) × (n < count p) × (rowOf p n ≡ row) × ((m : ℕ) → m < count p → rowOf p m ≡ row → m ≡ n)
+
+-- "Rows of l lengths with sum s are numbered from 0 in dictionary order, first length most significant"
+abbrev pub Ordered : Shape → Type 0
+Ordered p = (m n : ℕ) → m < count p → n < count p → (m < n) ↔ Before (rowOf p m) (rowOf p n)
+
+-- "So, past 5, refused exactly if no number has that row": Gather, where 1, 2, 3 and 5 refuse nothing
+abbrev pub GatherExact : Shape → Type 0
+GatherExact p =
+    (work row : List ℕ) → countNumber p work ≡ 0
+    → (rankNumber p work row ≡ 0) ↔ ((n : ℕ) × (n < count p) × (rowOf p n ≡ row))

@@ -1,0 +1,1 @@
+// What demand 3 claims, over the definitions that the contracts cite. There is no code here.

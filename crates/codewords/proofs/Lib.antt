@@ -1,0 +1,6 @@
+-- The laws that belong to no one function.
+pub mod CodewordLaws
+pub mod OrderLaws
+pub mod RankLaws
+pub mod SearchLaws
+pub mod SpreadAnswer

@@ -1,0 +1,226 @@
+-- Gather: the number of a row, place by place, what the causes tell of the row, and what is answered.
+use mathlib.Core.Path.{_≡_, refl, sym, ap, _∙_}
+use mathlib.Core.Bool.{Bool, true, false, not, _||_, true≢false}
+use mathlib.Core.List.{List, [], _∷_, _++_}
+use Prim.Native.Nat.{ℕ, zero, suc, _+_, _-_, _*_, _^_, _<_, _≤_}
+use native.Mathlib.Nat.{le-of-suc-le-suc, lt-of-le-of-lt, lt-trans, le-refl, mul-le-mul-right, suc-mul}
+use native.Mathlib.Numerals.{add-one}
+use native.Mathlib.Omega.{arith}
+use borrow.Author.Tests.{le-leb, lt-leb, leb-false, eqb-true, eq-eqb, not-false}
+use lib.Dec.{leb, eqb, lit<}
+use lib.ListN.{length, getD, take, drop, length-take, length-drop, drop-of-length-le}
+use lib.Seq.{drop-cons}
+use Rattle.refusal.specs.Code.{outcomeCode, firstCause}
+use Rattle.refusal.specs.declared.Refusal.{Refusal}
+use Rattle.refusal.specs.declared.Outcome.{Outcome}
+use Rattle.refusal.specs.declared.Outcome.the-variants.{Granted, Refused}
+use Rattle.refusal.proofs.Causes.{none-here, none-of-append, granted-none, refused-number}
+use Rattle.words.specs.Number.{value, toWords}
+use Rattle.words.proofs.NumberLaws.{value-toWords-5}
+use Rattle.profile.specs.declared.Shape.{Shape}
+use Rattle.counts.specs.Counts.{sumTo, share, D}
+use Rattle.counts.specs.Table.{rows, tableLength, withTable, countCauses}
+use Rattle.counts.proofs.CountLaws.{sumTo-cong, sumTo-mono, share-low, D-small}
+use Rattle.counts.proofs.Room.{count-numbered}
+use Rattle.counts.proofs.TableLaws.{length-rows, cell-of}
+use Rattle.codewords.specs.Codeword.{rank, total, IsCodeword}
+use Rattle.codewords.specs.Operations.{someAbove, rankNumber, Ranks}
+use Rattle.codewords.proofs.CodewordLaws.{Front, front, rank-lt}
+
+-- the lengths from a place on, the first of them apart
+module _ (row : List ℕ) (i : ℕ) (inside : i < length row) where
+  pub above-here : (w : ℕ) → w ≤ getD row i 0 → someAbove w (drop i row) ≡ true
+  unfolding someAbove
+  above-here w h = rw (drop-cons row i 0 inside, le-leb w (getD row i 0) h)
+
+  pub above-later : (w : ℕ) → getD row i 0 < w → someAbove w (drop i row) ≡ someAbove w (drop (i + 1) row)
+  unfolding someAbove
+  above-later w h = rw (drop-cons row i 0 inside, lt-leb w (getD row i 0) h, add-one)
+
+  pub total-later : total (drop i row) ≡ getD row i 0 + total (drop (i + 1) row)
+  unfolding total
+  total-later = rw (drop-cons row i 0 inside, add-one)
+
+-- no lengths are left
+module _ (row : List ℕ) (i : ℕ) (past : length row ≤ i) where
+  pub above-end : (w : ℕ) → someAbove w (drop i row) ≡ false
+  unfolding someAbove
+  above-end w = rw (drop-of-length-le row past)
+
+  pub total-end : total (drop i row) ≡ 0
+  unfolding total
+  total-end = rw (drop-of-length-le row past)
+
+  rank-end : (w t : ℕ) → rank w t (drop i row) ≡ 0
+  unfolding rank
+  rank-end w t = rw (drop-of-length-le row past)
+
+-- a row with no length above w − 1
+none-above : (w : ℕ) (row : List ℕ) → someAbove w row ≡ false → (c : ℕ) → c < length row → getD row c 0 < w
+unfolding someAbove
+none-above w [] none c inside = absurd (omega arith)
+none-above w (a ∷ row) none c inside = by (leb w a) refl none c inside (none-above w row)
+  where
+    by : (test : Bool) → leb w a ≡ test → test || someAbove w row ≡ false → (c : ℕ) → c < length (a ∷ row)
+        → (someAbove w row ≡ false → (d : ℕ) → d < length row → getD row d 0 < w) → getD (a ∷ row) c 0 < w
+    by true over others c h rest = absurd (true≢false others)
+    by false below others zero h rest = leb-false w a below
+    by false below others (suc c) h rest = rest others c (le-of-suc-le-suc h)
+
+-- a number to which f 0, f 1, … are added one by one
+pub skip-begins : {number : List ℕ} (f : ℕ → ℕ) → number ≡ toWords 5 (value number) → number ≡ toWords 5 (value number + sumTo f 0)
+unfolding sumTo
+skip-begins f e = e ∙ ap (toWords 5) (omega arith)
+
+pub skip-next : (number : List ℕ) (f : ℕ → ℕ) {j digit : ℕ} → j < digit → value number + sumTo f digit < 2 ^ 160
+    → {n r : List ℕ} (share : List ℕ) → n ≡ toWords 5 (value number + sumTo f j) → value share ≡ f j → r ≡ toWords 5 (value n + value share)
+    → r ≡ toWords 5 (value number + sumTo f (j + 1))
+unfolding sumTo
+skip-next number f {j} {digit} more small {n} share so-far next added =
+    let below : value number + sumTo f j ≤ value number + sumTo f digit = omega (arith, sumTo-mono f j digit (omega arith)) in
+    let before : value n ≡ value number + sumTo f j = ap value so-far ∙ value-toWords-5 _ (lt-of-le-of-lt below small) in
+    added ∙ ap (toWords 5) (rw add-one (omega arith))
+
+-- the numbers of a table from a place down
+abbrev pub downFrom : List ℕ → ℕ → ℕ → ℕ
+downFrom table above j = value (take 5 (drop (5 * (above - j)) table))
+
+-- a table that holds n rows
+module _ (w s n : ℕ) (table : List ℕ) (holds : take (5 * (n * (s + 1))) table ≡ rows w s n) where
+  table-long : 5 * (n * (s + 1)) ≤ length table
+  table-long = omega (arith, length-take (5 * (n * (s + 1))) table, ap length holds, length-rows w s n)
+
+  -- there is room for each number of its rows
+  pub cell-within : (i t : ℕ) → i < n → t ≤ s → 5 * (i * (s + 1) + t) + 5 ≤ length table
+  cell-within i t above within = omega (arith, table-long, suc-mul i (s + 1), mul-le-mul-right (s + 1) above)
+
+-- Gather at a place of a codeword: the lengths from there on, with their sum, are a codeword, and n is what its number lacks of that of the row
+pub record Left (w s : ℕ) (row : List ℕ) (place left : ℕ) (n : List ℕ) : Type 0 where
+  pub inside : place ≤ length row
+  pub most : left ≤ s
+  pub rest : IsCodeword w (length (drop place row)) left (drop place row)
+  pub passed : rank w left (drop place row) ≤ rank w s row
+  pub number : n ≡ toWords 5 (rank w s row - rank w left (drop place row))
+
+module _ {w s : ℕ} {row : List ℕ} (limits : (1 ≤ w) × (w ≤ 16) × (length row ≤ 40) × (s ≤ 600)) (is : IsCodeword w (length row) s row) where
+  rank-small : rank w s row < 2 ^ 160
+  rank-small = lt-trans (rank-lt w (length row) s row is) (D-small w (length row) s (limits .0) (limits .1) (limits .2))
+
+  pub left-begins : Left w s row 0 s (0 ∷ 0 ∷ 0 ∷ 0 ∷ 0 ∷ [])
+  unfolding toWords
+  left-begins =
+      let none : rank w s row - rank w s row ≡ 0 = omega arith in
+      record { inside = omega arith; most = le-refl s; rest = is; passed = le-refl _; number = rw none }
+
+  -- a place before the end
+  module _ {place left : ℕ} {n : List ℕ} (more : place < length row) (l : Left w s row place left n) where
+    digit-front : Front w left (getD row place 0) (drop (suc place) row)
+    digit-front = front (rw (drop-cons row place 0 more) at (l .rest))
+
+    pub digit-within : getD row place 0 ≤ left
+    digit-within = digit-front .within
+
+    skipped : ℕ
+    skipped = sumTo (share (D w (length row - 1 - place)) left) (getD row place 0)
+
+    rank-split : rank w left (drop place row) ≡ skipped + rank w (left - getD row place 0) (drop (suc place) row)
+    unfolding rank skipped
+    rank-split =
+        let others : length (drop (suc place) row) ≡ length row - 1 - place = omega (arith, length-drop (suc place) row) in
+        rw (drop-cons row place 0 more, others)
+
+    value-so-far : value n ≡ rank w s row - rank w left (drop place row)
+    value-so-far = rw (l .number) (value-toWords-5 _ (lt-of-le-of-lt (omega arith) rank-small))
+
+    pub number-words : n ≡ toWords 5 (value n)
+    number-words = l .number ∙ ap (toWords 5) (sym value-so-far)
+
+    -- the numbers that are skipped, as they stand in the table
+    module _ (table : List ℕ) (holds : take (5 * ((length row + 1) * (s + 1))) table ≡ rows w s (length row + 1)) where
+      skipped-at : sumTo (downFrom table ((length row - 1 - place) * (s + 1) + left)) (getD row place 0) ≡ skipped
+      unfolding skipped
+      skipped-at =
+          let i = length row - 1 - place in
+          sumTo-cong _ _ (getD row place 0)
+          (λ j h.
+          let low : j ≤ left = omega (arith, digit-within) in
+          let at : i * (s + 1) + left - j ≡ i * (s + 1) + (left - j) = omega arith in
+          let cell = cell-of w s (length row + 1) i (left - j) table holds (omega arith) (omega (arith, l .most)) in
+          rw (at, cell, value-toWords-5 (D w i (left - j)) (D-small w i (left - j) (limits .0) (limits .1) (omega arith))) (sym (share-low (D w i) left j low)))
+
+      pub skipped-small : value n + sumTo (downFrom table ((length row - 1 - place) * (s + 1) + left)) (getD row place 0) < 2 ^ 160
+      skipped-small = rw (skipped-at, value-so-far) (lt-of-le-of-lt (omega (arith, rank-split, l .passed)) rank-small)
+
+      pub left-next : {r : List ℕ} → r ≡ toWords 5 (value n + sumTo (downFrom table ((length row - 1 - place) * (s + 1) + left)) (getD row place 0))
+          → Left w s row (place + 1) (left - getD row place 0) r
+      left-next e =
+          let number : value n + skipped ≡ rank w s row - rank w (left - getD row place 0) (drop (suc place) row) = omega (arith, rank-split, value-so-far, l .passed) in
+          rw (add-one place)
+          (record {
+            inside = more;
+            most = omega (arith, l .most);
+            rest = digit-front .rest;
+            passed = omega (arith, rank-split, l .passed);
+            number = e ∙ rw (skipped-at, number);
+          })
+
+-- at the end
+pub left-ends : {w s : ℕ} {row : List ℕ} {place left : ℕ} {n : List ℕ} → length row ≤ place → Left w s row place left n → n ≡ toWords 5 (rank w s row)
+left-ends {w} {s} {row} {place} {left} past l = l .number ∙ ap (toWords 5) (omega (arith, rank-end row place past w left))
+
+-- where each length is below w, none is above w − 1
+all-below : (w : ℕ) (row : List ℕ) → ((c : ℕ) → c < length row → getD row c 0 < w) → someAbove w row ≡ false
+unfolding someAbove
+all-below w [] h = refl
+all-below w (a ∷ row) h = rw (lt-leb w a (h 0 (omega arith)), all-below w row (λ c l. h (suc c) (omega arith)))
+
+-- the causes of Gather behind those of Count, from the last on
+module _ (p : Shape) (row : List ℕ) where
+  abbrev pub sumCause : List (Bool × ℕ)
+  sumCause = (not (eqb (total row) (p .sum)), 10) ∷ []
+
+  abbrev pub digitCauses : List (Bool × ℕ)
+  digitCauses = (someAbove (p .width) row, 9) ∷ sumCause
+
+  abbrev pub rowCauses : List (Bool × ℕ)
+  rowCauses = (not (eqb (length row) (p .chains)), 8) ∷ digitCauses
+
+  -- where none holds, the row is a codeword
+  pub row-codeword : firstCause rowCauses ≡ 0 → IsCodeword (p .width) (p .chains) (p .sum) row
+  row-codeword none =
+      let long = none-here (not (eqb (length row) (p .chains))) 8 digitCauses (lit< tt) none in
+      let above = none-here (someAbove (p .width) row) 9 sumCause (lit< tt) (long .1) in
+      let summed = none-here (not (eqb (total row) (p .sum))) 10 [] (lit< tt) (above .1) in
+      let chains : length row ≡ p .chains = eqb-true (length row) (p .chains) (not-false _ (long .0)) in
+      record {
+        chains = chains;
+        digits = λ c h. none-above (p .width) row (above .0) c (omega arith);
+        sum = eqb-true (total row) (p .sum) (not-false _ (summed .0));
+      }
+
+  -- a codeword meets none of them
+  pub codeword-passes : IsCodeword (p .width) (p .chains) (p .sum) row → firstCause rowCauses ≡ 0
+  codeword-passes h =
+      let below = all-below (p .width) row (λ c l. h .digits c (rw (h .chains) at l)) in
+      rw (eq-eqb (length row) (p .chains) (h .chains), below, eq-eqb (total row) (p .sum) (h .sum))
+
+-- what Gather answers, refused and granted
+module _ (p : Shape) (work row : List ℕ) (o : Outcome) (e : outcomeCode o ≡ firstCause (countCauses p (length work) ++ rowCauses p row)) where
+  pub rank-refused : (r : Refusal) → o ≡ Refused r → Ranks p work row work (record { outcome = o; number = 0 ∷ 0 ∷ 0 ∷ 0 ∷ 0 ∷ [] })
+  unfolding rankNumber toWords
+  rank-refused r q =
+      let test = refused-number o (firstCause (countCauses p (length work) ++ rowCauses p row)) r e q in
+      record { number = e; ranked = rw test; table = rw test }
+
+  -- nothing is refused: neither the table nor the row
+  pub rank-none : o ≡ Granted → (firstCause (countCauses p (length work)) ≡ 0) × (firstCause (rowCauses p row) ≡ 0)
+  rank-none q =
+      none-of-append (countCauses p (length work)) (rowCauses p row) (count-numbered p (length work))
+      (granted-none (countCauses p (length work) ++ rowCauses p row) [] o e q)
+
+  pub rank-granted : (left n : List ℕ) → o ≡ Granted → left ≡ rows (p .width) (p .sum) (p .chains + 1) ++ drop (5 * ((p .chains + 1) * (p .sum + 1))) work
+      → n ≡ toWords 5 (rank (p .width) (p .sum) row) → Ranks p work row left (record { outcome = o; number = n })
+  unfolding rankNumber withTable tableLength
+  rank-granted left n q filled ranked =
+      let none = granted-none (countCauses p (length work) ++ rowCauses p row) [] o e q in
+      record { number = e; ranked = rw none ranked; table = rw none filled }

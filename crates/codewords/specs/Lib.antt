@@ -1,0 +1,3 @@
+-- Codewords (document 01: rows of lengths) and their numbers.
+pub mod Codeword
+pub mod Operations

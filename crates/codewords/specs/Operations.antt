@@ -1,0 +1,45 @@
+-- Document 01, "Spread, number to row" and "Gather, row to number".
+use mathlib.Core.Path.{_≡_}
+use mathlib.Core.Bool.{Bool, false, not, _||_, cond}
+use mathlib.Core.List.{List, [], _∷_, _++_}
+use Prim.Native.Nat.{ℕ}
+use lib.Dec.{ltb, leb, eqb}
+use lib.ListN.{length, drop}
+use Rattle.refusal.specs.Code.{outcomeCode, firstCause}
+use Rattle.refusal.specs.declared.Outcome.{Outcome}
+use Rattle.words.specs.Number.{toWords}
+use Rattle.profile.specs.declared.Shape.{Shape}
+use Rattle.counts.specs.Counts.{count}
+use Rattle.counts.specs.Table.{withTable, countCauses}
+use Rattle.codewords.specs.Codeword.{codeword, rank, total}
+use Rattle.codewords.specs.declared.gather.Ranked.{Ranked}
+
+-- "Spread, number to row: 1, 2, 3, 5; 6 output under l bytes; 7 number not below the count"
+unfoldable pub unrankNumber : Shape → ℕ → (work row : List ℕ) → ℕ
+unrankNumber p n work row =
+    firstCause
+    (countCauses p (length work) ++ ((ltb (length row) (p .chains), 6) ∷ (leb (count p) n, 7) ∷ []))
+
+-- what Spread answers and leaves: the table after a success and after 7, the row after a success, nothing else
+pub record Unranks (p : Shape) (n : ℕ) (work row work′ row′ : List ℕ) (r : Outcome) : Type 0 where
+  pub number : outcomeCode r ≡ unrankNumber p n work row
+  pub table : work′ ≡ cond (eqb (unrankNumber p n work row) 0 || eqb (unrankNumber p n work row) 7) (withTable p work) work
+  pub written : row′ ≡ cond (eqb (unrankNumber p n work row) 0) (codeword (p .width) (p .chains) (p .sum) n ++ drop (p .chains) row) row
+
+-- "a length above w − 1"
+unfoldable pub someAbove : ℕ → List ℕ → Bool
+someAbove w [] = false
+someAbove w (a ∷ row) = leb w a || someAbove w row
+
+-- "Gather, row to number: 1, 2, 3, 5; 8 the row hasn't l bytes; 9 a length above w − 1; 10 sum other than s"
+unfoldable pub rankNumber : Shape → (work row : List ℕ) → ℕ
+rankNumber p work row =
+    firstCause
+    (countCauses p (length work)
+    ++ ((not (eqb (length row) (p .chains)), 8) ∷ (someAbove (p .width) row, 9) ∷ (not (eqb (total row) (p .sum)), 10) ∷ []))
+
+-- what Gather answers and leaves; refused, the number is zero
+pub record Ranks (p : Shape) (work row work′ : List ℕ) (r : Ranked) : Type 0 where
+  pub number : outcomeCode (r .outcome) ≡ rankNumber p work row
+  pub ranked : r .number ≡ toWords 5 (cond (eqb (rankNumber p work row) 0) (rank (p .width) (p .sum) row) 0)
+  pub table : work′ ≡ cond (eqb (rankNumber p work row) 0) (withTable p work) work

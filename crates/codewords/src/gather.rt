@@ -1,0 +1,140 @@
+// Gather: the number of a codeword.
+ghost use mathlib.Core.Path.{_≡_};
+ghost use mathlib.Core.Bool.{not};
+ghost use mathlib.Core.List.{List, [], _∷_, _++_};
+ghost use Prim.Native.Nat.{_+_, _-_, _*_, _^_, _≤_, _<_};
+ghost use lib.Dec.{eqb};
+ghost use lib.ListN.{length, take, drop};
+ghost use Rattle.refusal.specs.Code.{outcomeCode, firstCause};
+ghost use Rattle.words.specs.Number.{value, toWords};
+ghost use Rattle.counts.specs.Counts.{sumTo};
+ghost use Rattle.counts.specs.Table.{rows, countCauses};
+ghost use Rattle.codewords.specs.Codeword.{rank as rankOf, total, IsCodeword};
+ghost use Rattle.codewords.specs.Operations.{someAbove, Ranks};
+use counts::cells::load;
+use counts::table::count_outcome;
+use counts::table::fill;
+use profile::Shape;
+use refusal::Outcome;
+use refusal::Refusal;
+use words::number::add;
+
+// What Gather answers. Refused, the number is zero.
+pub struct Ranked {
+    pub outcome: Outcome,
+    pub number: [u32; 5],
+}
+
+// Whether a length is above w - 1.
+fn some_above(width: usize, row: &[u8]) -> bool
+    ensures { λ r. ⌜ r ≡ someAbove width (now (row .entry)) ⌝ }
+{
+    let mut i = 0;
+    while i < row.len() {
+        if width <= row[i] as usize {
+            return true;
+        }
+        i += 1;
+    }
+    false
+}
+
+// The sum of the lengths.
+fn sum_of(row: &[u8]) -> usize
+    requires { ⌜ length (now row) ≤ 40 ⌝ }
+    ensures { λ r. ⌜ r ≡ total (now (row .entry)) ⌝ }
+{
+    let mut sum = 0;
+    let mut i = 0;
+    while i < row.len() {
+        sum += row[i] as usize;
+        i += 1;
+    }
+    sum
+}
+
+// The causes of Gather.
+fn rank_outcome(p: Shape, words: usize, row: &[u8]) -> Outcome
+    ensures { λ r. ⌜ outcomeCode r ≡ firstCause (countCauses p words ++ ((not (eqb (length (now (row .entry))) (p .chains)), 8) ∷ (someAbove (p .width) (now (row .entry)), 9) ∷ (not (eqb (total (now (row .entry))) (p .sum)), 10) ∷ [])) ⌝ }
+{
+    let checked = count_outcome(p, words);
+    match checked {
+        Outcome::Refused(_) => checked,
+        Outcome::Granted => {
+            let chains = p.chains as usize;
+            let width = p.width as usize;
+            let sum = p.sum as usize;
+            if row.len() != chains {
+                return Outcome::Refused(Refusal::CodewordLength);
+            }
+            if some_above(width, row) {
+                return Outcome::Refused(Refusal::DigitTooLarge);
+            }
+            if sum_of(row) != sum {
+                return Outcome::Refused(Refusal::CodewordSum);
+            }
+            Outcome::Granted
+        }
+    }
+}
+
+// The number with the shares of the lengths below a digit added: those counts are skipped. The share of the length j is the
+// number at `above` - j of the table.
+fn skip(table: &[u32], number: [u32; 5], above: usize, digit: usize) -> [u32; 5]
+    requires { ⌜ (number ≡ toWords 5 (value number)) × (digit ≤ above) × (5 * above + 5 ≤ length (now table)) ⌝ }
+    requires { ⌜ value number + sumTo (λ j. value (take 5 (drop (5 * (above - j)) (now table)))) digit < 2 ^ 160 ⌝ }
+    ensures { λ r. ⌜ r ≡ toWords 5 (value number + sumTo (λ j. value (take 5 (drop (5 * (above - j)) (now (table .entry))))) digit) ⌝ }
+{
+    let mut n = number;
+    let mut j = 0;
+    while j < digit {
+        let sum = add(n, load(table, above - j));
+        n = sum;
+        j += 1;
+    }
+    n
+}
+
+// The number of a codeword.
+fn number_of(table: &[u32], row: &[u8], width: usize, sum: usize) -> [u32; 5]
+    requires { ⌜ (1 ≤ width) × (width ≤ 16) × (length (now row) ≤ 40) × (sum ≤ 600) ⌝ }
+    requires { ⌜ IsCodeword width (length (now row)) sum (now row) ⌝ }
+    requires { ⌜ take (5 * ((length (now row) + 1) * (sum + 1))) (now table) ≡ rows width sum (length (now row) + 1) ⌝ }
+    ensures { λ r. ⌜ r ≡ toWords 5 (rankOf width sum (now (row .entry))) ⌝ }
+{
+    let mut n = [0u32; 5];
+    let mut left = sum;
+    let mut place = 0;
+    while place < row.len() {
+        let digit = row[place] as usize;
+        let above = (row.len() - 1 - place) * (sum + 1) + left;
+        let next = skip(table, n, above, digit);
+        n = next;
+        left -= digit;
+        place += 1;
+    }
+    n
+}
+
+// Gather: the number of the codeword in the row.
+pub fn rank(p: Shape, row: &[u8], table: &mut [u32]) -> Ranked
+    ensures { λ r. ⌜ Ranks p (now (table .entry)) (now (row .entry)) (now (table .exit)) r ⌝ }
+{
+    let outcome = rank_outcome(p, table.len(), row);
+    match outcome {
+        Outcome::Refused(_) => Ranked {
+            outcome: outcome,
+            number: [0; 5],
+        },
+        Outcome::Granted => {
+            let chains = p.chains as usize;
+            let width = p.width as usize;
+            let sum = p.sum as usize;
+            fill(table, chains, width, sum);
+            Ranked {
+                outcome: outcome,
+                number: number_of(table, row, width, sum),
+            }
+        }
+    }
+}

@@ -1,0 +1,44 @@
+-- Document 01, Counts and rows: the table in the work slice, and Count.
+use mathlib.Core.Path.{_≡_}
+use mathlib.Core.Bool.{Bool, cond}
+use mathlib.Core.List.{List, [], _∷_, _++_}
+use Prim.Native.Nat.{ℕ, zero, suc, _+_, _*_}
+use lib.Dec.{ltb, eqb}
+use lib.ListN.{length, drop}
+use Rattle.refusal.specs.Code.{outcomeCode, firstCause}
+use Rattle.words.specs.Number.{toWords}
+use Rattle.profile.specs.Checks.{shapeCauses}
+use Rattle.profile.specs.declared.Shape.{Shape}
+use Rattle.counts.specs.Counts.{D, count}
+use Rattle.counts.specs.declared.table.Counted.{Counted}
+
+-- f 0, …, f (n − 1), "five words each"
+unfoldable pub cells : (ℕ → ℕ) → ℕ → List ℕ
+cells f zero = []
+cells f (suc n) = cells f n ++ toWords 5 (f n)
+
+-- the first n rows of the table: "row i after row i − 1", each of s + 1 numbers
+unfoldable pub rows : (w s n : ℕ) → List ℕ
+rows w s zero = []
+rows w s (suc n) = rows w s n ++ cells (D w n) (s + 1)
+
+-- "The table has (l + 1) × (s + 1) numbers"
+unfoldable pub tableLength : Shape → ℕ
+tableLength p = 5 * ((p .chains + 1) * (p .sum + 1))
+
+-- the work slice with the table in it; "Words … past the named length never change"
+unfoldable pub withTable : Shape → List ℕ → List ℕ
+withTable p work = rows (p .width) (p .sum) (p .chains + 1) ++ drop (tableLength p) work
+
+-- "Count …: 1, 2, 3; 5 work slice under 5 × (l + 1) × (s + 1) words"
+unfoldable pub countCauses : Shape → (words : ℕ) → List (Bool × ℕ)
+countCauses p words = shapeCauses p ++ ((ltb words (tableLength p), 5) ∷ [])
+
+unfoldable pub countNumber : Shape → List ℕ → ℕ
+countNumber p work = firstCause (countCauses p (length work))
+
+-- "Count fills the work slice and gives the count"; refused, it gives zero and leaves the slice
+pub record Counts (p : Shape) (work left : List ℕ) (r : Counted) : Type 0 where
+  pub number : outcomeCode (r .outcome) ≡ countNumber p work
+  pub counted : r .count ≡ toWords 5 (cond (eqb (countNumber p work) 0) (count p) 0)
+  pub table : left ≡ cond (eqb (countNumber p work) 0) (withTable p work) work

@@ -1,0 +1,123 @@
+// The table of the counts D(i, t), and Count.
+ghost use mathlib.Core.Path.{_≡_};
+ghost use mathlib.Core.List.{_++_};
+ghost use Prim.Native.Nat.{ℕ, _+_, _*_, _≤_};
+ghost use lib.ListN.{length, take, drop};
+ghost use Rattle.refusal.specs.Code.{outcomeCode, firstCause};
+ghost use Rattle.words.specs.Number.{toWords};
+ghost use Rattle.counts.specs.Counts.{D};
+ghost use Rattle.counts.specs.Table.{cells, rows, countCauses, Counts};
+use super::cells::load;
+use super::cells::store;
+use profile::Shape;
+use refusal::Outcome;
+use refusal::Refusal;
+use words::number::add;
+use words::number::subtract;
+
+// What Count answers. Refused, the count is zero.
+pub struct Counted {
+    pub outcome: Outcome,
+    pub count: [u32; 5],
+}
+
+// D(0, t), whatever the width.
+fn first_cell(t: usize) -> [u32; 5]
+    ensures { λ r. ⌜ ((w : ℕ) → r ≡ toWords 5 (D w 0 t)) ⌝ }
+{
+    if t == 0 { [1, 0, 0, 0, 0] } else { [0; 5] }
+}
+
+// D(i, t), from the rows above and the cells before it: the window of w shares moves on by one, so one count comes in
+// and one falls out.
+fn cell(table: &[u32], width: usize, sum: usize, i: usize, t: usize) -> [u32; 5]
+    requires { ⌜ (1 ≤ width) × (width ≤ 16) × (i ≤ 40) × (t ≤ sum) × (sum ≤ 600) ⌝ }
+    requires { ⌜ take (5 * (i * (sum + 1) + t)) (now table) ≡ rows width sum i ++ cells (D width i) t ⌝ }
+    requires { ⌜ 5 * (i * (sum + 1) + t) ≤ length (now table) ⌝ }
+    ensures { λ r. ⌜ r ≡ toWords 5 (D width i t) ⌝ }
+{
+    if i == 0 {
+        return first_cell(t);
+    }
+    let stride = sum + 1;
+    let above = (i - 1) * stride + t;
+    let up = load(table, above);
+    if t == 0 {
+        return up;
+    }
+    let grown = add(load(table, above + sum), up);
+    if t < width {
+        return grown;
+    }
+    subtract(grown, load(table, above - width))
+}
+
+// Row i.
+fn fill_row(table: &mut [u32], width: usize, sum: usize, i: usize)
+    requires { ⌜ (1 ≤ width) × (width ≤ 16) × (i ≤ 40) × (sum ≤ 600) ⌝ }
+    requires { ⌜ take (5 * (i * (sum + 1))) (now table) ≡ rows width sum i ⌝ }
+    requires { ⌜ 5 * ((i + 1) * (sum + 1)) ≤ length (now table) ⌝ }
+    ensures { λ _. ⌜ now (table .exit) ≡ rows width sum (i + 1) ++ drop (5 * ((i + 1) * (sum + 1))) (now (table .entry)) ⌝ }
+{
+    let mut t = 0;
+    while t < sum + 1 {
+        let n = cell(table, width, sum, i, t);
+        store(table, i * (sum + 1) + t, n);
+        t += 1;
+    }
+}
+
+// Rows 0 to the number of chains.
+pub fn fill(table: &mut [u32], chains: usize, width: usize, sum: usize)
+    requires { ⌜ (1 ≤ width) × (width ≤ 16) × (chains ≤ 40) × (sum ≤ 600) ⌝ }
+    requires { ⌜ 5 * ((chains + 1) * (sum + 1)) ≤ length (now table) ⌝ }
+    ensures { λ _. ⌜ now (table .exit) ≡ rows width sum (chains + 1) ++ drop (5 * ((chains + 1) * (sum + 1))) (now (table .entry)) ⌝ }
+{
+    let mut i = 0;
+    while i < chains + 1 {
+        fill_row(table, width, sum, i);
+        i += 1;
+    }
+}
+
+// The causes of Count before the table is filled.
+pub fn count_outcome(p: Shape, words: usize) -> Outcome
+    ensures { λ r. ⌜ outcomeCode r ≡ firstCause (countCauses p words) ⌝ }
+{
+    let checked = profile::check_shape(p);
+    match checked {
+        Outcome::Refused(_) => checked,
+        Outcome::Granted => {
+            let chains = p.chains as usize;
+            let sum = p.sum as usize;
+            if words < 5 * ((chains + 1) * (sum + 1)) {
+                Outcome::Refused(Refusal::TableTooShort)
+            } else {
+                Outcome::Granted
+            }
+        }
+    }
+}
+
+// Count: fills the work slice with the table and gives the number of codewords.
+pub fn codeword_count(p: Shape, table: &mut [u32]) -> Counted
+    ensures { λ r. ⌜ Counts p (now (table .entry)) (now (table .exit)) r ⌝ }
+{
+    let outcome = count_outcome(p, table.len());
+    match outcome {
+        Outcome::Refused(_) => Counted {
+            outcome: outcome,
+            count: [0; 5],
+        },
+        Outcome::Granted => {
+            let chains = p.chains as usize;
+            let width = p.width as usize;
+            let sum = p.sum as usize;
+            fill(table, chains, width, sum);
+            Counted {
+                outcome: outcome,
+                count: load(table, chains * (sum + 1) + sum),
+            }
+        }
+    }
+}

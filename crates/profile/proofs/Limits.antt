@@ -1,0 +1,54 @@
+-- What the checks of a profile tell: a shape that passes is within its limits.
+use mathlib.Core.Path.{_≡_, refl}
+use mathlib.Core.Bool.{Bool, true, false, _||_, true≢false}
+use mathlib.Core.List.{List, [], _∷_}
+use Prim.Native.Nat.{ℕ, _-_, _*_, _<_, _≤_}
+use native.Mathlib.Nat.{le-trans, mul-le-mul}
+use native.Mathlib.Omega.{arith}
+use borrow.Author.Tests.{lt-ltb, le-ltb, ltb-false}
+use lib.Dec.{ltb, lit<}
+use Rattle.refusal.specs.Code.{firstCause}
+use Rattle.refusal.proofs.Causes.{Numbered, Under, none-here}
+use Rattle.profile.specs.Checks.{outside, shapeCauses, InLimits}
+use Rattle.profile.specs.declared.Shape.{Shape}
+
+pub outside-low : (low high x : ℕ) → x < low → outside low high x ≡ true
+outside-low low high x h = rw (lt-ltb x low h)
+
+pub outside-high : (low high x : ℕ) → low ≤ x → high < x → outside low high x ≡ true
+outside-high low high x h k = rw (le-ltb x low h, lt-ltb high x k)
+
+pub inside : (low high x : ℕ) → low ≤ x → x ≤ high → outside low high x ≡ false
+inside low high x h k = rw (le-ltb x low h, le-ltb high x k)
+
+not-outside : (low high x : ℕ) → outside low high x ≡ false → (low ≤ x) × (x ≤ high)
+not-outside low high x e = by (ltb x low) (ltb high x) refl refl e
+  where
+    by : (a b : Bool) → ltb x low ≡ a → ltb high x ≡ b → (a || b) ≡ false → (low ≤ x) × (x ≤ high)
+    by false false p q h = (ltb-false x low p, ltb-false high x q)
+    by false true p q h = let z : _≡_ {A = Bool} true false = h in absurd (true≢false z)
+    by true b p q h = absurd (true≢false h)
+
+pub shape-numbered : (p : Shape) → Numbered (shapeCauses p)
+unfolding shapeCauses
+shape-numbered p = (lit< tt, (lit< tt, (lit< tt, tt)))
+
+pub shape-under : (p : Shape) (k : ℕ) → 4 ≤ k → Under k (shapeCauses p)
+unfolding shapeCauses
+shape-under p k h = (omega arith, (omega arith, (omega arith, tt)))
+
+-- a shape that passes its checks is within its limits
+pub in-limits : (p : Shape) → firstCause (shapeCauses p) ≡ 0 → InLimits p
+unfolding shapeCauses
+in-limits p e =
+    let last : List (Bool × ℕ) = (outside 0 (p .chains * (p .width - 1)) (p .sum), 3) ∷ [] in
+    let first = none-here (outside 1 40 (p .chains)) 1 ((outside 2 16 (p .width), 2) ∷ last) (lit< tt) e in
+    let second = none-here (outside 2 16 (p .width)) 2 last (lit< tt) (first .1) in
+    let third = none-here (outside 0 (p .chains * (p .width - 1)) (p .sum)) 3 [] (lit< tt) (second .1) in
+    let l = not-outside 1 40 (p .chains) (first .0) in
+    let w = not-outside 2 16 (p .width) (second .0) in
+    record { some-chain = l .0; few-chains = l .1; wide = w .0; narrow = w .1; reached = not-outside 0 (p .chains * (p .width - 1)) (p .sum) (third .0) .1 }
+
+-- the largest sum: 40 chains of 15
+pub sum-small : (p : Shape) → InLimits p → p .sum ≤ 600
+sum-small p h = le-trans (h .reached) (mul-le-mul {n₂ = 40} {m₂ = 15} (h .few-chains) (omega arith))

@@ -1,0 +1,27 @@
+-- Document 01, Profile, and "Profile checks: 1 l, 2 w, 3 s, 4 h outside its range".
+use mathlib.Core.Bool.{Bool, _||_}
+use mathlib.Core.List.{List, [], _∷_, _++_}
+use Prim.Native.Nat.{ℕ, _-_, _*_, _≤_}
+use lib.Dec.{ltb}
+use Rattle.profile.specs.declared.Shape.{Shape}
+use Rattle.profile.specs.declared.Profile.{Profile}
+
+abbrev pub outside : ℕ → ℕ → ℕ → Bool
+outside low high x = ltb x low || ltb high x
+
+-- "l chains, 1 to 40. Width w, 2 to 16 … Sum s, 0 to l × (w − 1)"
+unfoldable pub shapeCauses : Shape → List (Bool × ℕ)
+shapeCauses p =
+    (outside 1 40 (p .chains), 1) ∷ (outside 2 16 (p .width), 2) ∷ (outside 0 (p .chains * (p .width - 1)) (p .sum), 3) ∷ []
+
+-- the same as facts: the shape is within its limits
+pub record InLimits (p : Shape) : Type 0 where
+  pub some-chain : 1 ≤ p .chains
+  pub few-chains : p .chains ≤ 40
+  pub wide : 2 ≤ p .width
+  pub narrow : p .width ≤ 16
+  pub reached : p .sum ≤ p .chains * (p .width - 1)
+
+-- "Tree height h, 0 to 10"
+unfoldable pub profileCauses : Profile → List (Bool × ℕ)
+profileCauses p = shapeCauses (p .shape) ++ ((outside 0 10 (p .height), 4) ∷ [])

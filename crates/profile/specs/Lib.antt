@@ -1,0 +1,2 @@
+-- What a profile is, and its checks.
+pub mod Checks
