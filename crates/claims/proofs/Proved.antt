@@ -14,7 +14,7 @@ use Rattle.codewords.specs.Operations.{rankNumber}
 use Rattle.codewords.proofs.CodewordLaws.{codeword-valid}
 use Rattle.codewords.proofs.RankLaws.{rowCauses, row-codeword, codeword-passes}
 use Rattle.codewords.proofs.OrderLaws.{incomparable, codeword-injective, complete, order}
-use Rattle.claims.specs.Claims.{rowOf, Incomparable, Complete, Ordered, GatherExact}
+use Rattle.claims.specs.Claims.{rowOf, Incomparable, Complete, Ordered, RankExact}
 
 pub rows-incomparable : (p : Shape) → InLimits p → Incomparable p
 unfolding count
@@ -30,9 +30,9 @@ pub rows-ordered : (p : Shape) → InLimits p → Ordered p
 unfolding count
 rows-ordered p limits m n = order (p .width) (p .chains) (p .sum) m n
 
-pub gather-exact : (p : Shape) → InLimits p → GatherExact p
+pub rank-exact : (p : Shape) → InLimits p → RankExact p
 unfolding count countNumber rankNumber
-gather-exact p limits work row none =
+rank-exact p limits work row none =
     let first = countCauses p (length work) in
     let then = none-then first (rowCauses p row) none (count-numbered p (length work)) in
     let to : firstCause (first ++ rowCauses p row) ≡ 0 → (n : ℕ) × (n < D (p .width) (p .chains) (p .sum)) × (rowOf p n ≡ row) =

@@ -32,7 +32,7 @@ abbrev pub Ordered : Shape → Type 0
 Ordered p = (m n : ℕ) → m < count p → n < count p → (m < n) ↔ Before (rowOf p m) (rowOf p n)
 
 -- "So, past 5, refused exactly if no number has that row": Gather, where 1, 2, 3 and 5 refuse nothing
-abbrev pub GatherExact : Shape → Type 0
-GatherExact p =
+abbrev pub RankExact : Shape → Type 0
+RankExact p =
     (work row : List ℕ) → countNumber p work ≡ 0
     → (rankNumber p work row ≡ 0) ↔ ((n : ℕ) × (n < count p) × (rowOf p n ≡ row))

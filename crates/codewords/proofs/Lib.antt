@@ -3,4 +3,4 @@ pub mod CodewordLaws
 pub mod OrderLaws
 pub mod RankLaws
 pub mod SearchLaws
-pub mod SpreadAnswer
+pub mod UnrankAnswer

@@ -12,7 +12,7 @@ use Rattle.profile.specs.declared.Shape.{Shape}
 use Rattle.counts.specs.Counts.{count}
 use Rattle.counts.specs.Table.{withTable, countCauses}
 use Rattle.codewords.specs.Codeword.{codeword, rank, total}
-use Rattle.codewords.specs.declared.gather.Ranked.{Ranked}
+use Rattle.codewords.specs.declared.ranking.Ranked.{Ranked}
 
 -- "Spread, number to row: 1, 2, 3, 5; 6 output under l bytes; 7 number not below the count"
 unfoldable pub unrankNumber : Shape → ℕ → (work row : List ℕ) → ℕ

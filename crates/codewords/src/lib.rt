@@ -1,7 +1,7 @@
 // Codewords and their numbers: Spread and Gather.
-pub mod gather;
-pub mod spread;
+pub mod ranking;
+pub mod unranking;
 
-pub use gather::Ranked;
-pub use gather::rank;
-pub use spread::unrank;
+pub use ranking::Ranked;
+pub use ranking::rank;
+pub use unranking::unrank;

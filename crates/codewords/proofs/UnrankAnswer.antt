@@ -21,12 +21,12 @@ use Rattle.codewords.specs.Codeword.{codeword}
 use Rattle.codewords.specs.Operations.{unrankNumber, Unranks}
 
 -- the causes before the table is filled
-abbrev pub spreadCauses : Shape → (words bytes : ℕ) → List (Bool × ℕ)
-spreadCauses p words bytes = countCauses p words ++ ((ltb bytes (p .chains), 6) ∷ [])
+abbrev pub unrankCauses : Shape → (words bytes : ℕ) → List (Bool × ℕ)
+unrankCauses p words bytes = countCauses p words ++ ((ltb bytes (p .chains), 6) ∷ [])
 
-module _ (p : Shape) (n : ℕ) (work row : List ℕ) (o : Outcome) (e : outcomeCode o ≡ firstCause (spreadCauses p (length work) (length row))) where
+module _ (p : Shape) (n : ℕ) (work row : List ℕ) (o : Outcome) (e : outcomeCode o ≡ firstCause (unrankCauses p (length work) (length row))) where
   early : List (Bool × ℕ)
-  early = spreadCauses p (length work) (length row)
+  early = unrankCauses p (length work) (length row)
 
   -- all causes: those, and then 7
   causes-split : unrankNumber p n work row ≡ firstCause (early ++ ((leb (count p) n, 7) ∷ []))
@@ -44,20 +44,20 @@ module _ (p : Shape) (n : ℕ) (work row : List ℕ) (o : Outcome) (e : outcomeC
       (under-append 7 (countCauses p (length work)) ((ltb (length row) (p .chains), 6) ∷ []) (count-under p (length work) 7 (omega arith)) (lit< tt, tt))
 
   -- granted so far: the first causes do not hold, and the row has room
-  pub spread-none : o ≡ Granted → firstCause (countCauses p (length work)) ≡ 0
+  pub unrank-none : o ≡ Granted → firstCause (countCauses p (length work)) ≡ 0
   unfolding early
-  spread-none q =
+  unrank-none q =
       none-of-append (countCauses p (length work)) ((ltb (length row) (p .chains), 6) ∷ []) (count-numbered p (length work)) (granted-none early [] o e q) .0
 
-  pub spread-room : o ≡ Granted → p .chains ≤ length row
+  pub unrank-room : o ≡ Granted → p .chains ≤ length row
   unfolding early
-  spread-room q =
+  unrank-room q =
       let rest = none-of-append (countCauses p (length work)) ((ltb (length row) (p .chains), 6) ∷ []) (count-numbered p (length work)) (granted-none early [] o e q) .1 in
       ltb-false (length row) (p .chains) (none-here (ltb (length row) (p .chains)) 6 [] (lit< tt) rest .0)
 
-  pub spread-refused : (r : Refusal) → o ≡ Refused r → Unranks p n work row work row o
+  pub unrank-refused : (r : Refusal) → o ≡ Refused r → Unranks p n work row work row o
   unfolding early
-  spread-refused r q =
+  unrank-refused r q =
       let number : outcomeCode o ≡ unrankNumber p n work row = refused-then early ((leb (count p) n, 7) ∷ []) o e r q ∙ sym causes-split in
       let some : eqb (unrankNumber p n work row) 0 ≡ false = refused-number o (unrankNumber p n work row) r number q in
       let not-seven : eqb (unrankNumber p n work row) 7 ≡ false = ne-eqb (unrankNumber p n work row) 7 (λ z. absurd (omega (arith, early-under, e, number))) in
@@ -73,13 +73,13 @@ module _ (p : Shape) (n : ℕ) (work row : List ℕ) (o : Outcome) (e : outcomeC
     number-then = causes-split ∙ granted-then early ((leb (count p) n, 7) ∷ []) o e early-numbered q
 
     -- the number is not below the count
-    pub spread-seven : count p ≤ n → Unranks p n work row left row (Refused NumberTooLarge)
-    spread-seven h =
+    pub unrank-seven : count p ≤ n → Unranks p n work row left row (Refused NumberTooLarge)
+    unrank-seven h =
         let seven : unrankNumber p n work row ≡ 7 = number-then ∙ rw (le-leb (count p) n h) in
         record { number = sym seven; table = rw seven with-table; written = rw seven }
 
     -- the codeword is written
-    pub spread-granted : (row′ : List ℕ) → n < count p → row′ ≡ codeword (p .width) (p .chains) (p .sum) n ++ drop (p .chains) row → Unranks p n work row left row′ Granted
-    spread-granted row′ h w =
+    pub unrank-granted : (row′ : List ℕ) → n < count p → row′ ≡ codeword (p .width) (p .chains) (p .sum) n ++ drop (p .chains) row → Unranks p n work row left row′ Granted
+    unrank-granted row′ h w =
         let zero′ : unrankNumber p n work row ≡ 0 = number-then ∙ rw (lt-leb (count p) n h) in
         record { number = sym zero′; table = rw zero′ with-table; written = rw zero′ w }

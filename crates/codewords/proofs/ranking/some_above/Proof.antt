@@ -1,4 +1,4 @@
--- `codewords::gather::some_above` meets its contract. The invariant: no length passed is above w − 1.
+-- `codewords::ranking::some_above` meets its contract. The invariant: no length passed is above w − 1.
 use mathlib.Core.Path.{_≡_, refl, sym, _∙_}
 use Prim.Native.Nat.{_-_, _≤_}
 use native.Mathlib.Omega.{arith}
@@ -7,8 +7,8 @@ use denote.Ref.{now}
 use lib.ListN.{length, drop}
 use Rattle.codewords.specs.Operations.{someAbove}
 use Rattle.codewords.proofs.RankLaws.{above-here, above-later, above-end}
-use Rattle.codewords.proofs.gather.some_above.Statement.{statement}
-use Rattle.codewords.proofs.gather.some_above.Tie as tie
+use Rattle.codewords.proofs.ranking.some_above.Statement.{statement}
+use Rattle.codewords.proofs.ranking.some_above.Tie as tie
 
 abbrev Inv-loop : tie.InvT-loop
 Inv-loop width row i₀ i = (i ≤ length row) × (someAbove width row ≡ someAbove width (drop i row))

@@ -1,4 +1,4 @@
--- `codewords::gather::rank_outcome` meets its contract: the causes of Count, and then those of the row, in their order.
+-- `codewords::ranking::rank_outcome` meets its contract: the causes of Count, and then those of the row, in their order.
 use mathlib.Core.Path.{_≡_, _∙_, sym}
 use mathlib.Core.List.{List, [], _++_}
 use Prim.Native.Nat.{ℕ}
@@ -14,8 +14,8 @@ use Rattle.counts.specs.Table.{countCauses}
 use Rattle.counts.proofs.Room.{count-numbered, count-limits}
 use Rattle.codewords.specs.Codeword.{total}
 use Rattle.codewords.proofs.RankLaws.{sumCause, digitCauses, rowCauses}
-use Rattle.codewords.proofs.gather.rank_outcome.Statement.{statement}
-use Rattle.codewords.proofs.gather.rank_outcome.Tie as tie
+use Rattle.codewords.proofs.ranking.rank_outcome.Statement.{statement}
+use Rattle.codewords.proofs.ranking.rank_outcome.Tie as tie
 
 count-outcome-requires : tie.Need-count-outcome-requires
 count-outcome-requires c κs = search needs

@@ -1,4 +1,4 @@
--- `codewords::spread::unrank_outcome` meets its contract: the causes of Count, and then the size of the row.
+-- `codewords::unranking::unrank_outcome` meets its contract: the causes of Count, and then the size of the row.
 use mathlib.Core.List.{[], _∷_}
 use borrow.Author.Tests.{lt-ltb, le-ltb}
 use borrow.Author.Needs.{needs}
@@ -6,8 +6,8 @@ use lib.Dec.{ltb}
 use Rattle.refusal.proofs.Causes.{refused-then, granted-then}
 use Rattle.counts.specs.Table.{countCauses}
 use Rattle.counts.proofs.Room.{count-numbered}
-use Rattle.codewords.proofs.spread.unrank_outcome.Statement.{statement}
-use Rattle.codewords.proofs.spread.unrank_outcome.Tie as tie
+use Rattle.codewords.proofs.unranking.unrank_outcome.Statement.{statement}
+use Rattle.codewords.proofs.unranking.unrank_outcome.Tie as tie
 
 count-outcome-requires : tie.Need-count-outcome-requires
 count-outcome-requires c κs = search needs

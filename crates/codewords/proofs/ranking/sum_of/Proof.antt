@@ -1,4 +1,4 @@
--- `codewords::gather::sum_of` meets its contract. The invariant: the sum with that of the lengths to come is the row's, and it is at most 255 for each length passed.
+-- `codewords::ranking::sum_of` meets its contract. The invariant: the sum with that of the lengths to come is the row's, and it is at most 255 for each length passed.
 use mathlib.Core.Path.{_≡_}
 use Prim.Native.Nat.{_+_, _*_, _-_, _≤_}
 use native.Mathlib.Omega.{arith}
@@ -7,8 +7,8 @@ use denote.Ref.{now}
 use lib.ListN.{length, drop}
 use Rattle.codewords.specs.Codeword.{total}
 use Rattle.codewords.proofs.RankLaws.{total-later, total-end}
-use Rattle.codewords.proofs.gather.sum_of.Statement.{statement}
-use Rattle.codewords.proofs.gather.sum_of.Tie as tie
+use Rattle.codewords.proofs.ranking.sum_of.Statement.{statement}
+use Rattle.codewords.proofs.ranking.sum_of.Tie as tie
 
 abbrev Inv-loop : tie.InvT-loop
 Inv-loop row sum₀ i₀ sum i = (i ≤ length row) × (sum ≤ 255 * i) × (sum + total (drop i row) ≡ total row)

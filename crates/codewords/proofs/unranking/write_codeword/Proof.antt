@@ -1,4 +1,4 @@
--- `codewords::spread::write_codeword` meets its contract. The outer invariant: the lengths written and the codeword of what is left make the whole. The inner one: the shares skipped and the number left make the number.
+-- `codewords::unranking::write_codeword` meets its contract. The outer invariant: the lengths written and the codeword of what is left make the whole. The inner one: the shares skipped and the number left make the number.
 use mathlib.Core.Path.{_≡_, refl, _∙_, ap, sym}
 use mathlib.Core.List.{append-nil, _++_}
 use Prim.Native.Nat.{_^_, ℕ, suc, _+_, _-_, _*_, _≤_, _<_}
@@ -17,8 +17,8 @@ use Rattle.counts.proofs.NextCell.{row-small}
 use Rattle.counts.specs.Counts.{sumTo, share, D}
 use Rattle.codewords.specs.Codeword.{place as search-from, codeword}
 use Rattle.codewords.proofs.SearchLaws.{still, skipped, searched, found, number-next, row-next, behind-next, holds, too-small, taken-off}
-use Rattle.codewords.proofs.spread.write_codeword.Statement.{statement}
-use Rattle.codewords.proofs.spread.write_codeword.Tie as tie
+use Rattle.codewords.proofs.unranking.write_codeword.Statement.{statement}
+use Rattle.codewords.proofs.unranking.write_codeword.Tie as tie
 
 abbrev Inv-loop2 : tie.InvT-loop2
 Inv-loop2 table chains width sum row n₀ left place above j₀ n j = (n ≡ toWords 5 (value n)) × (sumTo (share (D width (chains - 1 - place)) left) j + value n ≡ value n₀)

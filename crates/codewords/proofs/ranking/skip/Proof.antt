@@ -1,4 +1,4 @@
--- `codewords::gather::skip` meets its contract. The invariant: the number has the shares passed added.
+-- `codewords::ranking::skip` meets its contract. The invariant: the number has the shares passed added.
 use mathlib.Core.Path.{_≡_, ap}
 use Prim.Native.Nat.{_+_, _-_, _≤_}
 use native.Mathlib.Omega.{arith}
@@ -7,8 +7,8 @@ use denote.Ref.{now}
 use Rattle.words.specs.Number.{value, toWords}
 use Rattle.counts.specs.Counts.{sumTo}
 use Rattle.codewords.proofs.RankLaws.{downFrom, skip-begins, skip-next}
-use Rattle.codewords.proofs.gather.skip.Statement.{statement}
-use Rattle.codewords.proofs.gather.skip.Tie as tie
+use Rattle.codewords.proofs.ranking.skip.Statement.{statement}
+use Rattle.codewords.proofs.ranking.skip.Tie as tie
 
 abbrev Inv-loop : tie.InvT-loop
 Inv-loop table above digit n₀ j₀ n j = (j ≤ digit) × (n ≡ toWords 5 (value n₀ + sumTo (downFrom table above) j))

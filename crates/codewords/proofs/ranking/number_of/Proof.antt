@@ -1,4 +1,4 @@
--- `codewords::gather::number_of` meets its contract. The invariant: the number so far, with that of the lengths to come, is the number of the row.
+-- `codewords::ranking::number_of` meets its contract. The invariant: the number so far, with that of the lengths to come, is the number of the row.
 use Prim.Native.Nat.{_+_, _*_, _-_, _≤_}
 use native.Mathlib.Omega.{arith}
 use borrow.Author.Needs.{needs}
@@ -6,8 +6,8 @@ use denote.Ref.{now}
 use lib.ListN.{length, getD}
 use Rattle.counts.proofs.NextCell.{row-small}
 use Rattle.codewords.proofs.RankLaws.{cell-within, Left, left-begins, digit-within, number-words, skipped-small, left-next, left-ends}
-use Rattle.codewords.proofs.gather.number_of.Statement.{statement}
-use Rattle.codewords.proofs.gather.number_of.Tie as tie
+use Rattle.codewords.proofs.ranking.number_of.Statement.{statement}
+use Rattle.codewords.proofs.ranking.number_of.Tie as tie
 
 abbrev Inv-loop : tie.InvT-loop
 Inv-loop table row width sum n₀ left₀ place₀ n left place = Left width sum row place left n

@@ -1,4 +1,4 @@
--- `codewords::gather::rank` meets its contract: refused, nothing is written; granted, the row is a codeword, and its number comes from the table.
+-- `codewords::ranking::rank` meets its contract: refused, nothing is written; granted, the row is a codeword, and its number comes from the table.
 use mathlib.Core.Path.{_≡_}
 use mathlib.Core.List.{List}
 use Prim.Native.Nat.{ℕ, _+_}
@@ -15,8 +15,8 @@ use Rattle.counts.proofs.Room.{count-limits, count-room}
 use Rattle.counts.proofs.TableLaws.{above-row}
 use Rattle.codewords.specs.Codeword.{IsCodeword}
 use Rattle.codewords.proofs.RankLaws.{rowCauses, row-codeword, rank-none, rank-refused, rank-granted}
-use Rattle.codewords.proofs.gather.rank.Statement.{statement}
-use Rattle.codewords.proofs.gather.rank.Tie as tie
+use Rattle.codewords.proofs.ranking.rank.Statement.{statement}
+use Rattle.codewords.proofs.ranking.rank.Tie as tie
 
 rank-outcome-requires : tie.Need-rank-outcome-requires
 rank-outcome-requires c κs = search needs

@@ -1,4 +1,4 @@
--- `codewords::spread::unrank` meets its contract: refused, nothing is written; past the table, the number is compared with the count.
+-- `codewords::unranking::unrank` meets its contract: refused, nothing is written; past the table, the number is compared with the count.
 use mathlib.Core.Path.{_≡_, _∙_, ap, sym}
 use Prim.Native.Nat.{_+_, _*_}
 use native.Mathlib.Omega.{arith}
@@ -20,9 +20,9 @@ use Rattle.counts.proofs.Answer.{last-cell}
 use Rattle.counts.proofs.CountLaws.{D-small}
 use Rattle.counts.proofs.Room.{count-limits, count-room, table-small}
 use Rattle.counts.proofs.TableLaws.{row-end, above-row}
-use Rattle.codewords.proofs.SpreadAnswer.{spreadCauses, spread-none, spread-room, spread-refused, spread-seven, spread-granted}
-use Rattle.codewords.proofs.spread.unrank.Statement.{statement}
-use Rattle.codewords.proofs.spread.unrank.Tie as tie
+use Rattle.codewords.proofs.UnrankAnswer.{unrankCauses, unrank-none, unrank-room, unrank-refused, unrank-seven, unrank-granted}
+use Rattle.codewords.proofs.unranking.unrank.Statement.{statement}
+use Rattle.codewords.proofs.unranking.unrank.Tie as tie
 
 unrank-outcome-requires : tie.Need-unrank-outcome-requires
 unrank-outcome-requires c κs = search needs
@@ -41,14 +41,14 @@ abbrev shape : tie.After-enum-told2 → Shape
 shape g = start g .args .p
 
 outcome-is : (g : tie.After-enum-told2)
-    → outcomeCode (g .before .before .unrank-outcome .result) ≡ firstCause (spreadCauses (shape g) (length (now (start g .args .table))) (length (now (start g .args .row))))
+    → outcomeCode (g .before .before .unrank-outcome .result) ≡ firstCause (unrankCauses (shape g) (length (now (start g .args .table))) (length (now (start g .args .row))))
 outcome-is g = g .before .before .unrank-outcome .ensures
 
 granted-is : (g : tie.After-enum-told2) → g .before .before .unrank-outcome .result ≡ Granted
 granted-is g = g .enum-told2 .given .1
 
 none : (g : tie.After-enum-told2) → firstCause (countCauses (shape g) (length (now (start g .args .table)))) ≡ 0
-none g = spread-none (shape g) 0 (now (start g .args .table)) (now (start g .args .row)) _ (outcome-is g) (granted-is g)
+none g = unrank-none (shape g) 0 (now (start g .args .table)) (now (start g .args .row)) _ (outcome-is g) (granted-is g)
 
 limits : (g : tie.After-enum-told2) → InLimits (shape g)
 limits g = count-limits (shape g) _ (none g)
@@ -107,14 +107,14 @@ write-codeword-requires c κs =
     let filled = compared .before .before .before .before .before in
     let g = filled .before .before .before .before .before in
     let h = limits g in (
-      (omega (arith, h .wide), h .narrow, h .few-chains, sum-small (shape g) h, spread-room (shape g) 0 (now (start g .args .table)) (now (start g .args .row)) _ (outcome-is g) (granted-is g)),
+      (omega (arith, h .wide), h .narrow, h .few-chains, sum-small (shape g) h, unrank-room (shape g) 0 (now (start g .args .table)) (now (start g .args .row)) _ (outcome-is g) (granted-is g)),
       (above-row (shape g .width) (shape g .sum) (shape g .chains + 1) _ _ (filled .fill .ensures), ltb-true (value (start g .args .number)) (count (shape g)) (sym (compared-is compared) ∙ c .before .before .if1 .taken)),
     )
 
 returns : tie.Need-returns
 returns c =
     let start = c .before .before .before .before .before in
-    spread-refused (start .args .p) (value (start .args .number)) (now (start .args .table)) (now (start .args .row)) _ (c .before .before .unrank-outcome .ensures) _ (c .enum-told .given .1)
+    unrank-refused (start .args .p) (value (start .args .number)) (now (start .args .table)) (now (start .args .row)) _ (c .before .before .unrank-outcome .ensures) _ (c .enum-told .given .1)
 
 same-length : tie.Need-same-length
 same-length c = c .before .before .before .before .before .before .before .before .before .before .before .fill .kept .0
@@ -129,7 +129,7 @@ returns-2 c =
     let filled = compared .before .before .before .before .before in
     let g = filled .before .before .before .before .before in
     let below = ltb-true (value (start g .args .number)) (count (shape g)) (sym (compared-is compared) ∙ written .before .before .before .if1 .taken) in
-    spread-granted (shape g) (value (start g .args .number)) (now (start g .args .table)) (now (start g .args .row)) _ (outcome-is g) (granted-is g) _ (filled .fill .ensures) _ below (written .write-codeword .ensures)
+    unrank-granted (shape g) (value (start g .args .number)) (now (start g .args .table)) (now (start g .args .row)) _ (outcome-is g) (granted-is g) _ (filled .fill .ensures) _ below (written .write-codeword .ensures)
 
 same-length-3 : tie.Need-same-length-3
 same-length-3 c = c .before .before .before .before .before .before .fill .kept .0
@@ -140,7 +140,7 @@ returns-3 c =
     let filled = compared .before .before .before .before .before in
     let g = filled .before .before .before .before .before in
     let above = ltb-false (value (start g .args .number)) (count (shape g)) (sym (compared-is compared) ∙ c .if1 .left) in
-    spread-seven (shape g) (value (start g .args .number)) (now (start g .args .table)) (now (start g .args .row)) _ (outcome-is g) (granted-is g) _ (filled .fill .ensures) above
+    unrank-seven (shape g) (value (start g .args .number)) (now (start g .args .table)) (now (start g .args .row)) _ (outcome-is g) (granted-is g) _ (filled .fill .ensures) above
 
 pub unrank-spec : {M : Type 1} → statement M
 unrank-spec =
