@@ -126,13 +126,3 @@ D-small w i t one small few = lt-of-le-of-lt (D-bound-16 w i t small few) (lit< 
 pub D-sum-small : (w i t u : ℕ) → 1 ≤ w → w ≤ 16 → i < 40 → D w (suc i) t + D w i u < 2 ^ 160
 D-sum-small w i t u one small few =
     lt-of-le-of-lt (add-le-add (D-bound-16 w (suc i) t small few) (D-bound-16 w i u small (omega arith))) (lit< tt)
-
--- no i lengths below w have a sum above i × (w − 1)
-pub D-over : (w i t : ℕ) → i * (w - 1) < t → D w i t ≡ 0
-unfolding D
-D-over w zero zero h = omega arith
-D-over w zero (suc t) h = refl
-D-over w (suc i) t h =
-    let more : suc i * (w - 1) ≡ i * (w - 1) + (w - 1) = suc-mul i (w - 1) in
-    let none : (j : ℕ) → j < w → share (D w i) t j ≤ 0 = λ j less. share-le (D w i) 0 t j (λ low. le-of-eq (D-over w i (t - j) (omega arith))) in
-    omega (arith, sumTo-le (share (D w i) t) 0 w none)

@@ -21,10 +21,6 @@ pub numbered-append : (first more : List (Bool × ℕ)) → Numbered first → N
 numbered-append [] more p q = q
 numbered-append (cause ∷ first) more p q = (p .0, numbered-append first more (p .1) q)
 
--- a cause that holds gives its number
-pub cause-holds : (test : Bool) (n : ℕ) (more : List (Bool × ℕ)) → test ≡ true → firstCause ((test, n) ∷ more) ≡ n
-cause-holds test n more e = rw e
-
 -- a cause that does not hold is passed over
 pub cause-passed : (test : Bool) (n : ℕ) (more : List (Bool × ℕ)) → test ≡ false → firstCause ((test, n) ∷ more) ≡ firstCause more
 cause-passed test n more e = rw e

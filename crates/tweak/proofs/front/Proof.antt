@@ -1,0 +1,53 @@
+-- `tweak::front` meets its contract. The invariant: the first i bytes are copied, and the others are zero.
+use mathlib.Core.Path.{_≡_, refl, _∙_}
+use mathlib.Core.List.{_++_, append-nil}
+use Prim.Native.Nat.{_-_, _≤_}
+use native.Mathlib.Omega.{arith}
+use borrow.Author.Needs.{needs}
+use lib.ListN.{length, take, replicate}
+use Rattle.words.proofs.Fill.{copy-next}
+use Rattle.tweak.proofs.front.Statement.{statement}
+use Rattle.tweak.proofs.front.Tie as tie
+
+abbrev Inv-loop : tie.InvT-loop
+Inv-loop digest out₀ i₀ out i = (i ≤ 16) × (out ≡ take i digest ++ replicate (16 - i) 0)
+
+abbrev μ-loop : tie.MeasureT-loop
+μ-loop digest out₀ i₀ out i = 16 - i
+
+loop-holds : tie.Need-loop-holds Inv-loop μ-loop
+loop-holds c = (omega arith, refl)
+
+array-read-out : tie.Need-array-read-out Inv-loop μ-loop
+array-read-out c = search needs
+
+array-write-out : tie.Need-array-write-out Inv-loop μ-loop
+array-write-out c = search needs
+
+add-i : tie.Need-add-i Inv-loop μ-loop
+add-i c = search needs
+
+loop-less : tie.Need-loop-less Inv-loop μ-loop
+loop-less c = search needs
+
+loop-again : tie.Need-loop-again Inv-loop μ-loop
+loop-again c =
+    let long : length (c .before .before .args .t1) ≡ 32 = search needs in
+    (omega arith, copy-next (c .before .before .args .t1) 0 (c .before .loop .i) 16 _ (omega arith) (omega arith) (c .before .loop .inv .1))
+
+returns : tie.Need-returns Inv-loop μ-loop
+returns c = let all : c .before .loop .i ≡ 16 = omega arith in rw all at (c .before .loop .inv .1) ∙ append-nil _
+
+pub front-spec : {M : Type 1} → statement M
+front-spec =
+    tie.close
+    (tie.spec
+    Inv-loop
+    μ-loop
+    loop-holds
+    array-read-out
+    array-write-out
+    add-i
+    loop-less
+    loop-again
+    returns)

@@ -1,0 +1,2 @@
+-- Addresses and the tweaked hash.
+pub mod Tweak
