@@ -3,7 +3,7 @@ use Prim.Native.Nat.{ℕ, _+_, _-_, _*_, _/_, _%_, _^_}
 use lib.Bits.{bitAnd, bitOr, bitXor}
 
 infixl 65 _⊞_
--- 3.2, 1: addition of words, modulo 2^32
+-- 3.2, 2: addition of words, modulo 2^32
 unfoldable pub _⊞_ : ℕ → ℕ → ℕ
 x ⊞ y = (x + y) % 2 ^ 32
 
@@ -15,7 +15,7 @@ complement x = 2 ^ 32 - 1 - x
 unfoldable pub shr : ℕ → ℕ → ℕ
 shr n x = x / 2 ^ n
 
--- 3.2, 2: x << n discards the left-most n bits
+-- 2.2.2: x << n discards the left-most n bits
 unfoldable pub shl : ℕ → ℕ → ℕ
 shl n x = x * 2 ^ n % 2 ^ 32
 
