@@ -4,7 +4,7 @@
 pub struct Case(pub u32, pub u32, pub u32, pub usize);
 
 // The same, how many bytes are lent, and the number.
-pub struct SpreadCase(
+pub struct UnrankCase(
     pub u32,
     pub u32,
     pub u32,
@@ -14,7 +14,7 @@ pub struct SpreadCase(
 );
 
 // The same, and a row in so many first bytes.
-pub struct GatherCase(pub u32, pub u32, pub u32, pub usize, pub usize, pub [u8; 4]);
+pub struct RankCase(pub u32, pub u32, pub u32, pub usize, pub usize, pub [u8; 4]);
 
 // Shapes of every kind, with three words more than the table has.
 pub fn shape_case(i: usize) -> Case {
@@ -59,46 +59,46 @@ pub fn count_case(i: usize) -> Case {
 }
 
 // So for Spread.
-pub fn spread_case(i: usize) -> SpreadCase {
+pub fn unrank_case(i: usize) -> UnrankCase {
     match i {
-        0 => SpreadCase(41, 3, 3, 840, 41, [0, 0, 0, 0, 0]),
-        1 => SpreadCase(3, 17, 3, 80, 3, [0, 0, 0, 0, 0]),
-        2 => SpreadCase(3, 3, 7, 160, 3, [0, 0, 0, 0, 0]),
-        3 => SpreadCase(3, 3, 3, 79, 3, [0, 0, 0, 0, 0]),
-        4 => SpreadCase(3, 3, 3, 80, 2, [0, 0, 0, 0, 0]),
-        5 => SpreadCase(3, 3, 3, 80, 3, [6, 0, 0, 0, 0]),
-        6 => SpreadCase(3, 3, 3, 80, 3, [7, 0, 0, 0, 0]),
-        7 => SpreadCase(3, 3, 3, 80, 3, [0, 1, 0, 0, 0]),
-        8 => SpreadCase(3, 3, 3, 80, 3, [0, 0, 0, 0, 1]),
-        9 => SpreadCase(3, 3, 3, 80, 3, [0xffffffff; 5]),
-        10 => SpreadCase(41, 17, 700, 2, 2, [7, 0, 0, 0, 0]),
-        11 => SpreadCase(3, 17, 700, 2, 2, [7, 0, 0, 0, 0]),
-        12 => SpreadCase(3, 3, 7, 2, 2, [7, 0, 0, 0, 0]),
-        13 => SpreadCase(3, 3, 3, 79, 2, [7, 0, 0, 0, 0]),
-        14 => SpreadCase(3, 3, 3, 80, 2, [7, 0, 0, 0, 0]),
-        _ => SpreadCase(3, 3, 3, 80, 0, [7, 0, 0, 0, 0]),
+        0 => UnrankCase(41, 3, 3, 840, 41, [0, 0, 0, 0, 0]),
+        1 => UnrankCase(3, 17, 3, 80, 3, [0, 0, 0, 0, 0]),
+        2 => UnrankCase(3, 3, 7, 160, 3, [0, 0, 0, 0, 0]),
+        3 => UnrankCase(3, 3, 3, 79, 3, [0, 0, 0, 0, 0]),
+        4 => UnrankCase(3, 3, 3, 80, 2, [0, 0, 0, 0, 0]),
+        5 => UnrankCase(3, 3, 3, 80, 3, [6, 0, 0, 0, 0]),
+        6 => UnrankCase(3, 3, 3, 80, 3, [7, 0, 0, 0, 0]),
+        7 => UnrankCase(3, 3, 3, 80, 3, [0, 1, 0, 0, 0]),
+        8 => UnrankCase(3, 3, 3, 80, 3, [0, 0, 0, 0, 1]),
+        9 => UnrankCase(3, 3, 3, 80, 3, [0xffffffff; 5]),
+        10 => UnrankCase(41, 17, 700, 2, 2, [7, 0, 0, 0, 0]),
+        11 => UnrankCase(3, 17, 700, 2, 2, [7, 0, 0, 0, 0]),
+        12 => UnrankCase(3, 3, 7, 2, 2, [7, 0, 0, 0, 0]),
+        13 => UnrankCase(3, 3, 3, 79, 2, [7, 0, 0, 0, 0]),
+        14 => UnrankCase(3, 3, 3, 80, 2, [7, 0, 0, 0, 0]),
+        _ => UnrankCase(3, 3, 3, 80, 0, [7, 0, 0, 0, 0]),
     }
 }
 
 // So for Gather.
-pub fn gather_case(i: usize) -> GatherCase {
+pub fn rank_case(i: usize) -> RankCase {
     match i {
-        0 => GatherCase(3, 17, 3, 80, 3, [1, 1, 1, 0]),
-        1 => GatherCase(3, 3, 7, 160, 3, [2, 2, 2, 0]),
-        2 => GatherCase(3, 3, 3, 79, 3, [1, 1, 1, 0]),
-        3 => GatherCase(3, 3, 3, 80, 3, [1, 1, 1, 0]),
-        4 => GatherCase(3, 3, 3, 80, 0, [0, 0, 0, 0]),
-        5 => GatherCase(3, 3, 3, 80, 2, [1, 2, 0, 0]),
-        6 => GatherCase(3, 3, 3, 80, 4, [1, 1, 1, 0]),
-        7 => GatherCase(3, 3, 3, 80, 3, [3, 0, 0, 0]),
-        8 => GatherCase(3, 3, 3, 80, 3, [0, 0, 3, 0]),
-        9 => GatherCase(3, 3, 3, 80, 3, [1, 2, 1, 0]),
-        10 => GatherCase(3, 3, 3, 80, 3, [0, 2, 0, 0]),
-        11 => GatherCase(41, 17, 700, 2, 2, [3, 9, 0, 0]),
-        12 => GatherCase(3, 17, 700, 2, 2, [3, 9, 0, 0]),
-        13 => GatherCase(3, 3, 7, 2, 2, [3, 9, 0, 0]),
-        14 => GatherCase(3, 3, 3, 79, 2, [3, 9, 0, 0]),
-        15 => GatherCase(3, 3, 3, 80, 2, [3, 9, 0, 0]),
-        _ => GatherCase(3, 3, 3, 80, 3, [0, 0, 255, 0]),
+        0 => RankCase(3, 17, 3, 80, 3, [1, 1, 1, 0]),
+        1 => RankCase(3, 3, 7, 160, 3, [2, 2, 2, 0]),
+        2 => RankCase(3, 3, 3, 79, 3, [1, 1, 1, 0]),
+        3 => RankCase(3, 3, 3, 80, 3, [1, 1, 1, 0]),
+        4 => RankCase(3, 3, 3, 80, 0, [0, 0, 0, 0]),
+        5 => RankCase(3, 3, 3, 80, 2, [1, 2, 0, 0]),
+        6 => RankCase(3, 3, 3, 80, 4, [1, 1, 1, 0]),
+        7 => RankCase(3, 3, 3, 80, 3, [3, 0, 0, 0]),
+        8 => RankCase(3, 3, 3, 80, 3, [0, 0, 3, 0]),
+        9 => RankCase(3, 3, 3, 80, 3, [1, 2, 1, 0]),
+        10 => RankCase(3, 3, 3, 80, 3, [0, 2, 0, 0]),
+        11 => RankCase(41, 17, 700, 2, 2, [3, 9, 0, 0]),
+        12 => RankCase(3, 17, 700, 2, 2, [3, 9, 0, 0]),
+        13 => RankCase(3, 3, 7, 2, 2, [3, 9, 0, 0]),
+        14 => RankCase(3, 3, 3, 79, 2, [3, 9, 0, 0]),
+        15 => RankCase(3, 3, 3, 80, 2, [3, 9, 0, 0]),
+        _ => RankCase(3, 3, 3, 80, 3, [0, 0, 255, 0]),
     }
 }

@@ -1,8 +1,8 @@
 // Count, Spread and Gather: shapes of every kind, each refusal, and which of several causes is told.
 use super::cases::count_case;
-use super::cases::gather_case;
+use super::cases::rank_case;
 use super::cases::shape_case;
-use super::cases::spread_case;
+use super::cases::unrank_case;
 use super::hash::least;
 use super::line::Line;
 use super::message::first;
@@ -21,8 +21,8 @@ pub fn run() {
 fn run_with(table: &mut [u32]) {
     shapes(table);
     count_refusals(table);
-    spread_refusals(table);
-    gather_refusals(table);
+    unrank_refusals(table);
+    rank_refusals(table);
 }
 
 fn shape(chains: u32, width: u32, sum: u32) -> Shape {
@@ -51,29 +51,29 @@ fn count_refusals(table: &mut [u32]) {
     }
 }
 
-fn spread_refusals(table: &mut [u32]) {
+fn unrank_refusals(table: &mut [u32]) {
     let mut i = 0;
     while i < 16 {
-        let c = spread_case(i);
+        let c = unrank_case(i);
         let number = c.5;
-        spread(shape(c.0, c.1, c.2), number, c.3, c.4, table);
+        unrank(shape(c.0, c.1, c.2), number, c.3, c.4, table);
         i += 1;
     }
 }
 
 // The rows of 41 and 40 lengths stand apart. 600, the sum of the last one, and 88 are the same modulo 256.
-fn gather_refusals(table: &mut [u32]) {
-    gather(shape(41, 16, 0), &[0; 41], 210, table);
+fn rank_refusals(table: &mut [u32]) {
+    rank(shape(41, 16, 0), &[0; 41], 210, table);
     short_rows(table);
-    gather(shape(40, 16, 88), &[15; 40], 18245, table);
+    rank(shape(40, 16, 88), &[15; 40], 18245, table);
 }
 
 fn short_rows(table: &mut [u32]) {
     let mut i = 0;
     while i < 17 {
-        let c = gather_case(i);
+        let c = rank_case(i);
         let row = c.5;
-        gather_first(shape(c.0, c.1, c.2), &row, c.4, c.3, table);
+        rank_first(shape(c.0, c.1, c.2), &row, c.4, c.3, table);
         i += 1;
     }
 }
@@ -83,7 +83,7 @@ fn test_shape(p: Shape, words: usize, table: &mut [u32]) {
     let n = count(p, words, table);
     test_numbers(p, n, words, table);
     let chains = p.chains as usize;
-    spread(p, n, words, chains + 3, table);
+    unrank(p, n, words, chains + 3, table);
 }
 
 // All numbers where they are few.
@@ -139,8 +139,8 @@ fn part_of(n: [u32; 5], m: u32) -> [u32; 5] {
 // The row of a number, and the number of that row.
 fn round_trip(p: Shape, number: [u32; 5], words: usize, table: &mut [u32]) {
     let chains = p.chains as usize;
-    let row = spread(p, number, words, chains + 3, table);
-    gather_first(p, &row, chains, words, table);
+    let row = unrank(p, number, words, chains + 3, table);
+    rank_first(p, &row, chains, words, table);
 }
 
 // The operation's name, the shape, and how many words are lent.
@@ -184,15 +184,15 @@ fn count_in(p: Shape, work: &mut [u32]) -> [u32; 5] {
 }
 
 // Spread, with so many stale words and bytes lent; the bytes are handed back.
-fn spread(p: Shape, number: [u32; 5], words: usize, bytes: usize, table: &mut [u32]) -> [u8; 48] {
+fn unrank(p: Shape, number: [u32; 5], words: usize, bytes: usize, table: &mut [u32]) -> [u8; 48] {
     let mut row = [0u8; 48];
     let n = least(words, table.len());
     let m = least(bytes, 48);
-    spread_in(p, number, &mut table[..n], &mut row[..m]);
+    unrank_in(p, number, &mut table[..n], &mut row[..m]);
     row
 }
 
-fn spread_in(p: Shape, number: [u32; 5], work: &mut [u32], row: &mut [u8]) {
+fn unrank_in(p: Shape, number: [u32; 5], work: &mut [u32], row: &mut [u8]) {
     let line = call_line(b"spread", p, work.len())
         .text(b", ")
         .decimal(row.len())
@@ -205,18 +205,18 @@ fn spread_in(p: Shape, number: [u32; 5], work: &mut [u32], row: &mut [u8]) {
 }
 
 // Gather, with so many stale words lent.
-fn gather(p: Shape, row: &[u8], words: usize, table: &mut [u32]) {
+fn rank(p: Shape, row: &[u8], words: usize, table: &mut [u32]) {
     let n = least(words, table.len());
-    gather_in(p, row, &mut table[..n]);
+    rank_in(p, row, &mut table[..n]);
 }
 
 // Gather, with the first n bytes as the row.
-fn gather_first(p: Shape, bytes: &[u8], n: usize, words: usize, table: &mut [u32]) {
+fn rank_first(p: Shape, bytes: &[u8], n: usize, words: usize, table: &mut [u32]) {
     let length = least(n, bytes.len());
-    gather(p, first(bytes, length), words, table);
+    rank(p, first(bytes, length), words, table);
 }
 
-fn gather_in(p: Shape, row: &[u8], work: &mut [u32]) {
+fn rank_in(p: Shape, row: &[u8], work: &mut [u32]) {
     let line = call_line(b"gather", p, work.len()).text(b", row ").hex(row);
     make_stale_words(work);
     let answer = codewords::rank(p, row, work);

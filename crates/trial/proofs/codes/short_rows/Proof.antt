@@ -15,17 +15,17 @@ abbrev μ-loop : tie.MeasureT-loop
 loop-holds : tie.Need-loop-holds Inv-loop μ-loop
 loop-holds c = search needs
 
-gather-case-requires : tie.Need-gather-case-requires Inv-loop μ-loop
-gather-case-requires c κs = search needs
+rank-case-requires : tie.Need-rank-case-requires Inv-loop μ-loop
+rank-case-requires c κs = search needs
 
 shape-requires : tie.Need-shape-requires Inv-loop μ-loop
 shape-requires c κs = search needs
 
-slice-aggregate-gather-first : tie.Need-slice-aggregate-gather-first Inv-loop μ-loop
-slice-aggregate-gather-first c = search needs
+slice-aggregate-rank-first : tie.Need-slice-aggregate-rank-first Inv-loop μ-loop
+slice-aggregate-rank-first c = search needs
 
-gather-first-requires : tie.Need-gather-first-requires Inv-loop μ-loop
-gather-first-requires c κs = search needs
+rank-first-requires : tie.Need-rank-first-requires Inv-loop μ-loop
+rank-first-requires c κs = search needs
 
 add-i : tie.Need-add-i Inv-loop μ-loop
 add-i c = search needs
@@ -49,10 +49,10 @@ short-rows-spec =
     Inv-loop
     μ-loop
     loop-holds
-    gather-case-requires
+    rank-case-requires
     shape-requires
-    slice-aggregate-gather-first
-    gather-first-requires
+    slice-aggregate-rank-first
+    rank-first-requires
     add-i
     loop-less
     loop-again

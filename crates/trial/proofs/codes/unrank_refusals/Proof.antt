@@ -1,10 +1,10 @@
--- `spread_refusals` is safe and ends: a call keeps the table's length, and the loop counts up to the number of cases.
+-- `unrank_refusals` is safe and ends: a call keeps the table's length, and the loop counts up to the number of cases.
 use mathlib.Core.Path.{_≡_}
 use Prim.Native.Nat.{_-_}
 use lib.ListN.{length}
 use borrow.Author.Needs.{needs}
-use Rattle.trial.proofs.codes.spread_refusals.Statement.{statement}
-use Rattle.trial.proofs.codes.spread_refusals.Tie as tie
+use Rattle.trial.proofs.codes.unrank_refusals.Statement.{statement}
+use Rattle.trial.proofs.codes.unrank_refusals.Tie as tie
 
 abbrev Inv-loop : tie.InvT-loop
 Inv-loop table₀ i₀ table i = length table ≡ length table₀
@@ -15,14 +15,14 @@ abbrev μ-loop : tie.MeasureT-loop
 loop-holds : tie.Need-loop-holds Inv-loop μ-loop
 loop-holds c = search needs
 
-spread-case-requires : tie.Need-spread-case-requires Inv-loop μ-loop
-spread-case-requires c κs = search needs
+unrank-case-requires : tie.Need-unrank-case-requires Inv-loop μ-loop
+unrank-case-requires c κs = search needs
 
 shape-requires : tie.Need-shape-requires Inv-loop μ-loop
 shape-requires c κs = search needs
 
-spread-requires : tie.Need-spread-requires Inv-loop μ-loop
-spread-requires c κs = search needs
+unrank-requires : tie.Need-unrank-requires Inv-loop μ-loop
+unrank-requires c κs = search needs
 
 add-i : tie.Need-add-i Inv-loop μ-loop
 add-i c = search needs
@@ -39,16 +39,16 @@ same-length c = search needs
 returns : tie.Need-returns Inv-loop μ-loop
 returns c = search needs
 
-pub spread-refusals-spec : {M : Type 1} → statement M
-spread-refusals-spec =
+pub unrank-refusals-spec : {M : Type 1} → statement M
+unrank-refusals-spec =
     tie.close
     (tie.spec
     Inv-loop
     μ-loop
     loop-holds
-    spread-case-requires
+    unrank-case-requires
     shape-requires
-    spread-requires
+    unrank-requires
     add-i
     loop-less
     loop-again
