@@ -14,8 +14,8 @@ import math
 import sys
 
 import zarosnik
+from trial_lines import MASK, main, stale_bytes, stale_words, upper_hex, work_line
 
-MASK = 0xFFFFFFFF
 MOST = 65535
 REFUSED = 18
 
@@ -134,10 +134,6 @@ STALE_WORDS = [
     0xFFFFFFFF,
     0x80000001,
 ]
-
-
-def upper_hex(data):
-    return data.hex().upper()
 
 
 def message_line(label, outcome, data):
@@ -266,45 +262,21 @@ GATHER_REFUSALS = [
 ]
 
 
-def stale_words(count):
-    return [0xA5000000 + i for i in range(count)]
-
-
-def stale_bytes(count):
-    return bytes(160 + i % 64 for i in range(count))
-
-
-def work_digest(words):
-    """SHA-256 over pieces of 16,000 words, most significant byte first, each behind the digest of
-    the piece before it, and the first behind 32 zeros."""
-    digest = bytes(32)
-    for at in range(0, len(words), 16000):
-        piece = b"".join(word.to_bytes(4, "big") for word in words[at : at + 16000])
-        digest = hashlib.sha256(digest + piece).digest()
-    return digest
-
-
-def call_line(name, shape, words, given, outcome, answer, work):
-    l, w, s = shape
-    call = f"{name} l {l}, w {w}, s {s}, {words} words{given}"
-    return f"{call}: outcome {outcome}, {answer}, work {upper_hex(work_digest(work))}"
-
-
 def count_line(shape, words):
     outcome, count, work = zarosnik.count(*shape, stale_words(words))
-    return call_line("count", shape, words, "", outcome, f"count {count:040X}", work)
+    return work_line("count", shape, [f"{words} words"], outcome, f"count {count:040X}", work)
 
 
 def spread_line(shape, number, words, size):
     outcome, row, work = zarosnik.spread(*shape, number, stale_words(words), stale_bytes(size))
-    given = f", {size} bytes, number {number:040X}"
-    return call_line("spread", shape, words, given, outcome, f"row {upper_hex(row)}", work)
+    given = [f"{words} words", f"{size} bytes", f"number {number:040X}"]
+    return work_line("spread", shape, given, outcome, f"row {upper_hex(row)}", work)
 
 
 def gather_line(shape, row, words):
     outcome, number, work = zarosnik.gather(*shape, row, stale_words(words))
-    given = f", row {upper_hex(row)}"
-    return call_line("gather", shape, words, given, outcome, f"number {number:040X}", work)
+    given = [f"{words} words", f"row {upper_hex(row)}"]
+    return work_line("gather", shape, given, outcome, f"number {number:040X}", work)
 
 
 def some_numbers(count):
@@ -346,35 +318,5 @@ def lines():
     yield from code_lines()
 
 
-def check(path, expected):
-    """Whether the file is the expected output; where it is not, says which line differs first."""
-    with open(path, "rb") as file:
-        found = file.read()
-    if found == expected:
-        return True
-    wanted_lines = expected.splitlines(keepends=True)
-    found_lines = found.splitlines(keepends=True)
-    for i in range(max(len(wanted_lines), len(found_lines))):
-        wanted = wanted_lines[i] if i < len(wanted_lines) else b"(no line)"
-        got = found_lines[i] if i < len(found_lines) else b"(no line)"
-        if wanted != got:
-            print(f"{path}: line {i + 1} differs", file=sys.stderr)
-            print(f"expected: {wanted!r}", file=sys.stderr)
-            print(f"found:    {got!r}", file=sys.stderr)
-            break
-    return False
-
-
-def main(arguments):
-    if arguments and (len(arguments) != 2 or arguments[0] != "--check"):
-        print("usage: expected_trial.py [--check FILE]", file=sys.stderr)
-        return 2
-    expected = "".join(line + "\n" for line in lines()).encode("ascii")
-    if arguments:
-        return 0 if check(arguments[1], expected) else 1
-    sys.stdout.buffer.write(expected)
-    return 0
-
-
 if __name__ == "__main__":
-    sys.exit(main(sys.argv[1:]))
+    sys.exit(main(lines(), sys.argv))

@@ -10,11 +10,11 @@ use Rattle.profile.specs.declared.Shape.{Shape}
 use Rattle.counts.specs.Counts.{D, count}
 use Rattle.counts.specs.Table.{countCauses, countNumber}
 use Rattle.counts.proofs.Room.{count-numbered}
-use Rattle.codewords.specs.Operations.{rankNumber}
+use Rattle.codewords.specs.Operations.{rowOf, rankNumber}
 use Rattle.codewords.proofs.CodewordLaws.{codeword-valid}
 use Rattle.codewords.proofs.RankLaws.{rowCauses, row-codeword, codeword-passes}
 use Rattle.codewords.proofs.OrderLaws.{incomparable, codeword-injective, complete, order}
-use Rattle.claims.specs.Claims.{rowOf, Incomparable, Complete, Ordered, RankExact}
+use Rattle.claims.specs.Claims.{Incomparable, Complete, Ordered, RankExact}
 
 pub rows-incomparable : (p : Shape) → InLimits p → Incomparable p
 unfolding count

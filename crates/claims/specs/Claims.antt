@@ -7,12 +7,8 @@ use lib.ListN.{getD}
 use Rattle.profile.specs.declared.Shape.{Shape}
 use Rattle.counts.specs.Counts.{count}
 use Rattle.counts.specs.Table.{countNumber}
-use Rattle.codewords.specs.Codeword.{codeword, IsCodeword, Before}
-use Rattle.codewords.specs.Operations.{rankNumber}
-
--- "A row belongs to a number when the placing rule above gives that row for it"
-abbrev pub rowOf : Shape → ℕ → List ℕ
-rowOf p n = codeword (p .width) (p .chains) (p .sum) n
+use Rattle.codewords.specs.Codeword.{IsCodeword, Before}
+use Rattle.codewords.specs.Operations.{rowOf, rankNumber}
 
 -- "Under one profile, two message numbers below the count are equal exactly when no chain in the first one's signature stands
 -- higher than the same chain in the second's": a chain stands at the length that the number's row has at the chain's place

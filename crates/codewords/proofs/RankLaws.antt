@@ -7,7 +7,7 @@ use native.Mathlib.Nat.{le-of-suc-le-suc, lt-of-le-of-lt, lt-trans, le-refl, mul
 use native.Mathlib.Numerals.{add-one}
 use native.Mathlib.Omega.{arith}
 use borrow.Author.Tests.{le-leb, lt-leb, leb-false, eqb-true, eq-eqb, not-false}
-use lib.Dec.{leb, eqb, lit<}
+use lib.Dec.{leb, eqb}
 use lib.ListN.{length, getD, take, drop, length-take, length-drop, drop-of-length-le}
 use lib.Seq.{drop-cons}
 use Rattle.refusal.specs.Code.{outcomeCode, firstCause}
@@ -188,9 +188,9 @@ module _ (p : Shape) (row : List ℕ) where
   -- where none holds, the row is a codeword
   pub row-codeword : firstCause rowCauses ≡ 0 → IsCodeword (p .width) (p .chains) (p .sum) row
   row-codeword none =
-      let long = none-here (not (eqb (length row) (p .chains))) 8 digitCauses (lit< tt) none in
-      let above = none-here (someAbove (p .width) row) 9 sumCause (lit< tt) (long .1) in
-      let summed = none-here (not (eqb (total row) (p .sum))) 10 [] (lit< tt) (above .1) in
+      let long = none-here (not (eqb (length row) (p .chains))) 8 digitCauses refl none in
+      let above = none-here (someAbove (p .width) row) 9 sumCause refl (long .1) in
+      let summed = none-here (not (eqb (total row) (p .sum))) 10 [] refl (above .1) in
       let chains : length row ≡ p .chains = eqb-true (length row) (p .chains) (not-false _ (long .0)) in
       record {
         chains = chains;

@@ -14,6 +14,10 @@ use Rattle.counts.specs.Table.{withTable, countCauses}
 use Rattle.codewords.specs.Codeword.{codeword, rank, total}
 use Rattle.codewords.specs.declared.ranking.Ranked.{Ranked}
 
+-- "A row belongs to a number when the placing rule above gives that row for it"
+abbrev pub rowOf : Shape → ℕ → List ℕ
+rowOf p n = codeword (p .width) (p .chains) (p .sum) n
+
 -- "Spread, number to row: 1, 2, 3, 5; 6 output under l bytes; 7 number not below the count"
 unfoldable pub unrankNumber : Shape → ℕ → (work row : List ℕ) → ℕ
 unrankNumber p n work row =

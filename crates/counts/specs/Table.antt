@@ -1,14 +1,15 @@
 -- Document 01, Counts and rows: the table in the work slice, and Count.
 use mathlib.Core.Path.{_≡_}
-use mathlib.Core.Bool.{Bool, cond}
+use mathlib.Core.Bool.{Bool, _||_, cond}
 use mathlib.Core.List.{List, [], _∷_, _++_}
 use Prim.Native.Nat.{ℕ, zero, suc, _+_, _*_}
 use lib.Dec.{ltb, eqb}
 use lib.ListN.{length, drop}
 use Rattle.refusal.specs.Code.{outcomeCode, firstCause}
 use Rattle.words.specs.Number.{toWords}
-use Rattle.profile.specs.Checks.{shapeCauses}
+use Rattle.profile.specs.Checks.{shapeCauses, profileCauses}
 use Rattle.profile.specs.declared.Shape.{Shape}
+use Rattle.profile.specs.declared.Profile.{Profile}
 use Rattle.counts.specs.Counts.{D, count}
 use Rattle.counts.specs.declared.table.Counted.{Counted}
 
@@ -34,6 +35,10 @@ withTable p work = rows (p .width) (p .sum) (p .chains + 1) ++ drop (tableLength
 unfoldable pub countCauses : Shape → (words : ℕ) → List (Bool × ℕ)
 countCauses p words = shapeCauses p ++ ((ltb words (tableLength p), 5) ∷ [])
 
+-- "profile checks, 5" (Reveal, Recover, Issue, Check)
+unfoldable pub tableCauses : Profile → (words : ℕ) → List (Bool × ℕ)
+tableCauses p words = profileCauses p ++ ((ltb words (tableLength (p .shape)), 5) ∷ [])
+
 unfoldable pub countNumber : Shape → List ℕ → ℕ
 countNumber p work = firstCause (countCauses p (length work))
 
@@ -42,3 +47,7 @@ pub record Counts (p : Shape) (work left : List ℕ) (r : Counted) : Type 0 wher
   pub number : outcomeCode (r .outcome) ≡ countNumber p work
   pub counted : r .count ≡ toWords 5 (cond (eqb (countNumber p work) 0) (count p) 0)
   pub table : left ≡ cond (eqb (countNumber p work) 0) (withTable p work) work
+
+-- "Every refusal leaves all lent slices untouched, except that 7 and 15 leave the table in the work slice, as every success with a work slice does"
+unfoldable pub tableAfter : (number : ℕ) → Shape → (work : List ℕ) → List ℕ
+tableAfter number p work = cond (eqb number 0 || eqb number 7 || eqb number 15) (withTable p work) work

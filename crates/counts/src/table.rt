@@ -1,14 +1,18 @@
 // The table of the counts D(i, t), and Count.
 ghost use mathlib.Core.Path.{_≡_};
-ghost use mathlib.Core.List.{_++_};
+ghost use mathlib.Core.Bool.{cond};
+ghost use mathlib.Core.List.{[], _∷_, _++_};
 ghost use Prim.Native.Nat.{ℕ, _+_, _*_, _≤_};
+ghost use lib.Dec.{ltb, eqb};
 ghost use lib.ListN.{length, take, drop};
 ghost use Rattle.refusal.specs.Code.{outcomeCode, firstCause};
 ghost use Rattle.words.specs.Number.{toWords};
+ghost use Rattle.profile.specs.Checks.{InLimits};
 ghost use Rattle.counts.specs.Counts.{D};
-ghost use Rattle.counts.specs.Table.{cells, rows, countCauses, Counts};
+ghost use Rattle.counts.specs.Table.{cells, rows, tableLength, countCauses, tableCauses, Counts};
 use super::cells::load;
 use super::cells::store;
+use profile::Profile;
 use profile::Shape;
 use refusal::Outcome;
 use refusal::Refusal;
@@ -80,11 +84,11 @@ pub fn fill(table: &mut [u32], chains: usize, width: usize, sum: usize)
     }
 }
 
-// The causes of Count before the table is filled.
-pub fn count_outcome(p: Shape, words: usize) -> Outcome
-    ensures { λ r. ⌜ outcomeCode r ≡ firstCause (countCauses p words) ⌝ }
+// The outcome of the checks so far, and then the size of the work slice.
+fn then_room(checked: Outcome, p: Shape, words: usize) -> Outcome
+    requires { ⌜ (outcomeCode checked ≡ 0 → InLimits p) ⌝ }
+    ensures { λ r. ⌜ outcomeCode r ≡ cond (eqb (outcomeCode checked) 0) (firstCause ((ltb words (tableLength p), 5) ∷ [])) (outcomeCode checked) ⌝ }
 {
-    let checked = profile::check_shape(p);
     match checked {
         Outcome::Refused(_) => checked,
         Outcome::Granted => {
@@ -97,6 +101,22 @@ pub fn count_outcome(p: Shape, words: usize) -> Outcome
             }
         }
     }
+}
+
+// The causes of Count before the table is filled.
+pub fn count_outcome(p: Shape, words: usize) -> Outcome
+    ensures { λ r. ⌜ outcomeCode r ≡ firstCause (countCauses p words) ⌝ }
+{
+    then_room(profile::check_shape(p), p, words)
+}
+
+// The causes of a profile, with room for its table.
+pub fn table_outcome(p: Profile, words: usize) -> Outcome
+    ensures { λ r. ⌜ outcomeCode r ≡ firstCause (tableCauses p words) ⌝ }
+{
+    let shape = p.shape;
+    let checked = profile::check_profile(p);
+    then_room(checked, shape, words)
 }
 
 // Count: fills the work slice with the table and gives the number of codewords.

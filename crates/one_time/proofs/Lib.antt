@@ -1,2 +1,4 @@
 -- The laws that belong to no one function.
-pub mod ChainLaws
+pub mod Answers
+pub mod RowLaws
+pub mod RecoverLaws

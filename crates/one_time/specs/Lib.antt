@@ -1,2 +1,2 @@
--- Hash chains.
-pub mod Chains
+-- The one-time signatures of a leaf.
+pub mod Operations

@@ -1,4 +1,4 @@
--- What the checks of a profile tell: a shape that passes is within its limits.
+-- What the checks of a profile tell: a shape that passes is within its limits, and so is the height of a profile.
 use mathlib.Core.Path.{_≡_, refl}
 use mathlib.Core.Bool.{Bool, true, false, _||_, true≢false}
 use mathlib.Core.List.{List, [], _∷_}
@@ -6,11 +6,12 @@ use Prim.Native.Nat.{ℕ, _-_, _*_, _<_, _≤_}
 use native.Mathlib.Nat.{le-trans, mul-le-mul}
 use native.Mathlib.Omega.{arith}
 use borrow.Author.Tests.{lt-ltb, le-ltb, ltb-false}
-use lib.Dec.{ltb, lit<}
+use lib.Dec.{ltb}
 use Rattle.refusal.specs.Code.{firstCause}
-use Rattle.refusal.proofs.Causes.{Numbered, Under, none-here}
-use Rattle.profile.specs.Checks.{outside, shapeCauses, InLimits}
+use Rattle.refusal.proofs.Causes.{Without, Numbered, without-append, smaller-number, none-here, none-of-append}
+use Rattle.profile.specs.Checks.{outside, shapeCauses, InLimits, profileCauses}
 use Rattle.profile.specs.declared.Shape.{Shape}
+use Rattle.profile.specs.declared.Profile.{Profile}
 
 pub outside-low : (low high x : ℕ) → x < low → outside low high x ≡ true
 outside-low low high x h = rw (lt-ltb x low h)
@@ -31,23 +32,43 @@ not-outside low high x e = by (ltb x low) (ltb high x) refl refl e
 
 pub shape-numbered : (p : Shape) → Numbered (shapeCauses p)
 unfolding shapeCauses
-shape-numbered p = (lit< tt, (lit< tt, (lit< tt, tt)))
+shape-numbered p = (refl, (refl, (refl, tt)))
 
-pub shape-under : (p : Shape) (k : ℕ) → 4 ≤ k → Under k (shapeCauses p)
+pub shape-without : (p : Shape) (k : ℕ) → 4 ≤ k → Without k (shapeCauses p)
 unfolding shapeCauses
-shape-under p k h = (omega arith, (omega arith, (omega arith, tt)))
+shape-without p k h = (smaller-number 1 k (omega arith), (smaller-number 2 k (omega arith), (smaller-number 3 k (omega arith), tt)))
 
 -- a shape that passes its checks is within its limits
 pub in-limits : (p : Shape) → firstCause (shapeCauses p) ≡ 0 → InLimits p
 unfolding shapeCauses
 in-limits p e =
     let last : List (Bool × ℕ) = (outside 0 (p .chains * (p .width - 1)) (p .sum), 3) ∷ [] in
-    let first = none-here (outside 1 40 (p .chains)) 1 ((outside 2 16 (p .width), 2) ∷ last) (lit< tt) e in
-    let second = none-here (outside 2 16 (p .width)) 2 last (lit< tt) (first .1) in
-    let third = none-here (outside 0 (p .chains * (p .width - 1)) (p .sum)) 3 [] (lit< tt) (second .1) in
+    let first = none-here (outside 1 40 (p .chains)) 1 ((outside 2 16 (p .width), 2) ∷ last) refl e in
+    let second = none-here (outside 2 16 (p .width)) 2 last refl (first .1) in
+    let third = none-here (outside 0 (p .chains * (p .width - 1)) (p .sum)) 3 [] refl (second .1) in
     let l = not-outside 1 40 (p .chains) (first .0) in
     let w = not-outside 2 16 (p .width) (second .0) in
     record { some-chain = l .0; few-chains = l .1; wide = w .0; narrow = w .1; reached = not-outside 0 (p .chains * (p .width - 1)) (p .sum) (third .0) .1 }
+
+module _ (p : Profile) where
+  pub profile-numbered : Numbered (profileCauses p)
+  unfolding profileCauses
+  profile-numbered = without-append 0 (shapeCauses (p .shape)) ((outside 0 10 (p .height), 4) ∷ []) (shape-numbered (p .shape)) (refl, tt)
+
+  pub profile-without : (k : ℕ) → 5 ≤ k → Without k (profileCauses p)
+  unfolding profileCauses
+  profile-without k h =
+      without-append k (shapeCauses (p .shape)) ((outside 0 10 (p .height), 4) ∷ []) (shape-without (p .shape) k (omega arith)) (smaller-number 4 k h, tt)
+
+  -- where a profile passes its checks, its shape does, and its height is within its limits
+  pub profile-passed : firstCause (profileCauses p) ≡ 0 → (firstCause (shapeCauses (p .shape)) ≡ 0) × (p .height ≤ 10)
+  unfolding profileCauses
+  profile-passed e =
+      let both = none-of-append (shapeCauses (p .shape)) ((outside 0 10 (p .height), 4) ∷ []) (shape-numbered (p .shape)) e in
+      (both .0, not-outside 0 10 (p .height) (none-here (outside 0 10 (p .height)) 4 [] refl (both .1) .0) .1)
+
+  pub profile-limits : firstCause (profileCauses p) ≡ 0 → InLimits (p .shape) × (p .height ≤ 10)
+  profile-limits e = let passed = profile-passed e in (in-limits (p .shape) (passed .0), passed .1)
 
 -- the largest sum: 40 chains of 15
 pub sum-small : (p : Shape) → InLimits p → p .sum ≤ 600

@@ -1,5 +1,6 @@
 // A profile and its checks.
 ghost use mathlib.Core.Path.{_≡_};
+ghost use Prim.Native.Nat.{_^_, _≤_};
 ghost use Rattle.refusal.specs.Code.{outcomeCode, firstCause};
 ghost use Rattle.profile.specs.Checks.{shapeCauses, profileCauses};
 use refusal::Outcome;
@@ -60,4 +61,12 @@ pub fn check_profile(p: Profile) -> Outcome
             }
         }
     }
+}
+
+// How many leaves a tree has: 2^h.
+pub fn capacity(height: u32) -> u32
+    requires { ⌜ height ≤ 31 ⌝ }
+    ensures { λ r. ⌜ r ≡ 2 ^ height ⌝ }
+{
+    1 << height
 }

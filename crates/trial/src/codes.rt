@@ -3,13 +3,13 @@ use super::cases::count_case;
 use super::cases::rank_case;
 use super::cases::shape_case;
 use super::cases::unrank_case;
-use super::hash::least;
-use super::line::Line;
-use super::message::first;
-use super::work::digest;
-use super::work::make_stale_bytes;
-use super::work::make_stale_words;
 use profile::Shape;
+use trial_lines::first;
+use trial_lines::least;
+use trial_lines::line::Line;
+use trial_lines::work::make_stale_bytes;
+use trial_lines::work::make_stale_words;
+use trial_lines::work::write_with_work;
 use words::number::less;
 use words::number::subtract;
 
@@ -145,26 +145,12 @@ fn round_trip(p: Shape, number: [u32; 5], words: usize, table: &mut [u32]) {
 
 // The operation's name, the shape, and how many words are lent.
 fn call_line(name: &[u8], p: Shape, words: usize) -> Line {
-    let chains = p.chains as usize;
-    let width = p.width as usize;
-    let sum = p.sum as usize;
     Line::start()
         .text(name)
-        .text(b" l ")
-        .decimal(chains)
-        .text(b", w ")
-        .decimal(width)
-        .text(b", s ")
-        .decimal(sum)
+        .shape(p)
         .text(b", ")
         .decimal(words)
         .text(b" words")
-}
-
-// The line ends with the digest of the whole slice that was lent.
-fn write_with_work(line: Line, work: &[u32]) {
-    let bytes = digest(work);
-    line.text(b", work ").hex(&bytes).write();
 }
 
 // Count, with so many stale words lent, and no more than there are.

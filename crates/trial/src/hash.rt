@@ -1,13 +1,14 @@
 // SHA-256: FIPS 180-4's examples, messages whole and in pieces, refusals, and states that a caller hands in.
 ghost use mathlib.Core.Path.{_≡_};
-ghost use Prim.Native.Nat.{_≤_, min};
+ghost use Prim.Native.Nat.{_≤_};
 ghost use lib.ListN.{length};
-use super::line::Line;
-use super::message::first;
 use super::message::pattern;
 use sha256::Added;
 use sha256::Hash;
 use sha256_block::HashWords;
+use trial_lines::first;
+use trial_lines::least;
+use trial_lines::line::Line;
 
 pub fn run() {
     example(b"abc");
@@ -102,12 +103,6 @@ fn hash_prefixes(message: &[u8], cut: bool)
         hash_prefix(message, length_of(i), cut);
         i += 1;
     }
-}
-
-pub fn least(a: usize, b: usize) -> usize
-    ensures { λ r. ⌜ r ≡ min a b ⌝ }
-{
-    if a < b { a } else { b }
 }
 
 // A fresh hash after the bytes in pieces of 0, 13, 26, 39, 52, 65, 7, .. bytes, each 13 more than the

@@ -2,9 +2,7 @@
 mod cases;
 mod codes;
 mod hash;
-mod line;
 mod message;
-mod work;
 
 fn main() {
     hash::run();

@@ -1,7 +1,7 @@
 // The message whose beginnings the tests hash.
 ghost use mathlib.Core.Path.{_≡_};
-ghost use Prim.Native.Nat.{ℕ, _<_, _≤_};
-ghost use lib.ListN.{length, take, getD};
+ghost use Prim.Native.Nat.{ℕ, _<_};
+ghost use lib.ListN.{length, getD};
 ghost use Rattle.trial.specs.Pattern.{patternByte};
 
 fn pattern_byte(i: usize) -> u8
@@ -23,12 +23,4 @@ pub fn pattern() -> [u8; 65536]
         i += 1;
     }
     out
-}
-
-// The first n bytes.
-pub fn first(bytes: &[u8], n: usize) -> &[u8]
-    requires { ⌜ n ≤ length (now bytes) ⌝ }
-    ensures { λ r. ⌜ now r ≡ take n (now (bytes .entry)) ⌝ }
-{
-    &bytes[..n]
 }

@@ -3,10 +3,13 @@ ghost use mathlib.Core.Path.{_≡_};
 ghost use mathlib.Core.List.{List, _++_};
 ghost use Prim.Native.Nat.{ℕ, _+_, _≤_};
 ghost use lib.ListN.{length, take};
+ghost use Rattle.sha256.specs.Digest.{digest};
 ghost use Rattle.sha256.specs.Running.{hashed};
-ghost use Rattle.tweak.specs.Tweak.{address as addressOf, chainStep, leafKey, node, chainStart, seedBlock, tweakedHash};
+ghost use Rattle.tweak.specs.Tweak.{address as addressOf, chainStepAddress, leafKeyAddress, nodeAddress, chainStartAddress, seedBlock, tweakedHash};
 use sha256::Hash;
+use words::bytes::read_16;
 use words::bytes::word_bytes;
+use words::bytes::write_16;
 
 // Leaf, chain and height numbers have the same width; each is a type of its own, so that none can stand in another's field.
 pub struct Leaf(pub u32);
@@ -57,28 +60,28 @@ pub fn chain_step_address(
     chain: Chain,
     height: Height,
 ) -> [u8; 22]
-    ensures { λ r. ⌜ r ≡ chainStep layer tree (leaf .0) (chain .0) (height .0) ⌝ }
+    ensures { λ r. ⌜ r ≡ chainStepAddress layer tree (leaf .0) (chain .0) (height .0) ⌝ }
 {
     address(layer, tree, 0, leaf.0, chain.0, height.0)
 }
 
 // The address of a leaf key (type 1).
 pub fn leaf_key_address(layer: u8, tree: u64, leaf: Leaf) -> [u8; 22]
-    ensures { λ r. ⌜ r ≡ leafKey layer tree (leaf .0) ⌝ }
+    ensures { λ r. ⌜ r ≡ leafKeyAddress layer tree (leaf .0) ⌝ }
 {
     address(layer, tree, 1, leaf.0, 0, 0)
 }
 
 // The address of a node (type 2), by its own height and its index there.
 pub fn node_address(layer: u8, tree: u64, height: u32, index: u32) -> [u8; 22]
-    ensures { λ r. ⌜ r ≡ node layer tree height index ⌝ }
+    ensures { λ r. ⌜ r ≡ nodeAddress layer tree height index ⌝ }
 {
     address(layer, tree, 2, 0, height, index)
 }
 
 // The address of a chain's start (type 5).
 pub fn chain_start_address(layer: u8, tree: u64, leaf: Leaf, chain: Chain) -> [u8; 22]
-    ensures { λ r. ⌜ r ≡ chainStart layer tree (leaf .0) (chain .0) ⌝ }
+    ensures { λ r. ⌜ r ≡ chainStartAddress layer tree (leaf .0) (chain .0) ⌝ }
 {
     address(layer, tree, 5, leaf.0, chain.0, 0)
 }
@@ -88,26 +91,33 @@ pub fn seeded(seed: [u8; 16]) -> Hash
     ensures { λ r. ⌜ r ≡ hashed (seedBlock seed) ⌝ }
 {
     let mut block = [0u8; 64];
-    let mut i = 0;
-    while i < 16 {
-        block[i] = seed[i];
-        i += 1;
-    }
+    write_16(&mut block, 0, seed);
     let added = Hash::start().add(&block);
     added.hash
 }
 
-// The first 16 bytes of a digest.
-fn front(digest: [u8; 32]) -> [u8; 16]
-    ensures { λ r. ⌜ r ≡ take 16 digest ⌝ }
+// The running hash of a tweaked hash, before its data.
+pub fn begin(state: Hash, address: [u8; 22]) -> Hash
+    ensures { λ r. ⌜ ((seed : List ℕ) → length seed ≡ 16 → state ≡ hashed (seedBlock seed) → r ≡ hashed (seedBlock seed ++ address)) ⌝ }
 {
-    let mut out = [0u8; 16];
-    let mut i = 0;
-    while i < 16 {
-        out[i] = digest[i];
-        i += 1;
-    }
-    out
+    let with_address = state.add(&address);
+    with_address.hash
+}
+
+// The running hash after a value more.
+pub fn absorb(hash: Hash, value: [u8; 16]) -> Hash
+    ensures { λ r. ⌜ ((bytes : List ℕ) → length bytes ≤ 65000 → hash ≡ hashed bytes → r ≡ hashed (bytes ++ value)) ⌝ }
+{
+    let with_value = hash.add(&value);
+    with_value.hash
+}
+
+// The first 16 bytes of the digest.
+pub fn end(hash: Hash) -> [u8; 16]
+    ensures { λ r. ⌜ ((bytes : List ℕ) → hash ≡ hashed bytes → r ≡ take 16 (digest bytes)) ⌝ }
+{
+    let whole = hash.finish().digest();
+    read_16(&whole, 0)
 }
 
 // The tweaked hash of the data, from the running hash after the seed's block.
@@ -115,9 +125,6 @@ pub fn tweaked_hash(state: Hash, address: [u8; 22], bytes: &[u8]) -> [u8; 16]
     requires { ⌜ length (now bytes) ≤ 65000 ⌝ }
     ensures { λ r. ⌜ ((seed : List ℕ) → length seed ≡ 16 → state ≡ hashed (seedBlock seed) → r ≡ tweakedHash seed address (now (bytes .entry))) ⌝ }
 {
-    let with_address = state.add(&address);
-    let next = with_address.hash;
-    let with_data = next.add(bytes);
-    let last = with_data.hash;
-    front(last.finish().digest())
+    let with_data = begin(state, address).add(bytes);
+    end(with_data.hash)
 }

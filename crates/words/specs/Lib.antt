@@ -1,3 +1,4 @@
--- What numbers written in bytes and in words mean.
+-- What numbers written in bytes and in words mean, and values joined.
 pub mod Bytes
+pub mod Joined
 pub mod Number

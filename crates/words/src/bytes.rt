@@ -1,6 +1,6 @@
 // 32-bit words in bytes, most significant byte first.
 ghost use mathlib.Core.Path.{_≡_};
-ghost use mathlib.Core.List.{[], _∷_};
+ghost use mathlib.Core.List.{[], _∷_, _++_};
 ghost use Prim.Native.Nat.{_+_, _≤_};
 ghost use lib.ListN.{length, take, drop};
 ghost use Rattle.words.specs.Bytes.{fromBytes, toBytes};
@@ -32,4 +32,30 @@ pub fn word_bytes(x: u32) -> [u8; 4]
         (x / 256 % 256) as u8,
         (x % 256) as u8,
     ]
+}
+
+// The 16 bytes from index `at` on.
+pub fn read_16(bytes: &[u8], at: usize) -> [u8; 16]
+    requires { ⌜ at + 16 ≤ length (now bytes) ⌝ }
+    ensures { λ r. ⌜ r ≡ take 16 (drop at (now (bytes .entry))) ⌝ }
+{
+    let mut value = [0u8; 16];
+    let mut i = 0;
+    while i < 16 {
+        value[i] = bytes[at + i];
+        i += 1;
+    }
+    value
+}
+
+// Writes 16 bytes from index `at` on.
+pub fn write_16(out: &mut [u8], at: usize, value: [u8; 16])
+    requires { ⌜ at + 16 ≤ length (now out) ⌝ }
+    ensures { λ r. ⌜ now (out .exit) ≡ take at (now (out .entry)) ++ value ++ drop (at + 16) (now (out .entry)) ⌝ }
+{
+    let mut i = 0;
+    while i < 16 {
+        out[at + i] = value[i];
+        i += 1;
+    }
 }

@@ -1,52 +1,37 @@
--- `tweak::tweaked_hash` meets its contract: two granted adds and finish, on a state that has taken the seed block.
-use mathlib.Core.Path.{_≡_, _∙_, ap}
+-- `tweak::tweaked_hash` meets its contract: the hash is begun with the address, takes the data and is ended.
+use mathlib.Core.Path.{_≡_}
+use mathlib.Core.List.{_++_}
+use Prim.Native.Nat.{_+_, _≤_}
+use native.Mathlib.Omega.{arith}
 use borrow.Author.Needs.{needs}
 use denote.Ref.{now}
-use lib.ListN.{length, take}
-use Rattle.sha256.specs.Digest.{wordBytes}
-use Rattle.sha256.specs.declared.running.Hash.{Hash}
-use Rattle.tweak.proofs.TweakLaws.{hash-tweaked}
+use lib.ListN.{length, length-append}
+use Rattle.tweak.specs.Tweak.{seedBlock}
+use Rattle.tweak.proofs.TweakLaws.{length-seed-block, more-taken, tweaked-digest}
 use Rattle.tweak.proofs.tweaked_hash.Statement.{statement}
 use Rattle.tweak.proofs.tweaked_hash.Tie as tie
 
-slice-aggregate-add : tie.Need-slice-aggregate-add
-slice-aggregate-add c = search needs
+begin-requires : tie.Need-begin-requires
+begin-requires c κs = search needs
 
 add-requires : tie.Need-add-requires
 add-requires c κs = search needs
 
-add-requires-2 : tie.Need-add-requires-2
-add-requires-2 c κs = search needs
-
-finish-requires : tie.Need-finish-requires
-finish-requires c κs = search needs
-
-digest-requires : tie.Need-digest-requires
-digest-requires c κs = search needs
-
-front-requires : tie.Need-front-requires
-front-requires c κs = search needs
+end-requires : tie.Need-end-requires
+end-requires c κs = search needs
 
 returns : tie.Need-returns
 returns c =
-    let finished = c .before .before in
-    let second = finished .before .before in
-    let first = second .before .before in
-    let start = first .before .before .before in
+    let added = c .before in
+    let begun = added .before in
+    let start = begun .before .before in
     let a = start .args in
-    let long : length (a .t2) ≡ 22 = search needs in
-    let result = c .front .ensures ∙ ap (take 16) (c .before .digest .ensures ∙ ap (λ (h : Hash). wordBytes (h .words)) (finished .finish .ensures)) in
+    let bytes = now (a .bytes) in
+    let long : length (a .address) ≡ 22 = search needs in
     λ seed short e.
-    hash-tweaked seed (a .t2) (now (a .bytes)) _ _ _ _ short long (start .pre) e (first .add .ensures .state) (second .add2 .ensures .state) result
+    let front = seedBlock seed ++ a .address in
+    let fits : length front + length bytes ≤ 65535 = omega (arith, start .pre, length-seed-block seed short, length-append (seedBlock seed) (a .address)) in
+    tweaked-digest seed (a .address) bytes (c .end .ensures (front ++ bytes) (more-taken front bytes fits (begun .begin .ensures seed short e) (added .add .ensures .state)))
 
 pub tweaked-hash-spec : {M : Type 1} → statement M
-tweaked-hash-spec =
-    tie.close
-    (tie.spec
-    slice-aggregate-add
-    add-requires
-    add-requires-2
-    finish-requires
-    digest-requires
-    front-requires
-    returns)
+tweaked-hash-spec = tie.close (tie.spec begin-requires add-requires end-requires returns)

@@ -1,0 +1,4 @@
+-- The laws that belong to no one function.
+pub mod ChainLaws
+pub mod LeafLaws
+pub mod LeafRecover

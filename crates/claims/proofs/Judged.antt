@@ -1,0 +1,37 @@
+-- A check that no other cause refuses is decided by the recovered root.
+use mathlib.Core.Path.{_≡_, refl, sym, _∙_}
+use mathlib.Core.Bool.{Bool, not}
+use mathlib.Core.List.{List, [], _∷_}
+use Prim.Native.Nat.{ℕ}
+use borrow.Author.Tests.{not-false}
+use lib.ListN.{length}
+use Rattle.refusal.specs.Code.{firstCause}
+use Rattle.refusal.proofs.Causes.{Numbered, without-append, none-here, none-then}
+use Rattle.counts.specs.Table.{tableCauses}
+use Rattle.counts.proofs.Room.{table-numbered}
+use Rattle.verifier.specs.Verifying.{recoveredRoot, same, causesBeforeRoot, verifyNumber}
+use Rattle.verifier.specs.declared.Verifier.{Verifier}
+use Rattle.verifier.proofs.SameLaws.{same-refl, same-true}
+use Rattle.claims.specs.Orders.{JudgedByRoot}
+
+module _ (v : Verifier) (message signature work : List ℕ) where
+  before-numbered : Numbered (causesBeforeRoot v message signature work)
+  unfolding causesBeforeRoot
+  before-numbered =
+      without-append 0 (tableCauses (v .profile) (length work)) _ (table-numbered (v .profile) (length work)) (refl, (refl, (refl, (refl, (refl, tt)))))
+
+  -- the last cause: the recovered root differs
+  abbrev differs : Bool
+  differs = not (same (recoveredRoot v message signature) (v .root))
+
+  judged : firstCause (causesBeforeRoot v message signature work) ≡ 0 → verifyNumber v message signature work ≡ firstCause ((differs, 15) ∷ [])
+  unfolding verifyNumber
+  judged none = none-then (causesBeforeRoot v message signature work) ((differs, 15) ∷ []) none before-numbered
+
+  pub judged-by-root : JudgedByRoot v message signature work
+  judged-by-root none =
+      let to : verifyNumber v message signature work ≡ 0 → recoveredRoot v message signature ≡ v .root =
+      λ accepted. same-true (recoveredRoot v message signature) (v .root) (not-false _ (none-here differs 15 [] refl (sym (judged none) ∙ accepted) .0)) in
+      let from : recoveredRoot v message signature ≡ v .root → verifyNumber v message signature work ≡ 0 =
+      λ root. judged none ∙ rw (root, same-refl (v .root)) in
+      (to, from)

@@ -1,0 +1,51 @@
+-- `one_time::leaf_key` meets its contract: refused, the key is zero; granted, it is that of the leaf.
+use mathlib.Core.Path.{_≡_}
+use native.Mathlib.Omega.{arith}
+use borrow.Author.Needs.{needs}
+use lib.ListN.{length}
+use Rattle.one_time.proofs.Answers.{leaf-key-limits, leaf-key-refused, leaf-key-granted}
+use Rattle.one_time.proofs.leaf_key.Statement.{statement}
+use Rattle.one_time.proofs.leaf_key.Tie as tie
+
+leaf-key-outcome-requires : tie.Need-leaf-key-outcome-requires
+leaf-key-outcome-requires c κs = search needs
+
+enum-told : tie.Need-enum-told
+enum-told c = search needs
+
+enum-told-2 : tie.Need-enum-told-2
+enum-told-2 c = search needs
+
+seeded-requires : tie.Need-seeded-requires
+seeded-requires c κs = search needs
+
+key-of-leaf-requires : tie.Need-key-of-leaf-requires
+key-of-leaf-requires c κs =
+    let g = c .before .before in
+    let a = g .before .before .before .args in
+    let h = leaf-key-limits (a .p) (a .leaf) _ (g .before .before .leaf-key-outcome .ensures) (g .enum-told2 .given .1) in
+    (omega (arith, h .wide), h .few-chains)
+
+returns : tie.Need-returns
+returns c =
+    let a = c .before .before .before .args in
+    leaf-key-refused (a .p) (a .leaf) _ (c .before .before .leaf-key-outcome .ensures) (a .seed) (a .secret) _ (c .enum-told .given .1)
+
+returns-2 : tie.Need-returns-2
+returns-2 c =
+    let g = c .before .before .before in
+    let a = g .before .before .before .args in
+    let long : length (a .seed) ≡ 16 = search needs in
+    leaf-key-granted (a .p) (a .leaf) _ (g .before .before .leaf-key-outcome .ensures) (a .seed) (a .secret) (g .enum-told2 .given .1) _ (c .key-of-leaf .ensures (a .seed) long (c .before .seeded .ensures))
+
+pub leaf-key-spec : {M : Type 1} → statement M
+leaf-key-spec =
+    tie.close
+    (tie.spec
+    leaf-key-outcome-requires
+    enum-told
+    enum-told-2
+    seeded-requires
+    key-of-leaf-requires
+    returns
+    returns-2)

@@ -1,0 +1,18 @@
+-- How long a signature is.
+use mathlib.Core.Path.{_≡_}
+use mathlib.Core.List.{List}
+use Prim.Native.Nat.{ℕ}
+use native.Mathlib.Omega.{arith}
+use lib.ListN.{length, length-append}
+use Rattle.words.proofs.ByteLaws.{length-toBytes}
+use Rattle.profile.specs.declared.Profile.{Profile}
+use Rattle.one_time.proofs.RecoverLaws.{length-revealedBy}
+use Rattle.tree.proofs.ClimbLaws.{length-path}
+use Rattle.message.specs.Message.{signatureLength}
+use Rattle.signer.specs.Signing.{signatureOf}
+
+pub length-signature : (p : Profile) (seed secret : List ℕ) (leaf n : ℕ) (r : List ℕ) → length r ≡ 16
+    → length (signatureOf p seed secret leaf n r) ≡ signatureLength p
+unfolding signatureOf signatureLength
+length-signature p seed secret leaf n r sixteen =
+    simp (length-append, length-toBytes, sixteen, length-revealedBy, length-path) (omega arith)

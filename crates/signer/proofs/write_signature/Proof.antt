@@ -1,0 +1,115 @@
+-- `signer::write_signature` meets its contract: each part is written behind those before it.
+use mathlib.Core.Path.{_≡_, sym}
+use Prim.Native.Nat.{_+_, _*_, _≤_}
+use native.Mathlib.Omega.{arith}
+use borrow.Author.Needs.{needs}
+use denote.Ref.{now}
+use lib.ListN.{length, take}
+use Rattle.words.specs.Bytes.{toBytes}
+use Rattle.words.proofs.ByteLaws.{length-toBytes}
+use Rattle.tweak.specs.Tweak.{noLayer, noTree}
+use Rattle.chains.specs.Leaves.{revealed}
+use Rattle.chains.proofs.LeafRecover.{length-revealed}
+use Rattle.message.specs.Message.{signatureLength}
+use Rattle.signer.proofs.Written.{signature-written}
+use Rattle.signer.proofs.write_signature.Statement.{statement}
+use Rattle.signer.proofs.write_signature.Tie as tie
+
+seeded-requires : tie.Need-seeded-requires
+seeded-requires c κs = search needs
+
+abbrev start : tie.After-seeded → tie.Start
+start g = g .before .before .before .before .before .before
+
+room : (s : tie.Start) → 20 + 16 * s .args .key .profile .shape .chains + 16 * s .args .key .profile .height ≤ length (now (s .args .out))
+unfolding signatureLength
+room s = s .pre .2
+
+longs : (s : tie.Start) → (length (s .args .key .seed) ≡ 16) × (length (s .args .r) ≡ 16) × (length (s .args .t4) ≡ 160)
+longs s = search needs
+
+write-leaf-requires : tie.Need-write-leaf-requires
+write-leaf-requires c κs = omega (arith, room (start (c .before)))
+
+write-16-requires : tie.Need-write-16-requires
+write-16-requires c κs =
+    let written = c .before .before .before in
+    omega (arith, room (start (written .before .before)), written .write-leaf .kept .0)
+
+write-values-requires : tie.Need-write-values-requires
+write-values-requires c κs =
+    let second = c .before .before .before in
+    let first = second .before .before .before .before in
+    let begin = start (first .before .before) in
+    (begin .pre .0, omega (arith, room begin, first .write-leaf .kept .0, second .write-16 .kept .0))
+
+slice-aggregate-copy-bytes : tie.Need-slice-aggregate-copy-bytes
+slice-aggregate-copy-bytes c =
+    let third = c .before .before .before in
+    let second = third .before .before .before .before in
+    let first = second .before .before .before .before in
+    sym (longs (start (first .before .before)) .2)
+
+cast-copy-bytes : tie.Need-cast-copy-bytes
+cast-copy-bytes c = search needs
+
+mul-copy-bytes : tie.Need-mul-copy-bytes
+mul-copy-bytes c = search needs
+
+cast-copy-bytes-2 : tie.Need-cast-copy-bytes-2
+cast-copy-bytes-2 c = search needs
+
+mul-copy-bytes-2 : tie.Need-mul-copy-bytes-2
+mul-copy-bytes-2 c = search needs
+
+add-copy-bytes : tie.Need-add-copy-bytes
+add-copy-bytes c = search needs
+
+copy-bytes-requires : tie.Need-copy-bytes-requires
+copy-bytes-requires c κs =
+    let third = c .before .before .before .before in
+    let second = third .before .before .before .before in
+    let first = second .before .before .before .before in
+    let begin = start (first .before .before) in (
+      omega (arith, begin .pre, longs begin .2),
+      omega (arith, room begin, first .write-leaf .kept .0, second .write-16 .kept .0, third .write-values .kept .1 .1 .1 .1 .1 .1 .1 .0),
+    )
+
+same-length : tie.Need-same-length
+same-length c = search needs
+
+returns : tie.Need-returns
+unfolding signatureLength
+returns c =
+    let fourth = c .before .before in
+    let third = fourth .before .before .before .before .before in
+    let second = third .before .before .before .before in
+    let first = second .before .before .before .before in
+    let seeded = first .before .before in
+    let begin = start seeded in
+    let a = begin .args in
+    let key = a .key in
+    let p = key .profile in
+    let long = longs begin in
+    signature-written (toBytes 4 (key .next)) (a .r) (revealed (key .seed) (key .secret) noLayer noTree (key .next) (p .shape .chains) (a .row))
+    (take (16 * p .height) (a .t4)) (now (a .out)) (p .shape .chains) (p .height)
+    (length-toBytes 4 (key .next)) (long .1) (length-revealed (key .seed) (key .secret) noLayer noTree (key .next) (p .shape .chains) (a .row))
+    (first .write-leaf .ensures) (second .write-16 .ensures) (third .write-values .ensures (key .seed) (long .0) (seeded .seeded .ensures)) (fourth .copy-bytes .ensures)
+
+pub write-signature-spec : {M : Type 1} → statement M
+write-signature-spec =
+    tie.close
+    (tie.spec
+    seeded-requires
+    write-leaf-requires
+    write-16-requires
+    write-values-requires
+    slice-aggregate-copy-bytes
+    cast-copy-bytes
+    mul-copy-bytes
+    cast-copy-bytes-2
+    mul-copy-bytes-2
+    add-copy-bytes
+    copy-bytes-requires
+    same-length
+    returns)

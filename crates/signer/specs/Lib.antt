@@ -1,0 +1,2 @@
+-- The issuing key.
+pub mod Signing

@@ -1,0 +1,95 @@
+-- `tree::node`, which calls itself, meets its contract. The measure is the height: at 0 the leaf key, above it the hash of the two children.
+use Prim.Native.Nat.{ℕ, _+_, _-_, _*_, _^_, _≤_, _<_}
+use native.Mathlib.Omega.{arith}
+use borrow.Author.Needs.{needs}
+use borrow.Fn.Kinds.{In}
+use borrow.Fn.PlainCycle.{Measures, is, falls, and}
+use Rattle.chains.proofs.leaves.key_of_leaf.Reads as key-of-leaf-reads
+use Rattle.tree.proofs.Indices.{index-small, child-within}
+use Rattle.tree.proofs.NodeLaws.{node-leaf, node-above}
+use Rattle.tree.proofs.node.Reads as node
+use Rattle.tree.proofs.node.Kinds as node-kinds
+use Rattle.tree.proofs.+node.Lts-node as node-lts
+use Rattle.tree.proofs.parent.Reads as parent-reads
+use Rattle.tree.proofs.+node.{statement}
+use Rattle.tree.proofs.+node.Tie.{close}
+
+abbrev μ-node : Measures 0 node-kinds.ps ℕ
+μ-node κs a = a .1 .1 .1 .1 .1 .1 .0
+
+-- what `node` is given at the measure t, and what a call of it asks below t
+abbrev node-at : ℕ → In 0 node-kinds.ps
+node-at t = and 0 node-kinds.ps (is 0 node-kinds.ps μ-node t) node.Pre
+
+abbrev node-below : ℕ → In 0 node-kinds.ps
+node-below t = and 0 node-kinds.ps (falls 0 node-kinds.ps _<_ μ-node t) node.Pre
+
+-- what is known of the calls
+abbrev calls : ℕ → node-lts.Claims
+calls t = (key-of-leaf-reads.Asked, key-of-leaf-reads.Learnt, node-below t, node.Post, parent-reads.Asked, parent-reads.Learnt)
+
+module _ (t : ℕ) where
+  above : (c : node-lts.Else1 (calls t) (node-at t) node.Post) → 1 ≤ c .before .args .height
+  above c = omega arith
+
+  -- both children are within their height
+  within : (c : node-lts.Else1 (calls t) (node-at t) node.Post) → 2 * c .before .args .index + 1 < 2 ^ (31 - (c .before .args .height - 1))
+  within c = child-within (c .before .args .height) (above c) (c .before .pre .1 .2) (c .before .pre .1 .3)
+
+  small : (c : node-lts.Else1 (calls t) (node-at t) node.Post) → c .before .args .index < 2 ^ 31
+  small c = index-small (c .before .args .height) (c .before .pre .1 .3)
+
+  key-of-leaf-requires : node-lts.Need-key-of-leaf-requires (calls t) (node-at t) node.Post
+  key-of-leaf-requires c κs = search needs
+
+  returns : node-lts.Need-returns (calls t) (node-at t) node.Post
+  returns c =
+      let a = c .before .before .args in
+      λ seed long e. node-leaf seed (a .secret) (a .layer) (a .tree) (a .width) (a .chains) (a .height) (a .index) (c .before .if1 .taken) (c .key-of-leaf .ensures seed long e)
+
+  sub-below : node-lts.Need-sub-below (calls t) (node-at t) node.Post
+  sub-below c = search needs
+
+  mul-node : node-lts.Need-mul-node (calls t) (node-at t) node.Post
+  mul-node c = omega (arith, small c)
+
+  node-requires : node-lts.Need-node-requires (calls t) (node-at t) node.Post
+  node-requires c κs = omega (arith, above c, within c)
+
+  mul-node-2 : node-lts.Need-mul-node-2 (calls t) (node-at t) node.Post
+  mul-node-2 c = omega (arith, small (c .before))
+
+  add-node : node-lts.Need-add-node (calls t) (node-at t) node.Post
+  add-node c = omega (arith, small (c .before))
+
+  node-requires-2 : node-lts.Need-node-requires-2 (calls t) (node-at t) node.Post
+  node-requires-2 c κs = omega (arith, above (c .before), within (c .before))
+
+  parent-requires : node-lts.Need-parent-requires (calls t) (node-at t) node.Post
+  parent-requires c κs = search needs
+
+  returns-2 : node-lts.Need-returns-2 (calls t) (node-at t) node.Post
+  returns-2 c =
+      let right = c .before in
+      let left = right .before in
+      let a = left .before .before .args in
+      λ seed long e. node-above seed (a .secret) (a .layer) (a .tree) (a .width) (a .chains) (a .height) (a .index) (above (left .before)) (left .node .ensures seed long e) (right .node2 .ensures seed long e) (c .parent .ensures seed long e)
+
+pub +node-spec : {M : Type 1} → statement M
++node-spec =
+    close μ-node
+    (λ t.
+    node-lts.spec
+    (calls t)
+    (node-at t)
+    node.Post
+    (key-of-leaf-requires t)
+    (returns t)
+    (sub-below t)
+    (mul-node t)
+    (node-requires t)
+    (mul-node-2 t)
+    (add-node t)
+    (node-requires-2 t)
+    (parent-requires t)
+    (returns-2 t))

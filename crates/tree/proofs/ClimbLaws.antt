@@ -1,0 +1,64 @@
+-- The climb from a leaf key along the leaf's own siblings passes the nodes above the leaf and ends at the root.
+use mathlib.Core.Path.{_≡_, refl, sym, ap, _∙_}
+use mathlib.Core.Bool.{Bool, true, false, cond}
+use mathlib.Core.Logic.{_≢_}
+use mathlib.Core.List.{List, _++_}
+use Prim.Native.Nat.{ℕ, zero, suc, _+_, _-_, _*_, _/_, _%_, _^_, _<_, _≤_}
+use native.Mathlib.Nat.{div-one, div-eq-of-lt}
+use native.Mathlib.Numerals.{add-one}
+use native.Mathlib.Omega.{arith}
+use borrow.Author.Tests.{eqb-true, eqb-false}
+use lib.Dec.{eqb}
+use lib.ListN.{length, take, drop}
+use Rattle.words.proofs.Joins.{length-joinTo, part-joinTo}
+use Rattle.tweak.specs.Tweak.{nodeAddress, tweakedHash}
+use Rattle.chains.specs.Leaves.{leafKey}
+use Rattle.tree.specs.Tree.{node, isLeft, sibling, path, children, climbed}
+use Rattle.tree.proofs.Indices.{half-place}
+use Rattle.tree.proofs.NodeLaws.{length-node}
+
+-- a node and its sibling are the two children of the node above
+both-children : (f : ℕ → List ℕ) (j : ℕ) → children j (f j) (f (sibling j)) ≡ f (2 * (j / 2)) ++ f (2 * (j / 2) + 1)
+unfolding children sibling isLeft
+both-children f j = by (eqb (j % 2) 0) refl
+  where
+    by : (left : Bool) → eqb (j % 2) 0 ≡ left
+        → cond left (f j ++ f (cond left (j + 1) (j - 1))) (f (cond left (j + 1) (j - 1)) ++ f j) ≡ f (2 * (j / 2)) ++ f (2 * (j / 2) + 1)
+    by true e = let even : 2 * (j / 2) ≡ j = omega (arith, eqb-true (j % 2) 0 e) in rw even
+    by false e =
+        let odd : j % 2 ≢ 0 = eqb-false (j % 2) 0 e in
+        let own : 2 * (j / 2) + 1 ≡ j = omega arith in
+        let other : j - 1 ≡ 2 * (j / 2) = omega arith in
+        rw (own, other)
+
+module _ (seed secret : List ℕ) (layer tree w l : ℕ) where
+  -- the sibling at a height on the way up from a leaf
+  abbrev siblingAt : (leaf k : ℕ) → List ℕ
+  siblingAt leaf k = node seed secret layer tree w l k (sibling (leaf / 2 ^ k))
+
+  length-siblingAt : (leaf k : ℕ) → length (siblingAt leaf k) ≡ 16
+  length-siblingAt leaf k = length-node seed secret layer tree w l k (sibling (leaf / 2 ^ k))
+
+  pub length-path : (h leaf : ℕ) → length (path seed secret layer tree w l h leaf) ≡ 16 * h
+  unfolding path
+  length-path h leaf = length-joinTo (siblingAt leaf) 16 h (λ k _. length-siblingAt leaf k)
+
+  -- where it stands
+  path-part : (h leaf k : ℕ) (more : List ℕ) → k < h → take 16 (drop (16 * k) (path seed secret layer tree w l h leaf ++ more)) ≡ siblingAt leaf k
+  unfolding path
+  path-part h leaf k more low = part-joinTo (siblingAt leaf) 16 h (λ k _. length-siblingAt leaf k) k more low
+
+  module _ (h leaf : ℕ) (more : List ℕ) where
+    abbrev climbedTo : ℕ → List ℕ
+    climbedTo k = climbed seed layer tree leaf (leafKey seed secret layer tree w l leaf) (path seed secret layer tree w l h leaf ++ more) k
+
+    pub climbed-node : (k : ℕ) → k ≤ h → climbedTo k ≡ node seed secret layer tree w l k (leaf / 2 ^ k)
+    unfolding climbed node
+    climbed-node zero low = ap (leafKey seed secret layer tree w l) (sym (div-one leaf))
+    climbed-node (suc k) low =
+        ap (tweakedHash seed (nodeAddress layer tree (suc k) (leaf / 2 ^ suc k)))
+        (rw (climbed-node k (omega arith), path-part h leaf k more (omega arith), ← add-one k, ← half-place leaf k)
+        (both-children (node seed secret layer tree w l k) (leaf / 2 ^ k)))
+
+    pub climbed-root : leaf < 2 ^ h → climbedTo h ≡ node seed secret layer tree w l h 0
+    climbed-root low = climbed-node h (omega arith) ∙ ap (node seed secret layer tree w l h) (div-eq-of-lt low)

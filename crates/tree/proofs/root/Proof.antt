@@ -1,0 +1,64 @@
+-- `tree::root` meets its contract: refused, the root is zero; granted, it is the node of the profile's height.
+use mathlib.Core.Path.{_≡_}
+use mathlib.Core.List.{[]}
+use Prim.Native.Nat.{_-_}
+use native.Mathlib.Omega.{arith}
+use borrow.Author.Needs.{needs}
+use lib.ListN.{length}
+use lib.Pow.{pow-pos}
+use Rattle.refusal.proofs.Causes.{granted-none}
+use Rattle.profile.specs.Checks.{profileCauses}
+use Rattle.profile.proofs.Limits.{profile-limits}
+use Rattle.tree.proofs.Answer.{root-refused, root-granted}
+use Rattle.tree.proofs.root.Statement.{statement}
+use Rattle.tree.proofs.root.Tie as tie
+
+check-profile-requires : tie.Need-check-profile-requires
+check-profile-requires c κs = search needs
+
+enum-told : tie.Need-enum-told
+enum-told c = search needs
+
+enum-told-2 : tie.Need-enum-told-2
+enum-told-2 c = search needs
+
+seeded-requires : tie.Need-seeded-requires
+seeded-requires c κs = search needs
+
+node-requires : tie.Need-node-requires
+node-requires c κs =
+    let granted = c .before .before in
+    let checked = granted .before .before in
+    let p = checked .before .args .p in
+    let limits = profile-limits p (granted-none (profileCauses p) [] _ (checked .check-profile .ensures) (granted .enum-told2 .given .1)) in
+    (omega (arith, limits .0 .wide), limits .0 .few-chains, omega (arith, limits .1), pow-pos (31 - p .height))
+
+returns : tie.Need-returns
+returns c =
+    let checked = c .before .before in
+    let a = checked .before .args in
+    root-refused (a .p) (a .seed) (a .secret) _ (checked .check-profile .ensures) _ (c .enum-told .given .1)
+
+seed-length : (c : tie.Start) → length (c .args .seed) ≡ 16
+seed-length c = search needs
+
+returns-2 : tie.Need-returns-2
+returns-2 c =
+    let begun = c .before in
+    let granted = begun .before .before in
+    let checked = granted .before .before in
+    let start = checked .before in
+    let a = start .args in
+    root-granted (a .p) (a .seed) (a .secret) _ (checked .check-profile .ensures) _ (granted .enum-told2 .given .1) (c .node .ensures (a .seed) (seed-length start) (begun .seeded .ensures))
+
+pub root-spec : {M : Type 1} → statement M
+root-spec =
+    tie.close
+    (tie.spec
+    check-profile-requires
+    enum-told
+    enum-told-2
+    seeded-requires
+    node-requires
+    returns
+    returns-2)

@@ -1,0 +1,23 @@
+-- `tree::sibling` meets its contract: of an even index the next one, of an odd index the one before.
+use borrow.Author.Needs.{needs}
+use Rattle.tree.specs.Tree.{sibling}
+use Rattle.tree.proofs.Indices.{left-even, right-odd}
+use Rattle.tree.proofs.sibling.Statement.{statement}
+use Rattle.tree.proofs.sibling.Tie as tie
+
+add-result : tie.Need-add-result
+add-result c = search needs
+
+sub-result : tie.Need-sub-result
+sub-result c = search needs
+
+returns : tie.Need-returns
+unfolding sibling
+returns c = rw (left-even (c .before .args .index) (c .if1 .taken))
+
+returns-2 : tie.Need-returns-2
+unfolding sibling
+returns-2 c = rw (right-odd (c .before .args .index) (c .if1 .left))
+
+pub sibling-spec : {M : Type 1} → statement M
+sibling-spec = tie.close (tie.spec add-result sub-result returns returns-2)

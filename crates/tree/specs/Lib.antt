@@ -1,0 +1,2 @@
+-- The tree over the leaf keys.
+pub mod Tree

@@ -1,0 +1,45 @@
+-- Two byte strings pass the comparison exactly when they are equal, and a loop over the bytes finds it.
+use mathlib.Core.Path.{_≡_, refl, sym}
+use mathlib.Core.Bool.{Bool, true, false, _&&_, true≢false}
+use mathlib.Core.List.{List, [], _∷_}
+use Prim.Native.Nat.{ℕ, _+_, _≤_, _<_}
+use native.Mathlib.Numerals.{add-one}
+use borrow.Author.Tests.{eq-eqb, ne-eqb, eqb-true}
+use lib.Dec.{eqb}
+use lib.ListN.{length, getD, drop, drop-of-length-le}
+use lib.Seq.{drop-cons}
+use Rattle.verifier.specs.Verifying.{same}
+
+pub same-refl : (xs : List ℕ) → same xs xs ≡ true
+unfolding same
+same-refl [] = refl
+same-refl (x ∷ xs) = rw (eq-eqb x x refl, same-refl xs)
+
+-- two tests that both pass
+both : (a b : Bool) → (a && b) ≡ true → (a ≡ true) × (b ≡ true)
+both true b e = (refl, e)
+both false b e = absurd (true≢false (sym e))
+
+pub same-true : (xs ys : List ℕ) → same xs ys ≡ true → xs ≡ ys
+unfolding same
+same-true [] [] e = refl
+same-true [] (y ∷ ys) e = absurd (true≢false (sym e))
+same-true (x ∷ xs) [] e = absurd (true≢false (sym e))
+same-true (x ∷ xs) (y ∷ ys) e =
+    let each = both (eqb x y) (same xs ys) e in
+    rw (eqb-true x y (each .0), same-true xs ys (each .1))
+
+-- a turn of the comparison, at an index within both
+module _ (a b : List ℕ) (i : ℕ) (in-a : i < length a) (in-b : i < length b) where
+  pub same-here : (getD a i 0 ≡ getD b i 0 → ⊥) → same (drop i a) (drop i b) ≡ false
+  unfolding same
+  same-here differ = rw (drop-cons a i 0 in-a, drop-cons b i 0 in-b, ne-eqb (getD a i 0) (getD b i 0) differ)
+
+  pub same-later : getD a i 0 ≡ getD b i 0 → same (drop i a) (drop i b) ≡ same (drop (i + 1) a) (drop (i + 1) b)
+  unfolding same
+  same-later e = rw (drop-cons a i 0 in-a, drop-cons b i 0 in-b, eq-eqb (getD a i 0) (getD b i 0) e, add-one)
+
+-- past the last index
+pub same-end : (a b : List ℕ) (i : ℕ) → length a ≤ i → length b ≤ i → same (drop i a) (drop i b) ≡ true
+unfolding same
+same-end a b i past-a past-b = rw (drop-of-length-le a past-a, drop-of-length-le b past-b)

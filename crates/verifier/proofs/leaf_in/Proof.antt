@@ -1,0 +1,15 @@
+-- `verifier::leaf_in` meets its contract: the word at the front.
+use borrow.Author.Needs.{needs}
+use Rattle.verifier.specs.Verifying.{leafIn}
+use Rattle.verifier.proofs.leaf_in.Statement.{statement}
+use Rattle.verifier.proofs.leaf_in.Tie as tie
+
+word-at-requires : tie.Need-word-at-requires
+word-at-requires c κs = search needs
+
+returns : tie.Need-returns
+unfolding leafIn
+returns c = c .word-at .ensures
+
+pub leaf-in-spec : {M : Type 1} → statement M
+leaf-in-spec = tie.close (tie.spec word-at-requires returns)

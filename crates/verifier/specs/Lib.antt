@@ -1,0 +1,2 @@
+-- The checking cabinet.
+pub mod Verifying

@@ -1,0 +1,94 @@
+-- Document 01, "Check": how a signature is read and judged, and what the cabinet is afterwards.
+use mathlib.Core.Path.{_≡_}
+use mathlib.Core.Bool.{Bool, true, false, not, _&&_, _||_, cond}
+use mathlib.Core.List.{List, [], _∷_, _++_}
+use Prim.Native.Nat.{ℕ, _+_, _*_, _^_}
+use lib.Dec.{ltb, leb, eqb}
+use lib.ListN.{length, take, drop}
+use Rattle.refusal.specs.Code.{outcomeCode, firstCause}
+use Rattle.words.specs.Bytes.{fromBytes}
+use Rattle.profile.specs.declared.Profile.{Profile}
+use Rattle.counts.specs.Counts.{count}
+use Rattle.counts.specs.Table.{tableCauses, tableAfter}
+use Rattle.tweak.specs.Tweak.{noLayer, noTree}
+use Rattle.one_time.specs.Operations.{recoveredBy, stepsOf}
+use Rattle.tree.specs.Tree.{climbed}
+use Rattle.message.specs.Message.{messageNumber, outsideText, signatureLength}
+use Rattle.verifier.specs.declared.Verifier.{Verifier}
+use Rattle.verifier.specs.declared.Verdict.{Verdict}
+
+-- "Fresh means 0 in that field": the lowest leaf that the cabinet will still take
+abbrev pub freshVerifier : Profile → (seed root : List ℕ) → Verifier
+freshVerifier p seed root = record { profile = p; seed = seed; root = root; lowest = 0 }
+
+-- "14 leaf below the lowest still taken"
+unfoldable pub passed : Verifier → (leaf : ℕ) → Bool
+passed v leaf = ltb leaf (v .lowest)
+
+-- "Success sets the lowest to leaf + 1"
+unfoldable pub taken : Verifier → (leaf : ℕ) → Verifier
+taken v leaf = record { profile = v .profile; seed = v .seed; root = v .root; lowest = leaf + 1 }
+
+-- "Signature: leaf (4 bytes, most significant first), R, l values, h siblings from the bottom"
+unfoldable pub leafIn : (signature : List ℕ) → ℕ
+leafIn signature = fromBytes (take 4 signature)
+
+unfoldable pub randomIn : (signature : List ℕ) → List ℕ
+randomIn signature = take 16 (drop 4 signature)
+
+unfoldable pub valuesIn : (signature : List ℕ) → List ℕ
+valuesIn signature = drop 20 signature
+
+unfoldable pub siblingsIn : Profile → (signature : List ℕ) → List ℕ
+siblingsIn p signature = drop (20 + 16 * p .shape .chains) signature
+
+-- the message number, with the root that the cabinet holds
+unfoldable pub numberIn : Verifier → (message signature : List ℕ) → ℕ
+numberIn v message signature = messageNumber (randomIn signature) (v .seed) (v .root) message
+
+-- "recovered root": the climb from the leaf key that Recover finds
+unfoldable pub recoveredRoot : Verifier → (message signature : List ℕ) → List ℕ
+recoveredRoot v message signature =
+    let leaf = leafIn signature in
+    climbed (v .seed) noLayer noTree leaf
+    (recoveredBy (v .profile) (v .seed) leaf (numberIn v message signature) (valuesIn signature))
+    (siblingsIn (v .profile) signature) (v .profile .height)
+
+-- whether two byte strings are the same
+unfoldable pub same : List ℕ → List ℕ → Bool
+same [] [] = true
+same [] (y ∷ ys) = false
+same (x ∷ xs) [] = false
+same (x ∷ xs) (y ∷ ys) = eqb x y && same xs ys
+
+-- "Check: profile checks, 5, 16; 13 signature not 20 + 16 × l + 16 × h bytes; 11; 14 leaf below the lowest still taken; 7; …"
+unfoldable pub causesBeforeRoot : Verifier → (message signature work : List ℕ) → List (Bool × ℕ)
+causesBeforeRoot v message signature work =
+    tableCauses (v .profile) (length work)
+    ++ ((outsideText (length message), 16) ∷ (not (eqb (length signature) (signatureLength (v .profile))), 13)
+    ∷ (leb (2 ^ v .profile .height) (leafIn signature), 11) ∷ (passed v (leafIn signature), 14)
+    ∷ (leb (count (v .profile .shape)) (numberIn v message signature), 7) ∷ [])
+
+-- "… 15 recovered root differs"
+unfoldable pub verifyNumber : Verifier → (message signature work : List ℕ) → ℕ
+verifyNumber v message signature work =
+    firstCause
+    (causesBeforeRoot v message signature work ++ ((not (same (recoveredRoot v message signature) (v .root)), 15) ∷ []))
+
+-- the cabinet that comes back; refused, as it was
+unfoldable pub verifierAfter : Verifier → (message signature work : List ℕ) → Verifier
+verifierAfter v message signature work = cond (eqb (verifyNumber v message signature work) 0) (taken v (leafIn signature)) v
+
+-- "The answer carries the steps made: 0 before the chains, the full sum for 15 and success"
+unfoldable pub stepsMade : Verifier → (message signature work : List ℕ) → ℕ
+stepsMade v message signature work =
+    cond (eqb (verifyNumber v message signature work) 0 || eqb (verifyNumber v message signature work) 15)
+    (stepsOf (v .profile .shape) (numberIn v message signature))
+    0
+
+-- what Check answers and leaves
+pub record Verifies (v : Verifier) (message signature work work′ : List ℕ) (answer : Verdict) : Type 0 where
+  pub number : outcomeCode (answer .outcome) ≡ verifyNumber v message signature work
+  pub verifier : answer .verifier ≡ verifierAfter v message signature work
+  pub steps : answer .steps ≡ stepsMade v message signature work
+  pub table : work′ ≡ tableAfter (verifyNumber v message signature work) (v .profile .shape) work

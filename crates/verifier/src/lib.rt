@@ -1,0 +1,225 @@
+// The checking cabinet: Check.
+ghost use mathlib.Core.Path.{_≡_};
+ghost use mathlib.Core.Bool.{not};
+ghost use mathlib.Core.List.{[], _∷_, _++_};
+ghost use Prim.Native.Nat.{_+_, _^_, _≤_, _<_};
+ghost use lib.Dec.{leb, eqb};
+ghost use lib.ListN.{length, take};
+ghost use Rattle.refusal.specs.Code.{outcomeCode, firstCause};
+ghost use Rattle.words.specs.Number.{value};
+ghost use Rattle.profile.specs.Checks.{InLimits};
+ghost use Rattle.counts.specs.Table.{tableCauses};
+ghost use Rattle.codewords.specs.Codeword.{stepsLeft};
+ghost use Rattle.tweak.specs.Tweak.{noLayer, noTree};
+ghost use Rattle.chains.specs.Leaves.{recovered};
+ghost use Rattle.tree.specs.Tree.{climbed};
+ghost use Rattle.message.specs.Message.{outsideText, signatureLength};
+ghost use Rattle.verifier.specs.Verifying as spec;
+use chains::leaves::recover_key;
+use codewords::unrank;
+use counts::table::table_outcome;
+use message::message_number;
+use message::outside_text;
+use message::signature_length;
+use profile::Profile;
+use profile::capacity;
+use refusal::Outcome;
+use refusal::Refusal;
+use tree::climb_path;
+use tweak::Leaf;
+use tweak::seeded;
+use words::bytes::read_16;
+use words::bytes::word_at;
+
+// A cabinet (document 01): its profile, the public seed, the root, and the lowest leaf that it will still take.
+pub struct Verifier {
+    pub profile: Profile,
+    pub seed: [u8; 16],
+    pub root: [u8; 16],
+    pub lowest: u32,
+}
+
+// What Check answers, with the cabinet that it hands back and the chain steps made.
+pub struct Verdict {
+    pub outcome: Outcome,
+    pub verifier: Verifier,
+    pub steps: u32,
+}
+
+// Whether a leaf is below the lowest that the cabinet will still take.
+fn passed(v: Verifier, leaf: u32) -> bool
+    ensures { λ r. ⌜ r ≡ spec.passed v leaf ⌝ }
+{
+    leaf < v.lowest
+}
+
+// The cabinet that has taken a leaf.
+fn take_leaf(v: Verifier, leaf: u32) -> Verifier
+    requires { ⌜ leaf + 1 < 2 ^ 32 ⌝ }
+    ensures { λ r. ⌜ r ≡ spec.taken v leaf ⌝ }
+{
+    let profile = v.profile;
+    let seed = v.seed;
+    let root = v.root;
+    Verifier {
+        profile: profile,
+        seed: seed,
+        root: root,
+        lowest: leaf + 1,
+    }
+}
+
+// Whether two roots are the same.
+fn same_root(a: [u8; 16], b: [u8; 16]) -> bool
+    ensures { λ r. ⌜ r ≡ spec.same a b ⌝ }
+{
+    let mut i = 0;
+    while i < 16 {
+        if a[i] != b[i] {
+            return false;
+        }
+        i += 1;
+    }
+    true
+}
+
+// The leaf that a signature names.
+fn leaf_in(signature: &[u8]) -> u32
+    requires { ⌜ 4 ≤ length (now signature) ⌝ }
+    ensures { λ r. ⌜ r ≡ spec.leafIn (now (signature .entry)) ⌝ }
+{
+    word_at(signature, 0)
+}
+
+// The message number, with the signature's R and the cabinet's root.
+fn number_in(v: Verifier, message: &[u8], signature: &[u8]) -> [u32; 5]
+    requires { ⌜ (length (now message) ≤ 200) × (20 ≤ length (now signature)) ⌝ }
+    ensures { λ r. ⌜ value r ≡ spec.numberIn v (now (message .entry)) (now (signature .entry)) ⌝ }
+{
+    let r = read_16(signature, 4);
+    let seed = v.seed;
+    let root = v.root;
+    message_number(r, seed, root, message)
+}
+
+// 11 and 14, past the causes before them.
+fn leaf_outcome(v: Verifier, leaf: u32) -> Outcome
+    requires { ⌜ v .profile .height ≤ 10 ⌝ }
+    ensures { λ r. ⌜ outcomeCode r ≡ firstCause ((leb (2 ^ v .profile .height) leaf, 11) ∷ (spec.passed v leaf, 14) ∷ []) ⌝ }
+{
+    let p = v.profile;
+    let height = p.height;
+    if capacity(height) <= leaf {
+        return Outcome::Refused(Refusal::LeafOutOfRange);
+    }
+    if passed(v, leaf) {
+        return Outcome::Refused(Refusal::LeafPassed);
+    }
+    Outcome::Granted
+}
+
+// 16, 13, 11 and 14, past the causes before them.
+fn order_outcome(v: Verifier, text: usize, signature: &[u8]) -> Outcome
+    requires { ⌜ (v .profile .shape .chains ≤ 40) × (v .profile .height ≤ 10) ⌝ }
+    ensures { λ r. ⌜ outcomeCode r ≡ firstCause ((outsideText text, 16) ∷ (not (eqb (length (now (signature .entry))) (signatureLength (v .profile))), 13) ∷ (leb (2 ^ v .profile .height) (spec.leafIn (now (signature .entry))), 11) ∷ (spec.passed v (spec.leafIn (now (signature .entry))), 14) ∷ []) ⌝ }
+{
+    let p = v.profile;
+    if outside_text(text) {
+        return Outcome::Refused(Refusal::MessageLength);
+    }
+    if signature.len() != signature_length(p) {
+        return Outcome::Refused(Refusal::SignatureLength);
+    }
+    leaf_outcome(v, leaf_in(signature))
+}
+
+// The causes of Check before the table is filled.
+fn verify_outcome(v: Verifier, words: usize, text: usize, signature: &[u8]) -> Outcome
+    ensures { λ r. ⌜ outcomeCode r ≡ firstCause (tableCauses (v .profile) words ++ ((outsideText text, 16) ∷ (not (eqb (length (now (signature .entry))) (signatureLength (v .profile))), 13) ∷ (leb (2 ^ v .profile .height) (spec.leafIn (now (signature .entry))), 11) ∷ (spec.passed v (spec.leafIn (now (signature .entry))), 14) ∷ [])) ⌝ }
+{
+    let p = v.profile;
+    let checked = table_outcome(p, words);
+    match checked {
+        Outcome::Refused(_) => checked,
+        Outcome::Granted => order_outcome(v, text, signature),
+    }
+}
+
+// The root that a signature leads to, and the chain steps made on the way.
+struct Found {
+    root: [u8; 16],
+    steps: u32,
+}
+
+// The root above the leaf key that the codeword and the signature's values give, along the signature's siblings.
+fn recover_root(v: Verifier, leaf: u32, row: [u8; 40], signature: &[u8]) -> Found
+    requires { ⌜ InLimits (v .profile .shape) × (v .profile .height ≤ 10) × (length (now signature) ≡ signatureLength (v .profile)) ⌝ }
+    ensures root { λ r. ⌜ r .root ≡ climbed (v .seed) noLayer noTree leaf (recovered (v .seed) noLayer noTree (v .profile .shape .width) (v .profile .shape .chains) leaf row (spec.valuesIn (now (signature .entry)))) (spec.siblingsIn (v .profile) (now (signature .entry))) (v .profile .height) ⌝ }
+    ensures steps { λ r. ⌜ r .steps ≡ stepsLeft (v .profile .shape .width) (take (v .profile .shape .chains) row) ⌝ }
+{
+    let p = v.profile;
+    let shape = p.shape;
+    let width = shape.width;
+    let chains = shape.chains;
+    let height = p.height;
+    let seed = v.seed;
+    let state = seeded(seed);
+    let found = recover_key(state, 0, 0, Leaf(leaf), row, width, chains, signature, 20);
+    let key = found.key;
+    let steps = found.steps;
+    let siblings = 20 + 16 * (chains as usize);
+    let root = climb_path(state, 0, 0, leaf, key, height, signature, siblings);
+    Found {
+        root: root,
+        steps: steps,
+    }
+}
+
+// Check: whether the signature of the message leads to the cabinet's root.
+pub fn verify(v: Verifier, message: &[u8], signature: &[u8], table: &mut [u32]) -> Verdict
+    ensures { λ answer. ⌜ spec.Verifies v (now (message .entry)) (now (signature .entry)) (now (table .entry)) (now (table .exit)) answer ⌝ }
+{
+    let outcome = verify_outcome(v, table.len(), message.len(), signature);
+    match outcome {
+        Outcome::Refused(_) => Verdict {
+            outcome: outcome,
+            verifier: v,
+            steps: 0,
+        },
+        Outcome::Granted => {
+            let p = v.profile;
+            let shape = p.shape;
+            let number = number_in(v, message, signature);
+            let mut row = [0u8; 40];
+            let placed = unrank(shape, number, table, &mut row);
+            match placed {
+                Outcome::Refused(_) => Verdict {
+                    outcome: placed,
+                    verifier: v,
+                    steps: 0,
+                },
+                Outcome::Granted => {
+                    let leaf = leaf_in(signature);
+                    let found = recover_root(v, leaf, row, signature);
+                    let top = found.root;
+                    let steps = found.steps;
+                    let root = v.root;
+                    if same_root(top, root) {
+                        let after = take_leaf(v, leaf);
+                        Verdict {
+                            outcome: placed,
+                            verifier: after,
+                            steps: steps,
+                        }
+                    } else {
+                        Verdict {
+                            outcome: Outcome::Refused(Refusal::RootDiffers),
+                            verifier: v,
+                            steps: steps,
+                        }
+                    }
+                }
+            }
+        }
+    }
+}

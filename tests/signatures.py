@@ -1,0 +1,228 @@
+"""Leaf key, Root, Reveal, Recover, Issue and Check: an implementation of the scope document that is
+independent of the library, over hashlib's SHA-256.
+
+A profile is the four numbers l, w, s, h. No slice is changed: every function answers with the
+number of its refusal, or 0, its value, and the slices as the call leaves them.
+"""
+
+import hashlib
+from collections import namedtuple
+from functools import cache
+
+from zarosnik import filled, first_cause, row_of, shape_causes, ways, work_cause
+
+Profile = namedtuple("Profile", "l w s h")
+GATE = Profile(34, 16, 255, 10)
+ZERO = bytes(16)
+
+
+def address(kind, first, second, third):
+    """22 bytes: layer and tree zero, the type, three fields of 4 bytes."""
+    fields = b"".join(field.to_bytes(4, "big") for field in (first, second, third))
+    return bytes(1) + bytes(8) + bytes([kind]) + fields
+
+
+@cache
+def seeded(seed):
+    return hashlib.sha256(seed + bytes(48))
+
+
+def tweaked(seed, tweak, data):
+    state = seeded(seed).copy()
+    state.update(tweak + data)
+    return state.digest()[:16]
+
+
+def chain_start(seed, secret, leaf, chain):
+    return tweaked(seed, address(5, leaf, chain, 0), secret)
+
+
+def climb(seed, leaf, chain, low, high, value):
+    """From one height to another; a step is numbered by the height before it."""
+    for height in range(low, high):
+        value = tweaked(seed, address(0, leaf, chain, height), value)
+    return value
+
+
+def chain_value(seed, secret, leaf, chain, height):
+    return climb(seed, leaf, chain, 0, height, chain_start(seed, secret, leaf, chain))
+
+
+def key_of_tops(seed, leaf, tops):
+    return tweaked(seed, address(1, leaf, 0, 0), b"".join(tops))
+
+
+@cache
+def key_of_leaf(l, w, seed, secret, leaf):
+    tops = [chain_value(seed, secret, leaf, chain, w - 1) for chain in range(l)]
+    return key_of_tops(seed, leaf, tops)
+
+
+@cache
+def node(l, w, seed, secret, height, index):
+    if height == 0:
+        return key_of_leaf(l, w, seed, secret, index)
+    left = node(l, w, seed, secret, height - 1, 2 * index)
+    right = node(l, w, seed, secret, height - 1, 2 * index + 1)
+    return tweaked(seed, address(2, 0, height, index), left + right)
+
+
+def root_of(p, seed, secret):
+    return node(p.l, p.w, seed, secret, p.h, 0)
+
+
+def path(p, seed, secret, leaf):
+    return [node(p.l, p.w, seed, secret, k, (leaf >> k) ^ 1) for k in range(p.h)]
+
+
+def climb_path(seed, leaf, key, siblings):
+    for k, other in enumerate(siblings):
+        pair = other + key if leaf >> k & 1 else key + other
+        key = tweaked(seed, address(2, 0, k + 1, leaf >> k + 1), pair)
+    return key
+
+
+def pieces(values):
+    return [values[at : at + 16] for at in range(0, len(values), 16)]
+
+
+def revealed(p, seed, secret, leaf, number):
+    row = row_of(p.l, p.w, p.s, number)
+    return b"".join(chain_value(seed, secret, leaf, c, height) for c, height in enumerate(row))
+
+
+def recovered(p, seed, leaf, number, values):
+    """The leaf key, and the steps made, one by one."""
+    tops = []
+    steps = 0
+    for c, height in enumerate(row_of(p.l, p.w, p.s, number)):
+        value = values[16 * c : 16 * c + 16]
+        while height < p.w - 1:
+            value = climb(seed, leaf, c, height, height + 1, value)
+            height += 1
+            steps += 1
+        tops.append(value)
+    return key_of_tops(seed, leaf, tops), steps
+
+
+def profile_causes(p):
+    return shape_causes(p.l, p.w, p.s) + [(4, lambda: not 0 <= p.h <= 10)]
+
+
+def table_causes(p, work):
+    return profile_causes(p) + work_cause(p.l, p.s, work)
+
+
+def number_cause(p, number):
+    return 7 if number >= ways(p.w, p.l, p.s) else 0
+
+
+def with_table(p, work):
+    return filled(p.l, p.w, p.s, work)
+
+
+def leaf_key(p, seed, secret, leaf):
+    """The outcome, the leaf key."""
+    refused = first_cause(profile_causes(p) + [(11, lambda: leaf >= 2**p.h)])
+    return (refused, ZERO) if refused else (0, key_of_leaf(p.l, p.w, seed, secret, leaf))
+
+
+def root(p, seed, secret):
+    """The outcome, the root."""
+    refused = first_cause(profile_causes(p))
+    return (refused, ZERO) if refused else (0, root_of(p, seed, secret))
+
+
+def reveal(p, seed, secret, leaf, number, work, values):
+    """The outcome, the values' slice, the work slice."""
+    refused = first_cause(
+        table_causes(p, work)
+        + [(6, lambda: len(values) < 16 * p.l), (11, lambda: leaf >= 2**p.h)]
+    )
+    if refused:
+        return refused, values, work
+    refused = number_cause(p, number)
+    if refused:
+        return refused, values, with_table(p, work)
+    shown = revealed(p, seed, secret, leaf, number)
+    return 0, shown + values[len(shown) :], with_table(p, work)
+
+
+def recover(p, seed, leaf, number, values, work):
+    """The outcome, the leaf key, the steps, the work slice."""
+    refused = first_cause(
+        table_causes(p, work)
+        + [(13, lambda: len(values) != 16 * p.l), (11, lambda: leaf >= 2**p.h)]
+    )
+    if refused:
+        return refused, ZERO, 0, work
+    refused = number_cause(p, number)
+    if refused:
+        return refused, ZERO, 0, with_table(p, work)
+    return 0, *recovered(p, seed, leaf, number, values), with_table(p, work)
+
+
+def signature_length(p):
+    return 20 + 16 * p.l + 16 * p.h
+
+
+def message_number(r, seed, root, text):
+    return int.from_bytes(hashlib.sha256(r + seed + root + text).digest()[:16], "big")
+
+
+SigningKey = namedtuple("SigningKey", "profile seed secret next")
+Verifier = namedtuple("Verifier", "profile seed root lowest")
+
+
+def text_cause(text):
+    return [(16, lambda: not 1 <= len(text) <= 200)]
+
+
+def issue(key, r, text, work, out):
+    """The outcome, the key, the output slice, the work slice."""
+    p, seed, secret, leaf = key
+    refused = first_cause(
+        table_causes(p, work)
+        + text_cause(text)
+        + [(6, lambda: len(out) < signature_length(p)), (12, lambda: leaf >= 2**p.h)]
+    )
+    if refused:
+        return refused, key, out, work
+    number = message_number(r, seed, root_of(p, seed, secret), text)
+    refused = number_cause(p, number)
+    if refused:
+        return refused, key, out, with_table(p, work)
+    signature = (
+        leaf.to_bytes(4, "big")
+        + r
+        + revealed(p, seed, secret, leaf, number)
+        + b"".join(path(p, seed, secret, leaf))
+    )
+    written = signature + out[len(signature) :]
+    return 0, key._replace(next=leaf + 1), written, with_table(p, work)
+
+
+def check(verifier, text, signature, work):
+    """The outcome, the cabinet, the steps, the work slice."""
+    p, seed, root, lowest = verifier
+    leaf = int.from_bytes(signature[:4], "big")
+    refused = first_cause(
+        table_causes(p, work)
+        + text_cause(text)
+        + [
+            (13, lambda: len(signature) != signature_length(p)),
+            (11, lambda: leaf >= 2**p.h),
+            (14, lambda: leaf < lowest),
+        ]
+    )
+    if refused:
+        return refused, verifier, 0, work
+    number = message_number(signature[4:20], seed, root, text)
+    refused = number_cause(p, number)
+    if refused:
+        return refused, verifier, 0, with_table(p, work)
+    end = 20 + 16 * p.l
+    key, steps = recovered(p, seed, leaf, number, signature[20:end])
+    if climb_path(seed, leaf, key, pieces(signature[end:])) != root:
+        return 15, verifier, steps, with_table(p, work)
+    return 0, verifier._replace(lowest=leaf + 1), steps, with_table(p, work)
