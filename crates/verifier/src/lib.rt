@@ -200,12 +200,12 @@ pub fn verify(v: Verifier, message: &[u8], signature: &[u8], table: &mut [u32]) 
                 },
                 Outcome::Granted => {
                     let leaf = leaf_in(signature);
+                    let after = take_leaf(v, leaf);
                     let found = recover_root(v, leaf, row, signature);
                     let top = found.root;
                     let steps = found.steps;
                     let root = v.root;
                     if same_root(top, root) {
-                        let after = take_leaf(v, leaf);
                         Verdict {
                             outcome: placed,
                             verifier: after,

@@ -2,6 +2,7 @@
 use mathlib.Core.Path.{_≡_, sym, _∙_}
 use mathlib.Core.Bool.{false}
 use Prim.Native.Nat.{_^_}
+use native.Mathlib.Omega.{arith}
 use borrow.Author.Tests.{le-leb, lt-leb}
 use borrow.Author.Needs.{needs}
 use lib.Dec.{leb}
@@ -14,13 +15,15 @@ capacity-requires c κs = search needs
 returns : tie.Need-returns
 returns c =
     let a = c .before .before .before .args in
-    rw (le-leb (2 ^ a .v .profile .height) (a .leaf) (rw (c .before .capacity .ensures) at (c .if1 .taken)))
+    rw (le-leb (2 ^ a .v .profile .height) (a .leaf) (omega (arith, c .before .capacity .ensures)))
 
 passed-requires : tie.Need-passed-requires
 passed-requires c κs = search needs
 
 in-tree : (c : tie.Else1) → leb (2 ^ c .before .before .before .args .v .profile .height) (c .before .before .before .args .leaf) ≡ false
-in-tree c = lt-leb _ _ (rw (c .before .capacity .ensures) at (c .if1 .left))
+in-tree c =
+    let a = c .before .before .before .args in
+    lt-leb (2 ^ a .v .profile .height) (a .leaf) (omega (arith, c .before .capacity .ensures))
 
 returns-2 : tie.Need-returns-2
 returns-2 c = rw (in-tree (c .before .before), sym (c .before .passed .ensures) ∙ c .if2 .taken)

@@ -26,7 +26,7 @@ returns-2 : tie.Need-returns-2
 returns-2 c =
     let sized = c .before in
     let a = sized .before .before .before .before .before .args in
-    rw (text-within (sized .before), ne-eqb (length (now (a .signature))) (signatureLength (a .v .profile)) (λ e. c .if2 .taken (e ∙ sym (sized .signature-length .ensures))))
+    rw (text-within (sized .before), ne-eqb (length (now (a .signature))) (signatureLength (a .v .profile)) (λ e. omega (arith, sized .signature-length .ensures)))
 
 leaf-in-requires : tie.Need-leaf-in-requires
 unfolding signatureLength
@@ -41,7 +41,7 @@ returns-3 c =
     let exact = leafed .before in
     let sized = exact .before in
     let a = sized .before .before .before .before .before .args in
-    rw (text-within (sized .before), eq-eqb (length (now (a .signature))) (signatureLength (a .v .profile)) (exact .if2 .left ∙ sized .signature-length .ensures), ← leafed .leaf-in .ensures)
+    rw (text-within (sized .before), eq-eqb (length (now (a .signature))) (signatureLength (a .v .profile)) (omega (arith, exact .if2 .left, sized .signature-length .ensures)), ← leafed .leaf-in .ensures)
     (c .leaf-outcome .ensures)
 
 pub order-outcome-spec : {M : Type 1} → statement M

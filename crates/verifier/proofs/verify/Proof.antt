@@ -51,16 +51,14 @@ spread c = c .before .before .before .before .before
 leaf-in-requires : tie.Need-leaf-in-requires
 leaf-in-requires c κs = omega (arith, fits (way (spread c)) .front)
 
+take-leaf-requires : tie.Need-take-leaf-requires
+take-leaf-requires c κs = omega (arith, fits (way (spread (c .before))) .small, c .leaf-in .ensures)
+
 recover-root-requires : tie.Need-recover-root-requires
-recover-root-requires c κs = let h = fits (way (spread (c .before))) in (h .limits, h .low, h .long)
+recover-root-requires c κs = let h = fits (way (spread (c .before .before))) in (h .limits, h .low, h .long)
 
 same-root-requires : tie.Need-same-root-requires
 same-root-requires c κs = search needs
-
-take-leaf-requires : tie.Need-take-leaf-requires
-take-leaf-requires c κs =
-    let leafed = c .before .before .before .before .before in
-    omega (arith, fits (way (spread (leafed .before))) .small, leafed .leaf-in .ensures)
 
 returns : tie.Need-returns
 returns c =
@@ -83,14 +81,15 @@ same-length-2 c = search needs
 
 returns-3 : tie.Need-returns-3
 returns-3 c =
-    let compared = c .before .before in
+    let compared = c .before in
     let found = compared .before .before .before in
-    let leafed = found .before in
+    let advanced = found .before in
+    let leafed = advanced .before in
     let told = leafed .before in
     let placed = spread told in
     let g = way placed in
     let a = start g .args in
-    verify-granted (a .v) (now (a .message)) (now (a .signature)) (now (a .table)) _ (g .before .before .verify-outcome .ensures) (g .enum-told2 .given .1) (placed .before .before .before .number-in .ensures) (placed .unrank .ensures) refl (told .enum-told4 .given .1) (leafed .leaf-in .ensures) (found .recover-root .ensures .0) (found .recover-root .ensures .1) (compared .same-root .ensures) (c .before .if1 .taken) (c .take-leaf .ensures)
+    verify-granted (a .v) (now (a .message)) (now (a .signature)) (now (a .table)) _ (g .before .before .verify-outcome .ensures) (g .enum-told2 .given .1) (placed .before .before .before .number-in .ensures) (placed .unrank .ensures) refl (told .enum-told4 .given .1) (leafed .leaf-in .ensures) (found .recover-root .ensures .0) (found .recover-root .ensures .1) (compared .same-root .ensures) (c .if1 .taken) (advanced .take-leaf .ensures)
 
 same-length-3 : tie.Need-same-length-3
 same-length-3 c = search needs
@@ -99,7 +98,7 @@ returns-4 : tie.Need-returns-4
 returns-4 c =
     let compared = c .before in
     let found = compared .before .before .before in
-    let leafed = found .before in
+    let leafed = found .before .before in
     let told = leafed .before in
     let placed = spread told in
     let g = way placed in
@@ -119,9 +118,9 @@ verify-spec =
     enum-told-3
     enum-told-4
     leaf-in-requires
+    take-leaf-requires
     recover-root-requires
     same-root-requires
-    take-leaf-requires
     returns
     same-length
     returns-2
