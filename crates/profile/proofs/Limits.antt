@@ -22,7 +22,7 @@ outside-high low high x h k = rw (le-ltb x low h, lt-ltb high x k)
 pub inside : (low high x : ℕ) → low ≤ x → x ≤ high → outside low high x ≡ false
 inside low high x h k = rw (le-ltb x low h, le-ltb high x k)
 
-not-outside : (low high x : ℕ) → outside low high x ≡ false → (low ≤ x) × (x ≤ high)
+pub not-outside : (low high x : ℕ) → outside low high x ≡ false → (low ≤ x) × (x ≤ high)
 not-outside low high x e = by (ltb x low) (ltb high x) refl refl e
   where
     by : (a b : Bool) → ltb x low ≡ a → ltb high x ≡ b → (a || b) ≡ false → (low ≤ x) × (x ≤ high)

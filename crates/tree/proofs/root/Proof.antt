@@ -5,7 +5,7 @@ use Prim.Native.Nat.{_-_}
 use native.Mathlib.Omega.{arith}
 use borrow.Author.Needs.{needs}
 use lib.ListN.{length}
-use lib.Pow.{pow-pos}
+use lib.Pow.{pow-mono}
 use Rattle.refusal.proofs.Causes.{granted-none}
 use Rattle.profile.specs.Checks.{profileCauses}
 use Rattle.profile.proofs.Limits.{profile-limits}
@@ -31,7 +31,8 @@ node-requires c κs =
     let checked = granted .before .before in
     let p = checked .before .args .p in
     let limits = profile-limits p (granted-none (profileCauses p) [] _ (checked .check-profile .ensures) (granted .enum-told2 .given .1)) in
-    (omega (arith, limits .0 .wide), limits .0 .few-chains, omega (arith, limits .1), pow-pos (31 - p .height))
+    let room = pow-mono {i = 1} {j = 31 - p .height} (omega (arith, limits .1)) in
+    omega (arith, limits .0, limits .1)
 
 returns : tie.Need-returns
 returns c =

@@ -1,0 +1,139 @@
+-- `hex::read_line` meets its contract. The invariant: the first i bytes stand in front of the line from behind them on.
+use mathlib.Core.Path.{_≡_, refl, sym, _∙_}
+use mathlib.Core.Bool.{true, false}
+use Prim.Native.Nat.{_+_, _-_, _*_, _≤_}
+use native.Mathlib.Omega.{arith}
+use borrow.Author.Needs.{needs}
+use denote.Ref.{now}
+use lib.ListN.{length, getD, take, drop, length-set}
+use lib.Seq.{length-take-le}
+use Rattle.hex.specs.Digits.{hasBytes}
+use Rattle.hex.specs.Hex.{lineEnd, readLine}
+use Rattle.hex.proofs.Reading.{past-end, ahead, short-line, long-line, read-begins, read-next, read-all, byte-room, answer-no, answer-yes}
+use Rattle.hex.proofs.read_line.Statement.{statement}
+use Rattle.hex.proofs.read_line.Tie as tie
+
+abbrev Inv-loop : tie.InvT-loop
+Inv-loop chars at bytes₀ i₀ bytes i = (i ≤ length bytes) × (at + 2 * i ≤ length chars) × (length bytes ≡ length bytes₀) × (readLine (drop at chars) ≡ ahead (take i bytes) (readLine (drop (at + 2 * i) chars)))
+
+abbrev μ-loop : tie.MeasureT-loop
+μ-loop chars at bytes₀ i₀ bytes i = length bytes - i
+
+abbrev start : tie.At-loop Inv-loop μ-loop → tie.Start Inv-loop μ-loop
+start q = q .before .before .before
+
+-- how many bytes have been read
+read-long : (q : tie.At-loop Inv-loop μ-loop) → length (take (q .loop .i) (q .loop .bytes)) ≡ q .loop .i
+read-long q = length-take-le (q .loop .i) (q .loop .bytes) (q .loop .inv .0)
+
+-- all bytes have been read, and no ending stands behind them
+not-ended : (q : tie.At-loop Inv-loop μ-loop) {B : Type 0} → length (q .loop .bytes) ≤ q .loop .i
+    → (getD (now (start q .args .chars)) (start q .args .at + 2 * q .loop .i) 0 ≡ lineEnd → ⊥)
+    → (false ≡ hasBytes (length (now (start q .args .bytes))) (readLine (drop (start q .args .at) (now (start q .args .chars))))) × (false ≡ true → B)
+not-ended q all other =
+    answer-no _ (q .loop .inv .3)
+    (long-line (take (q .loop .i) (q .loop .bytes)) _ (now (start q .args .chars)) (start q .args .at + 2 * q .loop .i) (omega (arith, read-long q)) other)
+
+loop-holds : tie.Need-loop-holds Inv-loop μ-loop
+loop-holds c =
+    let args = c .before .before .args in
+    (omega arith, omega arith, refl, read-begins (now (args .chars)) (args .at) (now (args .bytes)))
+
+mul-byte-at : tie.Need-mul-byte-at Inv-loop μ-loop
+mul-byte-at c = search needs
+
+add-byte-at : tie.Need-add-byte-at Inv-loop μ-loop
+add-byte-at c = search needs
+
+byte-at-requires : tie.Need-byte-at-requires Inv-loop μ-loop
+byte-at-requires c κs = search needs
+
+enum-known-b : tie.Need-enum-known-b Inv-loop μ-loop
+enum-known-b c = search needs
+
+enum-told : tie.Need-enum-told Inv-loop μ-loop
+enum-told c = search needs
+
+same-length : tie.Need-same-length Inv-loop μ-loop
+same-length c = c .before .before .before .before .loop .inv .2
+
+returns : tie.Need-returns Inv-loop μ-loop
+returns c =
+    let called = c .before .before in
+    let q = called .before .before in
+    answer-no _ (q .loop .inv .3) (short-line _ _ _ _ (omega (arith, read-long q)) (sym (called .byte-at .ensures) ∙ c .enum-told .given .1))
+
+slice-write-bytes : tie.Need-slice-write-bytes Inv-loop μ-loop
+slice-write-bytes c = search needs
+
+add-i : tie.Need-add-i Inv-loop μ-loop
+add-i c = search needs
+
+loop-less : tie.Need-loop-less Inv-loop μ-loop
+loop-less c = simp length-set (omega arith)
+
+loop-again : tie.Need-loop-again Inv-loop μ-loop
+loop-again c =
+    let called = c .before .before .before in
+    let q = called .before .before in
+    let args = start q .args in
+    let byte = sym (called .byte-at .ensures) ∙ c .before .b .given .1 in
+    (simp length-set (omega arith), omega (arith, byte-room (now (args .chars)) (args .at + 2 * q .loop .i) byte), simp length-set (q .loop .inv .2), read-next (now (args .chars)) (args .at) (q .loop .bytes) (q .loop .i) (omega arith) byte (q .loop .inv .3))
+
+mul-end : tie.Need-mul-end Inv-loop μ-loop
+mul-end c = search needs
+
+add-end : tie.Need-add-end Inv-loop μ-loop
+add-end c = search needs
+
+same-length-2 : tie.Need-same-length-2 Inv-loop μ-loop
+same-length-2 c = c .before .before .loop .inv .2
+
+returns-2 : tie.Need-returns-2 Inv-loop μ-loop
+returns-2 c = not-ended (c .before .before) (c .before .loop-test .left) (past-end (now (start (c .before .before) .args .chars)) _ (c .if1 .taken))
+
+shared-slice-read-if2 : tie.Need-shared-slice-read-if2 Inv-loop μ-loop
+shared-slice-read-if2 c = search needs
+
+same-length-3 : tie.Need-same-length-3 Inv-loop μ-loop
+same-length-3 c = c .before .before .before .before .loop .inv .2
+
+returns-3 : tie.Need-returns-3 Inv-loop μ-loop
+returns-3 c = let ended = c .before .before .before in not-ended (ended .before) (ended .loop-test .left) (c .if2 .taken)
+
+same-length-4 : tie.Need-same-length-4 Inv-loop μ-loop
+same-length-4 c = c .before .before .before .before .loop .inv .2
+
+returns-4 : tie.Need-returns-4 Inv-loop μ-loop
+returns-4 c =
+    let ended = c .before .before .before in
+    let loop = ended .before .loop in
+    answer-yes (loop .inv .2) (read-all _ _ (loop .bytes) (loop .i) (loop .inv .0) (ended .loop-test .left) (loop .inv .2) (c .if2 .left) (loop .inv .3))
+
+pub read-line-spec : {M : Type 1} → statement M
+read-line-spec =
+    tie.close
+    (tie.spec
+    Inv-loop
+    μ-loop
+    loop-holds
+    mul-byte-at
+    add-byte-at
+    byte-at-requires
+    enum-known-b
+    enum-told
+    same-length
+    returns
+    slice-write-bytes
+    add-i
+    loop-less
+    loop-again
+    mul-end
+    add-end
+    same-length-2
+    returns-2
+    shared-slice-read-if2
+    same-length-3
+    returns-3
+    same-length-4
+    returns-4)

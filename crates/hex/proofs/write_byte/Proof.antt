@@ -1,0 +1,43 @@
+-- `hex::write_byte` meets its contract: two stores are a byte.
+use native.Mathlib.Omega.{arith}
+use borrow.Author.Needs.{needs}
+use denote.Ref.{now}
+use lib.ListN.{length-set}
+use Rattle.hex.proofs.Writing.{stored-byte}
+use Rattle.hex.proofs.write_byte.Statement.{statement}
+use Rattle.hex.proofs.write_byte.Tie as tie
+
+hex-digit-requires : tie.Need-hex-digit-requires
+hex-digit-requires c κs = search needs
+
+hex-digit-requires-2 : tie.Need-hex-digit-requires-2
+hex-digit-requires-2 c κs = search needs
+
+slice-write-out : tie.Need-slice-write-out
+slice-write-out c = search needs
+
+add-out : tie.Need-add-out
+add-out c = search needs
+
+slice-write-out-2 : tie.Need-slice-write-out-2
+slice-write-out-2 c = simp length-set (omega arith)
+
+same-length : tie.Need-same-length
+same-length c = search needs
+
+returns : tie.Need-returns
+returns c =
+    let args = c .before .before .before .args in
+    rw (c .before .hex-digit .ensures, c .hex-digit2 .ensures) (stored-byte (now (args .out)) (args .at) (args .byte) (c .before .before .before .pre))
+
+pub write-byte-spec : {M : Type 1} → statement M
+write-byte-spec =
+    tie.close
+    (tie.spec
+    hex-digit-requires
+    hex-digit-requires-2
+    slice-write-out
+    add-out
+    slice-write-out-2
+    same-length
+    returns)

@@ -1,0 +1,3 @@
+-- Bytes as upper-case hex.
+pub mod Digits
+pub mod Hex

@@ -1,0 +1,57 @@
+-- Document 01, The listing program.
+use mathlib.Core.Bool.{cond, _&&_}
+use mathlib.Core.List.{List, [], _∷_, _++_}
+use Prim.Native.Nat.{ℕ, min}
+use lib.Dec.{eqb}
+use lib.ListN.{length, getD, drop}
+use Rattle.refusal.specs.Code.{firstCause}
+use Rattle.words.specs.Bytes.{fromBytes, toBytes}
+use Rattle.words.specs.Joined.{joinTo}
+use Rattle.hex.specs.Hex.{lineOf, Line, wrong, right, readLine}
+use Rattle.profile.specs.declared.Shape.{Shape}
+use Rattle.counts.specs.Counts.{count}
+use Rattle.counts.specs.Table.{countCauses}
+use Rattle.codewords.specs.Operations.{rowOf}
+use Rattle.listing.specs.declared.Request.{Request}
+use Rattle.listing.specs.declared.Request.the-variants.{Malformed, Asked}
+
+-- "kind 10 (hex): l, w (1 byte each), s (2)"
+unfoldable pub requestOf : (bytes : List ℕ) → Request
+requestOf bytes =
+    cond (eqb (length bytes) 5 && eqb (getD bytes 0 0) 16)
+    (Asked (record { chains = getD bytes 1 0; width = getD bytes 2 0; sum = fromBytes (drop 3 bytes) }))
+    Malformed
+
+-- "It reads one line from standard input": what stands behind the line is not looked at
+unfoldable pub requestIn : Line → Request
+requestIn wrong = Malformed
+requestIn (right bytes rest) = requestOf bytes
+
+-- "kind 11 (hex), number (2 bytes), l lengths (1 each)"
+unfoldable pub rowLine : Shape → (number : ℕ) → List ℕ
+rowLine p n = lineOf (17 ∷ toBytes 2 n ++ rowOf p n)
+
+-- "prints a line for each number up to the first 256"
+unfoldable pub rowLines : Shape → List ℕ
+rowLines p = joinTo (rowLine p) (min (count p) 256)
+
+-- "A refusal prints 1F and its number in one hex byte"
+unfoldable pub refusalLine : (number : ℕ) → List ℕ
+refusalLine n = lineOf (31 ∷ n ∷ [])
+
+-- "Its work slice has 16,000 words"
+unfoldable pub tableWords : ℕ
+tableWords = 16000
+
+-- the causes of Count
+unfoldable pub listingNumber : Shape → ℕ
+listingNumber p = firstCause (countCauses p tableWords)
+
+-- "a malformed line prints 1F11"
+unfoldable pub answerTo : Request → List ℕ
+answerTo Malformed = refusalLine 17
+answerTo (Asked p) = cond (eqb (listingNumber p) 0) (rowLines p) (refusalLine (listingNumber p))
+
+-- all that is printed
+unfoldable pub listingOf : (input : List ℕ) → List ℕ
+listingOf input = answerTo (requestIn (readLine input))

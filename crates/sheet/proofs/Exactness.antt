@@ -1,0 +1,226 @@
+-- The right sheets are those that are read, each as what it carries.
+use mathlib.Core.Path.{_≡_, refl, sym, ap, _∙_}
+use mathlib.Core.List.{List, [], _∷_, _++_, append-assoc, append-nil}
+use Prim.Native.Nat.{ℕ, zero, suc, _+_, _*_, _≤_, _<_}
+use native.Mathlib.Omega.{arith}
+use lib.Dec.{lit<}
+use lib.ListN.{length, take, drop, length-append, length-take, length-drop, take-append-drop}
+use lib.Seq.{take-at, drop-at, length-take-le, getD-drop}
+use Rattle.words.specs.Bytes.{toBytes}
+use Rattle.words.proofs.ByteLaws.{toBytes-lt}
+use Rattle.words.proofs.Lists.{Below, below-by-test}
+use Rattle.profile.specs.Checks.{InLimits}
+use Rattle.profile.specs.declared.Profile.{Profile}
+use Rattle.hex.specs.Hex.{Line, wrong, right, lineOf}
+use Rattle.message.specs.Message.{signatureLength}
+use Rattle.sheet.specs.Frames.{Frame, sized, profileFrame, numbered, frames, textFrame}
+use Rattle.sheet.specs.Sheet.{linesOf, sheetOf, Reading, wrongLine, read, readFrame, inFront, followed, ended, readFrames, readSheet, Carried, Exact}
+use Rattle.sheet.proofs.FrameLaws.{below-append, frame-read, Framed, read-frame}
+
+-- what holds of every frame
+abbrev pub All : (Frame → Type 0) → List Frame → Type 0
+All P [] = Unit {0}
+All P (f ∷ fs) = P f × All P fs
+
+-- each has one number of bytes behind its fixed ones
+abbrev pub Sized : List Frame → Type 0
+Sized fs = All (λ f. f .low ≡ f .high) fs
+
+-- the fixed ones are bytes
+abbrev pub Bytes : List Frame → Type 0
+Bytes fs = All (λ f. Below 256 (f .head)) fs
+
+-- how many bytes stand behind the fixed ones
+abbrev pub total : List Frame → ℕ
+total [] = 0
+total (f ∷ fs) = f .high + total fs
+
+pub below-take : (m n : ℕ) (l : List ℕ) → 0 < m → Below m l → Below m (take n l)
+below-take m zero l h p i = h
+below-take m (suc n) [] h p i = h
+below-take m (suc n) (x ∷ l) h p zero = p 0
+below-take m (suc n) (x ∷ l) h p (suc i) = below-take m n l h (λ j. p (suc j)) i
+
+pair-below : (a b : ℕ) → a < 256 → b < 256 → Below 256 (a ∷ b ∷ [])
+pair-below a b h k zero = h
+pair-below a b h k (suc zero) = k
+pair-below a b h k (suc (suc i)) = lit< tt
+
+pub below-drop : (m n : ℕ) (l : List ℕ) → Below m l → Below m (drop n l)
+below-drop m n l p i = rw getD-drop (p (n + i))
+
+-- the lines of frames with their bytes, and the text's line, are read as they are
+lines-read : (fs : List Frame) (line : ℕ) (bytes text : List ℕ) → Sized fs → Bytes fs → length bytes ≡ total fs → Below 256 bytes
+    → readFrame textFrame (lineOf (textFrame .head ++ text)) ≡ right text []
+    → readFrames fs line (linesOf fs bytes ++ lineOf (textFrame .head ++ text)) ≡ read bytes text
+unfolding readFrames linesOf followed inFront ended
+lines-read [] line [] text s b long below last = rw last
+lines-read [] line (x ∷ bytes) text s b long below last = absurd (omega arith)
+lines-read (f ∷ fs) line bytes text s b long below last =
+    let here : length (take (f .high) bytes) ≡ f .high = length-take-le (f .high) bytes (omega arith) in
+    let rest : length (drop (f .high) bytes) ≡ total fs = length-drop (f .high) bytes ∙ omega arith in
+    rw (
+      append-assoc (lineOf (f .head ++ take (f .high) bytes)) (linesOf fs (drop (f .high) bytes)) (lineOf (6 ∷ text)),
+      frame-read f (take (f .high) bytes) (linesOf fs (drop (f .high) bytes) ++ lineOf (6 ∷ text)) (b .0) (below-take 256 (f .high) bytes (lit< tt) below) (omega (arith, s .0)) (omega arith),
+      lines-read fs (suc line) (drop (f .high) bytes) text (s .1) (b .1) rest (below-drop 256 (f .high) bytes below) last,
+      take-append-drop,
+    )
+
+-- a reading of frames, taken apart
+pub record Apart (fs : List Frame) (sheet signature text : List ℕ) : Type 0 where
+  pub lines : sheet ≡ linesOf fs signature ++ lineOf (textFrame .head ++ text)
+  pub whole : length signature ≡ total fs
+  pub below : Below 256 signature
+  pub text-below : Below 256 text
+  pub some-text : 1 ≤ length text
+  pub short-text : length text ≤ 200
+
+not-read : {A : Type 0} (n : ℕ) (signature text : List ℕ) → wrongLine n ≡ read signature text → A
+not-read n signature text e = let z : _≡_ {A = ℕ} 0 1 = cc in absurd (omega arith)
+
+read-text : (line : ℕ) (sheet signature text : List ℕ) → ended line (readFrame textFrame sheet) ≡ read signature text → Apart [] sheet signature text
+unfolding ended linesOf
+read-text line sheet signature text e = by (readFrame textFrame sheet) refl e
+  where
+    by : (l : Line) → readFrame textFrame sheet ≡ l → ended line l ≡ read signature text → Apart [] sheet signature text
+    by wrong q e = not-read line signature text e
+    by (right bytes []) q e =
+        let f = read-frame textFrame sheet bytes [] q in
+        let none : [] ≡ signature = cc in
+        let same : bytes ≡ text = cc in
+        record {
+          lines = f .line ∙ append-nil (lineOf (6 ∷ bytes)) ∙ ap (λ t. lineOf (6 ∷ t)) same;
+          whole = rw (← none);
+          below = rw (← none) (λ i. lit< tt);
+          text-below = rw same at (f .below);
+          some-text = rw same at (f .some);
+          short-text = rw same at (f .few);
+        }
+    by (right bytes (c ∷ rest)) q e = not-read (suc line) signature text e
+
+-- a frame in front
+one-more : (f : Frame) (fs : List Frame) (sheet bytes rest more text : List ℕ) → f .low ≡ f .high → Framed f sheet bytes rest → Apart fs rest more text
+    → Apart (f ∷ fs) sheet (bytes ++ more) text
+unfolding linesOf
+one-more f fs sheet bytes rest more text s g a =
+    let long : length bytes ≡ f .high = omega (arith, s, g .some, g .few) in
+    record {
+      lines =
+          g .line ∙ rw (a .lines, take-at bytes more (f .high) long, drop-at bytes more (f .high) long)
+          (sym (append-assoc (lineOf (f .head ++ bytes)) (linesOf fs more) (lineOf (6 ∷ text))));
+      whole = length-append bytes more ∙ omega (arith, a .whole);
+      below = below-append 256 bytes more (g .below) (a .below);
+      text-below = a .text-below;
+      some-text = a .some-text;
+      short-text = a .short-text;
+    }
+
+pub read-lines : (fs : List Frame) (line : ℕ) (sheet signature text : List ℕ) → Sized fs → readFrames fs line sheet ≡ read signature text → Apart fs sheet signature text
+unfolding readFrames followed inFront
+read-lines [] line sheet signature text s e = read-text line sheet signature text e
+read-lines (f ∷ fs) line sheet signature text s e =
+    by (readFrame f sheet) refl e (λ rest more text′. read-lines fs (suc line) rest more text′ (s .1))
+  where
+    next : (bytes rest : List ℕ) → Framed f sheet bytes rest → (r : Reading) → inFront bytes r ≡ read signature text
+        → ((more text′ : List ℕ) → r ≡ read more text′ → Apart fs rest more text′) → Apart (f ∷ fs) sheet signature text
+    next bytes rest g (wrongLine n) e inner = not-read n signature text e
+    next bytes rest g (read more text′) e inner =
+        let front : bytes ++ more ≡ signature = cc in
+        let same : text′ ≡ text = cc in
+        rw (← front, ← same) (one-more f fs sheet bytes rest more text′ (s .0) g (inner more text′ refl))
+
+    by : (l : Line) → readFrame f sheet ≡ l → followed line l (readFrames fs (suc line)) ≡ read signature text
+        → ((rest more text′ : List ℕ) → readFrames fs (suc line) rest ≡ read more text′ → Apart fs rest more text′) → Apart (f ∷ fs) sheet signature text
+    by wrong q e inner = not-read line signature text e
+    by (right bytes rest) q e inner = next bytes rest (read-frame f sheet bytes rest q) (readFrames fs (suc line) rest) e (inner rest)
+
+pub all-append : (P : Frame → Type 0) (fs gs : List Frame) → All P fs → All P gs → All P (fs ++ gs)
+all-append P [] gs a b = b
+all-append P (f ∷ fs) gs a b = (a .0, all-append P fs gs (a .1) b)
+
+pub all-numbered : (P : Frame → Type 0) (kind k n : ℕ) → ((i : ℕ) → i < k + n → P (sized (kind ∷ i ∷ []) 16)) → All P (numbered kind k n)
+unfolding numbered
+all-numbered P kind k zero each = tt
+all-numbered P kind k (suc n) each = (each k (omega arith), all-numbered P kind (suc k) n (λ i h. each i (omega arith)))
+
+total-append : (fs gs : List Frame) → total (fs ++ gs) ≡ total fs + total gs
+total-append [] gs = omega arith
+total-append (f ∷ fs) gs = omega (arith, total-append fs gs)
+
+total-numbered : (kind k n : ℕ) → total (numbered kind k n) ≡ 16 * n
+unfolding numbered
+total-numbered kind k zero = refl
+total-numbered kind k (suc n) = omega (arith, total-numbered kind (suc k) n)
+
+module _ (p : Profile) where
+  pub frames-sized : Sized (frames p)
+  unfolding frames profileFrame
+  frames-sized = (
+    refl,
+    (
+      refl,
+      (
+        refl,
+        (
+          refl,
+          all-append (λ f. f .low ≡ f .high) (numbered 4 0 (p .shape .chains)) (numbered 5 0 (p .height))
+              (all-numbered (λ f. f .low ≡ f .high) 4 0 (p .shape .chains) (λ i h. refl))
+              (all-numbered (λ f. f .low ≡ f .high) 5 0 (p .height) (λ i h. refl)),
+        ),
+      ),
+    ),
+  )
+
+  pub frames-total : total (frames p) ≡ signatureLength p
+  unfolding frames profileFrame signatureLength
+  frames-total =
+      omega (arith, total-append (numbered 4 0 (p .shape .chains)) (numbered 5 0 (p .height)), total-numbered 4 0 (p .shape .chains), total-numbered 5 0 (p .height))
+
+  module _ (limits : InLimits (p .shape)) (height : p .height ≤ 10) where
+    frames-bytes : Bytes (frames p)
+    unfolding frames profileFrame
+    frames-bytes = (
+      below-by-test 256 (71 ∷ 79 ∷ 49 ∷ []) tt,
+      (
+        profile-bytes,
+        (
+          below-by-test 256 (2 ∷ []) tt,
+          (
+            below-by-test 256 (3 ∷ []) tt,
+            all-append (λ f. Below 256 (f .head)) (numbered 4 0 (p .shape .chains)) (numbered 5 0 (p .height))
+                (all-numbered (λ f. Below 256 (f .head)) 4 0 (p .shape .chains) (λ i h. pair-below 4 i (lit< tt) (omega (arith, limits .few-chains))))
+                (all-numbered (λ f. Below 256 (f .head)) 5 0 (p .height) (λ i h. pair-below 5 i (lit< tt) (omega arith))),
+          ),
+        ),
+      ),
+    )
+      where
+        profile-bytes : Below 256 (1 ∷ p .shape .chains ∷ p .shape .width ∷ p .height ∷ toBytes 2 (p .shape .sum))
+        profile-bytes zero = lit< tt
+        profile-bytes (suc zero) = omega (arith, limits .few-chains)
+        profile-bytes (suc (suc zero)) = omega (arith, limits .narrow)
+        profile-bytes (suc (suc (suc zero))) = omega arith
+        profile-bytes (suc (suc (suc (suc i)))) = toBytes-lt 2 (p .shape .sum) i
+
+    pub exact : Exact p
+    unfolding readSheet sheetOf
+    exact sheet signature text = (there, back)
+      where
+        there : readSheet p sheet ≡ read signature text → Carried p signature text × (sheet ≡ sheetOf p signature text)
+        there e =
+            let a = read-lines (frames p) 1 sheet signature text frames-sized e in (
+              record {
+                signature-bytes = a .below;
+                text-bytes = a .text-below;
+                whole = a .whole ∙ frames-total;
+                some-text = a .some-text;
+                short-text = a .short-text;
+              },
+              a .lines,
+            )
+
+        back : Carried p signature text × (sheet ≡ sheetOf p signature text) → readSheet p sheet ≡ read signature text
+        back c =
+            let d = c .0 in
+            let last = rw append-nil at (frame-read textFrame text [] (below-by-test 256 (6 ∷ []) tt) (d .text-bytes) (d .some-text) (d .short-text)) in
+            rw (c .1) (lines-read (frames p) 1 signature text frames-sized frames-bytes (d .whole ∙ sym frames-total) (d .signature-bytes) last)

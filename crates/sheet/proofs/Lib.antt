@@ -1,0 +1,9 @@
+-- What the crate proves for others to cite: the right sheets are those that are read; and the laws of its functions.
+pub mod Exactness
+pub mod Example
+pub mod FrameLaws
+pub mod ParserLaws
+pub mod PayloadLaws
+pub mod PlaceLaws
+pub mod ReaderLaws
+pub mod SheetAnswer

@@ -1,0 +1,53 @@
+-- `sheet::read_sheet` meets its contract: the checks of the profile, and then the sheet.
+use mathlib.Core.List.{[]}
+use borrow.Author.Needs.{needs}
+use denote.Ref.{now}
+use Rattle.refusal.proofs.Causes.{granted-none}
+use Rattle.profile.specs.Checks.{profileCauses}
+use Rattle.sheet.proofs.SheetAnswer.{profile-refused}
+use Rattle.sheet.proofs.read_sheet.Statement.{statement}
+use Rattle.sheet.proofs.read_sheet.Tie as tie
+
+check-profile-requires : tie.Need-check-profile-requires
+check-profile-requires c κs = search needs
+
+enum-told : tie.Need-enum-told
+enum-told c = search needs
+
+enum-told-2 : tie.Need-enum-told-2
+enum-told-2 c = search needs
+
+read-checked-requires : tie.Need-read-checked-requires
+read-checked-requires c κs =
+    let told = c .before .before in
+    let checked = told .before .before in
+    let p = checked .before .before .before .before .args .p in
+    granted-none (profileCauses p) [] (checked .check-profile .result) (checked .check-profile .ensures) (told .enum-told2 .given .1)
+
+returns : tie.Need-returns
+returns c =
+    let checked = c .before .before in
+    let a = checked .before .before .before .before .args in
+    profile-refused (a .p) (now (a .sheet)) (now (a .signature)) (now (a .message)) (checked .check-profile .result) (checked .check-profile .ensures) _ (c .enum-told .given .1)
+
+same-length : tie.Need-same-length
+same-length c = search needs
+
+same-length-2 : tie.Need-same-length-2
+same-length-2 c = search needs
+
+returns-2 : tie.Need-returns-2
+returns-2 c = c .before .before .before .before .read-checked .ensures
+
+pub read-sheet-spec : {M : Type 1} → statement M
+read-sheet-spec =
+    tie.close
+    (tie.spec
+    check-profile-requires
+    enum-told
+    enum-told-2
+    read-checked-requires
+    returns
+    same-length
+    same-length-2
+    returns-2)

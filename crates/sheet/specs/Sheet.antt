@@ -1,0 +1,82 @@
+-- Document 01, Sheet and Read sheet: the right sheet of a signature and a text, and what any bytes are read as.
+use mathlib.Core.Path.{_≡_}
+use mathlib.Core.Bool.{cond}
+use mathlib.Core.Logic.{_↔_}
+use mathlib.Core.List.{List, [], _∷_, _++_}
+use Prim.Native.Nat.{ℕ, suc, _≤_, _<_}
+use lib.Dec.{eqb}
+use lib.ListN.{length, getD, take, drop}
+use Rattle.hex.specs.Hex.{Line, wrong, right, lineOf, readLine}
+use Rattle.message.specs.Message.{signatureLength}
+use Rattle.profile.specs.Checks.{outside}
+use Rattle.profile.specs.declared.Profile.{Profile}
+use Rattle.sheet.specs.Frames.{Frame, frames, textFrame}
+
+-- the lines of frames, with the bytes behind the fixed ones taken from the front of `bytes`
+unfoldable pub linesOf : List Frame → (bytes : List ℕ) → List ℕ
+linesOf [] bytes = []
+linesOf (f ∷ fs) bytes = lineOf (f .head ++ take (f .high) bytes) ++ linesOf fs (drop (f .high) bytes)
+
+-- the right sheet: the signature's bytes, in their order, through the frames, and then the text
+unfoldable pub sheetOf : Profile → (signature text : List ℕ) → List ℕ
+sheetOf p signature text = linesOf (frames p) signature ++ lineOf (textFrame .head ++ text)
+
+-- what a sheet is read as
+pub data Reading : Type 0 where
+  -- "the number, from 1, of the first line that is wrong or missing, or stands after the last frame"
+  wrongLine : (line : ℕ) → Reading
+  read : (signature text : List ℕ) → Reading
+
+-- the bytes behind a head: "bad … kind, order, profile, chain or height" where the line begins otherwise
+unfoldable pub without : (head : List ℕ) → Line → Line
+without [] line = line
+without (h ∷ head) wrong = wrong
+without (h ∷ head) (right [] rest) = wrong
+without (h ∷ head) (right (b ∷ bytes) rest) = cond (eqb b h) (without head (right bytes rest)) wrong
+
+-- "bad … length": fewer than `low` or more than `high` bytes
+unfoldable pub within : (low high : ℕ) → Line → Line
+within low high wrong = wrong
+within low high (right bytes rest) = cond (outside low high (length bytes)) wrong (right bytes rest)
+
+-- the first line, as what stands in a frame behind its fixed bytes
+unfoldable pub readFrame : Frame → List ℕ → Line
+readFrame f sheet = within (f .low) (f .high) (without (f .head) (readLine sheet))
+
+-- bytes in front of a signature
+unfoldable pub inFront : List ℕ → Reading → Reading
+inFront bytes (wrongLine n) = wrongLine n
+inFront bytes (read signature text) = read (bytes ++ signature) text
+
+-- a frame's bytes, and what stands behind its line
+unfoldable pub followed : (line : ℕ) → Line → (List ℕ → Reading) → Reading
+followed line wrong more = wrongLine line
+followed line (right bytes rest) more = inFront bytes (more rest)
+
+-- the text, and "nothing after"
+unfoldable pub ended : (line : ℕ) → Line → Reading
+ended line wrong = wrongLine line
+ended line (right text []) = read [] text
+ended line (right text (c ∷ rest)) = wrongLine (suc line)
+
+-- the lines from the number `line` on: frames, and then the text
+unfoldable pub readFrames : List Frame → (line : ℕ) → List ℕ → Reading
+readFrames [] line sheet = ended line (readFrame textFrame sheet)
+readFrames (f ∷ fs) line sheet = followed line (readFrame f sheet) (readFrames fs (suc line))
+
+unfoldable pub readSheet : Profile → List ℕ → Reading
+readSheet p sheet = readFrames (frames p) 1 sheet
+
+-- what a sheet can carry: a signature of the right length, and a text of 1 to 200 bytes
+pub record Carried (p : Profile) (signature text : List ℕ) : Type 0 where
+  pub signature-bytes : (i : ℕ) → getD signature i 0 < 256
+  pub text-bytes : (i : ℕ) → getD text i 0 < 256
+  pub whole : length signature ≡ signatureLength p
+  pub some-text : 1 ≤ length text
+  pub short-text : length text ≤ 200
+
+-- the right sheets are those that are read, each as what it carries
+abbrev pub Exact : Profile → Type 0
+Exact p =
+    (sheet signature text : List ℕ)
+    → (readSheet p sheet ≡ read signature text) ↔ (Carried p signature text × (sheet ≡ sheetOf p signature text))
