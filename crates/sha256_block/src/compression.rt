@@ -1,8 +1,8 @@
 // FIPS 180-4, 6.2.2: one block, and the constants of 4.2.2 and 5.3.3.
 ghost use mathlib.Core.Path.{_≡_};
-ghost use mathlib.Core.List.{_++_};
-ghost use Prim.Native.Nat.{_<_, _≤_};
-ghost use lib.ListN.{length, replicate};
+ghost use mathlib.Core.List.{List, _++_};
+ghost use Prim.Native.Nat.{ℕ, _+_, _<_, _≤_};
+ghost use lib.ListN.{length, getD, take, drop, set};
 ghost use Rattle.sha256_block.specs.Constants.{roundWords};
 ghost use Rattle.sha256_block.specs.Compression as spec;
 use super::functions::big_sigma0;
@@ -116,12 +116,12 @@ pub fn initial() -> HashWords
     }
 }
 
-// The first sixteen words of the schedule, the others zero.
-fn block_words(block: &[u8]) -> [u32; 64]
+// W_0 to W_15.
+fn block_words(block: &[u8]) -> [u32; 16]
     requires { ⌜ length (now block) ≡ 64 ⌝ }
-    ensures { λ r. ⌜ r ≡ spec.wordsOf 16 (now (block .entry)) ++ replicate 48 0 ⌝ }
+    ensures { λ r. ⌜ r ≡ spec.wordsOf 16 (now (block .entry)) ⌝ }
 {
-    let mut ws = [0u32; 64];
+    let mut ws = [0u32; 16];
     let mut t = 0;
     while t < 16 {
         let w = words::bytes::word_at(block, 4 * t);
@@ -131,29 +131,54 @@ fn block_words(block: &[u8]) -> [u32; 64]
     ws
 }
 
-// W_t, from the words before it.
-fn next_word(ws: &[u32; 64], t: usize) -> u32
-    requires { ⌜ (16 ≤ t) × (t < 64) ⌝ }
-    ensures { λ r. ⌜ r ≡ spec.nextWord t (now (ws .entry)) ⌝ }
+// W_t from the sixteen words before it, which stand from index `i` on and then from 0 on.
+fn next_word(ws: [u32; 16], i: usize) -> u32
+    requires { ⌜ i < 16 ⌝ }
+    ensures { λ r. ⌜ r ≡ spec.nextWord 16 (drop i ws ++ take i ws) ⌝ }
 {
-    let x = wrapping_add_u32(small_sigma1(ws[t - 2]), ws[t - 7]);
-    let y = wrapping_add_u32(x, small_sigma0(ws[t - 15]));
-    wrapping_add_u32(y, ws[t - 16])
+    let x = wrapping_add_u32(small_sigma1(ws[(i + 14) % 16]), ws[(i + 9) % 16]);
+    let y = wrapping_add_u32(x, small_sigma0(ws[(i + 1) % 16]));
+    wrapping_add_u32(y, ws[i])
 }
 
-// W_0 to W_63.
-fn schedule(block: &[u8]) -> [u32; 64]
-    requires { ⌜ length (now block) ≡ 64 ⌝ }
-    ensures { λ r. ⌜ r ≡ spec.schedule (now (block .entry)) ⌝ }
+// The words with W_t in the place of the oldest, which no later word needs.
+fn replace_word(mut ws: [u32; 16], i: usize) -> [u32; 16]
+    requires { ⌜ i < 16 ⌝ }
+    ensures { λ r. ⌜ r ≡ set ws i (spec.nextWord 16 (drop i ws ++ take i ws)) ⌝ }
 {
-    let mut ws = block_words(block);
-    let mut t = 16;
-    while t < 64 {
-        let w = next_word(&ws, t);
-        ws[t] = w;
-        t += 1;
-    }
+    let w = next_word(ws, i);
+    ws[i] = w;
     ws
+}
+
+// The sixteen words that follow. Written out, so that each index is a constant.
+fn next_words(ws: [u32; 16]) -> [u32; 16]
+    ensures { λ r. ⌜ r ≡ drop 16 (spec.extend 16 ws) ⌝ }
+{
+    let w1 = replace_word(ws, 0);
+    let w2 = replace_word(w1, 1);
+    let w3 = replace_word(w2, 2);
+    let w4 = replace_word(w3, 3);
+    let w5 = replace_word(w4, 4);
+    let w6 = replace_word(w5, 5);
+    let w7 = replace_word(w6, 6);
+    let w8 = replace_word(w7, 7);
+    let w9 = replace_word(w8, 8);
+    let w10 = replace_word(w9, 9);
+    let w11 = replace_word(w10, 10);
+    let w12 = replace_word(w11, 11);
+    let w13 = replace_word(w12, 12);
+    let w14 = replace_word(w13, 13);
+    let w15 = replace_word(w14, 14);
+    let w16 = replace_word(w15, 15);
+    w16
+}
+
+// The words of a turn from those of the turn before; the first turn takes the block's.
+fn turn_words(ws: [u32; 16], turn: usize) -> [u32; 16]
+    ensures { λ r. ⌜ (turn ≡ 0 → r ≡ ws) × (0 < turn → r ≡ drop 16 (spec.extend 16 ws)) ⌝ }
+{
+    if 0 < turn { next_words(ws) } else { ws }
 }
 
 // One round.
@@ -177,17 +202,53 @@ fn round(v: HashWords, k: u32, w: u32) -> HashWords
     }
 }
 
-// The sixty-four rounds.
-fn rounds(v: HashWords, ws: &[u32; 64]) -> HashWords
-    ensures { λ r. ⌜ r ≡ spec.rounds 64 v (now (ws .entry)) ⌝ }
+// Round `t + i`, with word `i` of a turn that starts with round `t`.
+fn round_at(v: HashWords, table: &[u32; 64], t: usize, ws: &[u32; 16], i: usize) -> HashWords
+    requires { ⌜ ((now table ≡ roundWords) × (t + 16 ≤ 64)) × (i < 16) ⌝ }
+    ensures { λ r. ⌜ r ≡ spec.round v (getD roundWords (t + i) 0) (getD (now (ws .entry)) i 0) ⌝ }
+{
+    round(v, table[t + i], ws[i])
+}
+
+// Rounds `t` to `t + 15`. Written out, so that no round moves the working variables.
+fn sixteen_rounds(v: HashWords, table: &[u32; 64], t: usize, ws: &[u32; 16]) -> HashWords
+    requires { ⌜ (now table ≡ roundWords) × (t + 16 ≤ 64) ⌝ }
+    ensures { λ r. ⌜ ((v₀ : HashWords) (all : List ℕ) → v ≡ spec.rounds t v₀ all → now (ws .entry) ≡ take 16 (drop t all) → r ≡ spec.rounds (t + 16) v₀ all) ⌝ }
+{
+    let v1 = round_at(v, table, t, ws, 0);
+    let v2 = round_at(v1, table, t, ws, 1);
+    let v3 = round_at(v2, table, t, ws, 2);
+    let v4 = round_at(v3, table, t, ws, 3);
+    let v5 = round_at(v4, table, t, ws, 4);
+    let v6 = round_at(v5, table, t, ws, 5);
+    let v7 = round_at(v6, table, t, ws, 6);
+    let v8 = round_at(v7, table, t, ws, 7);
+    let v9 = round_at(v8, table, t, ws, 8);
+    let v10 = round_at(v9, table, t, ws, 9);
+    let v11 = round_at(v10, table, t, ws, 10);
+    let v12 = round_at(v11, table, t, ws, 11);
+    let v13 = round_at(v12, table, t, ws, 12);
+    let v14 = round_at(v13, table, t, ws, 13);
+    let v15 = round_at(v14, table, t, ws, 14);
+    let v16 = round_at(v15, table, t, ws, 15);
+    v16
+}
+
+// The sixty-four rounds, in four turns. The schedule is made in step with them, and sixteen of its words are kept.
+fn rounds(v: HashWords, block: &[u8]) -> HashWords
+    requires { ⌜ length (now block) ≡ 64 ⌝ }
+    ensures { λ r. ⌜ r ≡ spec.rounds 64 v (spec.schedule (now (block .entry))) ⌝ }
 {
     let table = round_words();
+    let mut ws = block_words(block);
     let mut x = v;
-    let mut t = 0;
-    while t < 64 {
-        let next = round(x, table[t], ws[t]);
+    let mut turn = 0;
+    while turn < 4 {
+        let current = turn_words(ws, turn);
+        ws = current;
+        let next = sixteen_rounds(x, &table, 16 * turn, &ws);
         x = next;
-        t += 1;
+        turn += 1;
     }
     x
 }
@@ -212,6 +273,5 @@ pub fn compress(v: HashWords, block: &[u8]) -> HashWords
     requires { ⌜ length (now block) ≡ 64 ⌝ }
     ensures { λ r. ⌜ r ≡ spec.compress v (now (block .entry)) ⌝ }
 {
-    let ws = schedule(block);
-    add_words(rounds(v, &ws), v)
+    add_words(rounds(v, block), v)
 }

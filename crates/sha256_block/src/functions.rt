@@ -10,16 +10,18 @@ fn rotr(x: u32, n: u32) -> u32
     (x >> n) | (x << (32 - n))
 }
 
+// Has one operation less than (4.2).
 pub fn ch(x: u32, y: u32, z: u32) -> u32
     ensures { λ r. ⌜ r ≡ Ch x y z ⌝ }
 {
-    (x & y) ^ (!x & z)
+    z ^ (x & (y ^ z))
 }
 
+// `x ^ y` is the `y ^ z` of the next round, so that a round computes one of the two.
 pub fn maj(x: u32, y: u32, z: u32) -> u32
     ensures { λ r. ⌜ r ≡ Maj x y z ⌝ }
 {
-    (x & y) ^ (x & z) ^ (y & z)
+    y ^ ((x ^ y) & (y ^ z))
 }
 
 pub fn big_sigma0(x: u32) -> u32

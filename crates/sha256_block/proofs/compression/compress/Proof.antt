@@ -4,9 +4,6 @@ use Rattle.sha256_block.specs.Compression.{compress}
 use Rattle.sha256_block.proofs.compression.compress.Statement.{statement}
 use Rattle.sha256_block.proofs.compression.compress.Tie as tie
 
-schedule-requires : tie.Need-schedule-requires
-schedule-requires c κs = search needs
-
 rounds-requires : tie.Need-rounds-requires
 rounds-requires c κs = search needs
 
@@ -18,4 +15,4 @@ unfolding compress
 returns c = cc
 
 pub compress-spec : {M : Type 1} → statement M
-compress-spec = tie.close (tie.spec schedule-requires rounds-requires add-words-requires returns)
+compress-spec = tie.close (tie.spec rounds-requires add-words-requires returns)

@@ -1,53 +1,71 @@
--- `sha256_block::compression::rounds` meets its contract. The invariant: after t turns the words are those after t rounds.
-use mathlib.Core.Path.{_≡_, refl}
-use Prim.Native.Nat.{_≤_, _-_}
-use native.Mathlib.Numerals.{add-one}
+-- `sha256_block::compression::rounds` meets its contract. The invariant: the words are those of the turn before, and the variables are those after its rounds.
+use mathlib.Core.Path.{_≡_, refl, _∙_, ap, sym}
+use mathlib.Core.List.{List}
+use Prim.Native.Nat.{ℕ, zero, suc, _+_, _*_, _-_, _≤_, _<_}
 use native.Mathlib.Omega.{arith}
 use borrow.Author.Needs.{needs}
-use Rattle.sha256_block.specs.Compression.{rounds as roundsOf}
+use lib.ListN.{take, drop}
+use Rattle.sha256_block.specs.Compression.{wordsOf, extend, schedule, rounds as roundsOf}
+use Rattle.sha256_block.proofs.Schedule.{length-words, first-words, next-part}
 use Rattle.sha256_block.proofs.compression.rounds.Statement.{statement}
 use Rattle.sha256_block.proofs.compression.rounds.Tie as tie
 
 abbrev Inv-loop : tie.InvT-loop
-Inv-loop ws table x₀ t₀ x t = (t ≤ 64) × (x ≡ roundsOf t x₀ ws)
+Inv-loop block table ws₀ x₀ turn₀ ws x turn =
+    (turn ≤ 4) × (ws ≡ take 16 (drop (16 * (turn - 1)) (schedule block))) × (x ≡ roundsOf (16 * turn) x₀ (schedule block))
 
 abbrev μ-loop : tie.MeasureT-loop
-μ-loop ws table x₀ t₀ x t = 64 - t
+μ-loop block table ws₀ x₀ turn₀ ws x turn = 4 - turn
+
+-- the words of a turn
+current : (block : List ℕ) (n : ℕ) {ws now : List ℕ} → n < 4 → ws ≡ take 16 (drop (16 * (n - 1)) (schedule block)) → (n ≡ 0 → now ≡ ws) → (0 < n → now ≡ drop 16 (extend 16 ws))
+    → now ≡ take 16 (drop (16 * n) (schedule block))
+unfolding schedule
+current block zero h e first later = first refl ∙ e
+current block (suc n) h e first later =
+    let words = wordsOf 16 block in
+    let before : 16 * (suc n - 1) ≡ 16 * n = omega arith in
+    let after : 16 * n + 16 ≡ 16 * suc n = omega arith in
+    later (omega arith) ∙ ap (λ l. drop 16 (extend 16 l)) (rw before at e) ∙ next-part words (length-words 16 block) (16 * n) (omega arith)
+    ∙ ap (λ t. take 16 (drop t (extend 48 words))) after
 
 round-words-requires : tie.Need-round-words-requires Inv-loop μ-loop
 round-words-requires c κs = search needs
 
+block-words-requires : tie.Need-block-words-requires Inv-loop μ-loop
+block-words-requires c κs = search needs
+
 loop-holds : tie.Need-loop-holds Inv-loop μ-loop
-unfolding roundsOf
-loop-holds c = (omega arith, refl)
+unfolding schedule roundsOf
+loop-holds c = (omega arith, c .block-words .ensures ∙ sym (first-words _ (length-words 16 _) 48), refl)
 
-mul-round : tie.Need-mul-round Inv-loop μ-loop
-mul-round c = search needs
+turn-words-requires : tie.Need-turn-words-requires Inv-loop μ-loop
+turn-words-requires c κs = search needs
 
-array-read-round : tie.Need-array-read-round Inv-loop μ-loop
-array-read-round c = search needs
+mul-sixteen-rounds : tie.Need-mul-sixteen-rounds Inv-loop μ-loop
+mul-sixteen-rounds c = search needs
 
-mul-round-2 : tie.Need-mul-round-2 Inv-loop μ-loop
-mul-round-2 c = search needs
+sixteen-rounds-requires : tie.Need-sixteen-rounds-requires Inv-loop μ-loop
+sixteen-rounds-requires c κs = search needs
 
-element-copy-out-round : tie.Need-element-copy-out-round Inv-loop μ-loop
-element-copy-out-round c = search needs
-
-round-requires : tie.Need-round-requires Inv-loop μ-loop
-round-requires c κs = search needs
-
-add-t : tie.Need-add-t Inv-loop μ-loop
-add-t c = search needs
+add-turn : tie.Need-add-turn Inv-loop μ-loop
+add-turn c = search needs
 
 loop-less : tie.Need-loop-less Inv-loop μ-loop
 loop-less c = search needs
 
 loop-again : tie.Need-loop-again Inv-loop μ-loop
-unfolding roundsOf
-loop-again c = (omega arith, rw add-one (cc))
+loop-again c =
+    let turned = c .before .before .before in
+    let at-loop = turned .before .before in
+    let n = at-loop .loop .turn in
+    let now = current _ n (turned .before .loop-test .taken) (at-loop .loop .inv .1) (turned .turn-words .ensures .0) (turned .turn-words .ensures .1) in
+    let same : n + 1 - 1 ≡ n = omega arith in
+    let next : 16 * n + 16 ≡ 16 * (n + 1) = omega arith in
+    (omega arith, rw same now, rw (← next) (c .sixteen-rounds .ensures _ _ (at-loop .loop .inv .2) now))
 
 returns : tie.Need-returns Inv-loop μ-loop
-returns c = let all : c .before .loop .t ≡ 64 = omega arith in rw all at (c .before .loop .inv .1)
+returns c = let all : c .before .loop .turn ≡ 4 = omega arith in rw all at (c .before .loop .inv .2)
 
 pub rounds-spec : {M : Type 1} → statement M
 rounds-spec =
@@ -56,13 +74,12 @@ rounds-spec =
     Inv-loop
     μ-loop
     round-words-requires
+    block-words-requires
     loop-holds
-    mul-round
-    array-read-round
-    mul-round-2
-    element-copy-out-round
-    round-requires
-    add-t
+    turn-words-requires
+    mul-sixteen-rounds
+    sixteen-rounds-requires
+    add-turn
     loop-less
     loop-again
     returns)
