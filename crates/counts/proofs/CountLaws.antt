@@ -4,6 +4,7 @@ use mathlib.Core.Bool.{Bool, true, false, cond}
 use mathlib.Core.Logic.{_⊎_, inl, inr}
 use Prim.Native.Nat.{ℕ, zero, suc, _+_, _*_, _-_, _^_, _≤_, _<_, zero-le}
 use native.Mathlib.Nat.{le-refl, le-trans, le-of-eq, le-of-suc-le-suc, lt-of-le-of-lt, eq-or-lt-of-le, add-le-add, suc-mul, suc-sub-suc, sub-zero, pow-zero, pow-succ', pow-le-pow-left, pow-le-pow-right}
+use native.Mathlib.Numerals.{add-one}
 use native.Mathlib.Omega.{arith}
 use borrow.Author.Tests.{leb-true, le-leb, lt-leb}
 use lib.Arith.{le-zero}
@@ -77,23 +78,27 @@ shares-of-suc f t n =
     sumTo-front (share f (suc t)) n ∙ rw (share-zero, rest)
 
 -- the sum 0 has one way: each length is 0
-pub D-zero : (w i : ℕ) → 1 ≤ w → D w i 0 ≡ 1
+D-zero : (w i : ℕ) → 1 ≤ w → D w i 0 ≡ 1
 unfolding D
 D-zero w zero h = refl
 D-zero zero (suc i) h = omega arith
 D-zero (suc w) (suc i) h = shares-of-zero (D (suc w) i) w ∙ D-zero (suc w) i h
 
--- from the sum t to suc t the window of w lengths slides: it gains a share in front and loses one behind
-window : (w i t : ℕ) → D w (suc i) (suc t) + share (D w i) (suc t) w ≡ D w (suc i) t + D w i (suc t)
+-- the share of the length 1 is the number before
+share-one : (f : ℕ → ℕ) (t : ℕ) → share f (suc t) 1 ≡ f t
+share-one f t = share-suc f t 0 ∙ share-zero f t
+
+pub share-before : (f : ℕ → ℕ) (t : ℕ) → share f (t + 1) 1 ≡ f t
+share-before f t = rw add-one (share-one f t)
+
+pub share-start : (f : ℕ → ℕ) → share f 0 1 ≡ 0
+share-start f = share-high f 0 1 (le-refl 1)
+
+-- from a sum to the next the window of w lengths slides: it gains a share in front and loses one behind
+pub D-window : (w i t : ℕ) → 1 ≤ w → D w (suc i) t + share (D w i) t w ≡ share (D w (suc i)) t 1 + D w i t
 unfolding D sumTo
-window w i t = omega (arith, shares-of-suc (D w i) t w)
-
--- the window loses nothing where it reaches past the sum, and a number of the row before where not
-pub D-window-low : (w i t : ℕ) → 1 ≤ w → suc t < w → D w (suc i) (suc t) ≡ D w (suc i) t + D w i (suc t)
-D-window-low w i t one h = omega (arith, window w i t, share-high (D w i) (suc t) w h)
-
-pub D-window-high : (w i t : ℕ) → 1 ≤ w → w ≤ suc t → D w (suc i) (suc t) + D w i (suc t - w) ≡ D w (suc i) t + D w i (suc t)
-D-window-high w i t one h = omega (arith, window w i t, share-low (D w i) (suc t) w h)
+D-window w i zero one = omega (arith, D-zero w (suc i) one, D-zero w i one, share-high (D w i) 0 w one, share-start (D w (suc i)))
+D-window w i (suc t) one = omega (arith, shares-of-suc (D w i) t w, share-one (D w (suc i)) t)
 
 -- row 0 is at most 1, and row suc i at most w ^ i
 pub D-bound-zero : (w t : ℕ) → D w zero t ≤ 1
@@ -123,6 +128,7 @@ D-bound-16 w (suc i) t small few =
 pub D-small : (w i t : ℕ) → 1 ≤ w → w ≤ 16 → i ≤ 40 → D w i t < 2 ^ 160
 D-small w i t one small few = lt-of-le-of-lt (D-bound-16 w i t small few) (lit< tt)
 
-pub D-sum-small : (w i t u : ℕ) → 1 ≤ w → w ≤ 16 → i < 40 → D w (suc i) t + D w i u < 2 ^ 160
-D-sum-small w i t u one small few =
-    lt-of-le-of-lt (add-le-add (D-bound-16 w (suc i) t small few) (D-bound-16 w i u small (omega arith))) (lit< tt)
+pub D-sum-small : (w i t : ℕ) → w ≤ 16 → i < 40 → share (D w (suc i)) t 1 + D w i t < 2 ^ 160
+D-sum-small w i t small few =
+    let before = share-le (D w (suc i)) (16 ^ 39) t 1 (λ low. D-bound-16 w (suc i) (t - 1) small few) in
+    lt-of-le-of-lt (add-le-add before (D-bound-16 w i t small (omega arith))) (lit< tt)

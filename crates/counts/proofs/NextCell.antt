@@ -1,16 +1,16 @@
--- The next number of the table, from the numbers that are in it: a sum and a difference of five words each.
-use mathlib.Core.Path.{_≡_, _∙_, ap, sym}
-use mathlib.Core.List.{List, _++_, append-assoc}
+-- The next number of a row, from the number before it and the row above.
+use mathlib.Core.Path.{_≡_, _∙_, ap}
+use mathlib.Core.List.{List}
 use Prim.Native.Nat.{ℕ, suc, _+_, _-_, _*_, _^_, _<_, _≤_}
 use native.Mathlib.Nat.{suc-mul, mul-le-mul}
 use native.Mathlib.Omega.{arith}
-use lib.ListN.{take, drop, take-append-drop}
-use Rattle.words.specs.Number.{value, toWords}
-use Rattle.words.proofs.NumberLaws.{add-exact, subtract-exact}
-use Rattle.counts.specs.Counts.{D}
-use Rattle.counts.specs.Table.{cells, rows}
-use Rattle.counts.proofs.CountLaws.{D-zero, D-window-low, D-window-high, D-small, D-sum-small}
-use Rattle.counts.proofs.TableLaws.{cell-row, cell-before}
+use lib.ListN.{take, drop}
+use Rattle.words.specs.Number.{value}
+use Rattle.words.proofs.NumberLaws.{value-toWords-5}
+use Rattle.counts.specs.Counts.{share, D}
+use Rattle.counts.specs.Table.{rows}
+use Rattle.counts.proofs.CountLaws.{share-low, share-high, D-window, D-small, D-sum-small}
+use Rattle.counts.proofs.TableLaws.{cell-of}
 
 -- a row's start is one row behind that of the row above
 pub row-start : (i s : ℕ) → 0 < i → i * (s + 1) ≡ (i - 1) * (s + 1) + (s + 1)
@@ -20,52 +20,35 @@ row-start i s h = let e : i ≡ suc (i - 1) = omega arith in ap (λ k. k * (s + 
 pub row-small : (i s : ℕ) → i ≤ 41 → s ≤ 600 → i * (s + 1) ≤ 24641
 row-small i s hi hs = mul-le-mul {n₂ = 41} {m₂ = 601} hi (omega arith)
 
--- the place 0 has one row in each number of chains
-pub same-zero : (w i j t : ℕ) → 1 ≤ w → t ≡ 0 → D w i t ≡ D w j t
-same-zero w i j t one e = rw e (D-zero w i one ∙ sym (D-zero w j one))
-
--- a work slice that holds the rows above i and the row i up to t
-module _ (table : List ℕ) (w s i t : ℕ) (e : take (5 * (i * (s + 1) + t)) table ≡ rows w s i ++ cells (D w i) t) where
-  split : table ≡ rows w s i ++ cells (D w i) t ++ drop (5 * (i * (s + 1) + t)) table
-  split = rw (← e) (sym (take-append-drop (5 * (i * (s + 1) + t)) table))
-
-  pub row-at : (j u : ℕ) → j < i → u ≤ s → take 5 (drop (5 * (j * (s + 1) + u)) table) ≡ toWords 5 (D w j u)
-  row-at j u h k =
-      ap (λ l. take 5 (drop (5 * (j * (s + 1) + u)) l)) (split ∙ append-assoc (rows w s i) (cells (D w i) t) (drop (5 * (i * (s + 1) + t)) table))
-      ∙ cell-row w s i j u (cells (D w i) t ++ drop (5 * (i * (s + 1) + t)) table) h (omega arith)
-
-  pub before-at : (u : ℕ) → u < t → take 5 (drop (5 * (i * (s + 1) + u)) table) ≡ toWords 5 (D w i u)
-  before-at u h =
-      ap (λ l. take 5 (drop (5 * (i * (s + 1) + u)) l)) split ∙ cell-before w s i t u (drop (5 * (i * (s + 1) + t)) table) h
-
--- the numbers that the code adds and subtracts, for a row i and a place t that are not 0
-module _ (w i t : ℕ) (one : 1 ≤ w) (narrow : w ≤ 16) (some : 0 < i) (few : i ≤ 40) (more : 0 < t) where
+-- a row i below the first, and a place t
+module _ (w i t : ℕ) (one : 1 ≤ w) (narrow : w ≤ 16) (some : 0 < i) (few : i ≤ 40) where
   lower : i ≡ suc (i - 1)
   lower = omega arith
 
-  left : t ≡ suc (t - 1)
-  left = omega arith
+  -- a number of the row above, read from a work slice that holds the rows above i
+  pub above : (s u : ℕ) (table : List ℕ) → take (5 * (i * (s + 1))) table ≡ rows w s i → u ≤ s → value (take 5 (drop (5 * ((i - 1) * (s + 1) + u)) table)) ≡ D w (i - 1) u
+  above s u table e h =
+      ap value (cell-of w s i (i - 1) u table e (omega arith) (omega arith)) ∙ value-toWords-5 (D w (i - 1) u) (D-small w (i - 1) u one narrow (omega arith))
 
-  sum-small : D w i (t - 1) + D w (i - 1) t < 2 ^ 160
-  sum-small = rw (← lower) at (D-sum-small w (i - 1) (t - 1) t one narrow (omega arith))
+  slides : D w i t + share (D w (i - 1)) t w ≡ share (D w i) t 1 + D w (i - 1) t
+  slides = rw (← lower) at (D-window w (i - 1) t one)
 
-  -- the sum with the count that comes into the window
-  pub grown : (a b r : List ℕ) → a ≡ toWords 5 (D w i (t - 1)) → b ≡ toWords 5 (D w (i - 1) t) → r ≡ toWords 5 (value a + value b)
-      → r ≡ toWords 5 (D w i (t - 1) + D w (i - 1) t)
-  grown a b r p q e =
-      e ∙ rw (p, q) (add-exact (D w i (t - 1)) (D w (i - 1) t) (D-small w i (t - 1) one narrow few) (D-small w (i - 1) t one narrow (omega arith)))
+  -- the number before, and the one above, which comes into the window
+  module _ (before up : ℕ) (p : before ≡ share (D w i) t 1) (q : up ≡ D w (i - 1) t) where
+    pub grown-fits : before + up < 2 ^ 160
+    grown-fits = rw (p, q) (rw (← lower) at (D-sum-small w (i - 1) t narrow (omega arith)))
 
-  -- nothing falls out of the window yet
-  pub window-low : t < w → D w i (t - 1) + D w (i - 1) t ≡ D w i t
-  window-low h = rw (← lower, ← left) at (sym (D-window-low w (i - 1) (t - 1) one (omega arith)))
+    -- nothing falls out of the window yet
+    pub grown : (r : ℕ) → t < w → r ≡ before + up → r ≡ D w i t
+    grown r h e = omega (arith, slides, share-high (D w (i - 1)) t w h)
 
-  -- a count falls out of the window
-  window-high : w ≤ t → D w i t + D w (i - 1) (t - w) ≡ D w i (t - 1) + D w (i - 1) t
-  window-high h = rw (← lower, ← left) at (D-window-high w (i - 1) (t - 1) one (omega arith))
+    -- a number falls out of it
+    module _ (out sum : ℕ) (h : w ≤ t) (e : out ≡ D w (i - 1) (t - w)) (f : sum ≡ before + up) where
+      whole : D w i t + out ≡ sum
+      whole = omega (arith, slides, share-low (D w (i - 1)) t w h)
 
-  pub shrunk : (a b r : List ℕ) → w ≤ t → a ≡ toWords 5 (D w i (t - 1) + D w (i - 1) t) → b ≡ toWords 5 (D w (i - 1) (t - w)) → r ≡ toWords 5 (value a + 2 ^ 160 - value b)
-      → r ≡ toWords 5 (D w i t)
-  shrunk a b r h p q e =
-      let within : D w (i - 1) (t - w) ≤ D w i (t - 1) + D w (i - 1) t = omega (arith, window-high h) in
-      let result : D w i (t - 1) + D w (i - 1) t - D w (i - 1) (t - w) ≡ D w i t = omega (arith, window-high h) in
-      e ∙ rw (p, q) (subtract-exact (D w i (t - 1) + D w (i - 1) t) (D w (i - 1) (t - w)) sum-small within ∙ ap (toWords 5) result)
+      pub out-within : out ≤ sum
+      out-within = omega (arith, whole)
+
+      pub shrunk : (r : ℕ) → r + out ≡ sum → r ≡ D w i t
+      shrunk r g = omega (arith, whole)

@@ -62,10 +62,7 @@ module _ (w s : ℕ) where
       let split : table ≡ rows w s n ++ drop (5 * (n * (s + 1))) table = rw (← e) (sym (take-append-drop (5 * (n * (s + 1))) table)) in
       ap (λ l. take 5 (drop (5 * (i * (s + 1) + t)) l)) split ∙ cell-row n i t (drop (5 * (n * (s + 1))) table) h k
 
-  -- D(i, u) before the cell t of the row i
-  pub cell-before : (i t u : ℕ) (more : List ℕ) → u < t → take 5 (drop (5 * (i * (s + 1) + u)) (rows w s i ++ cells (D w i) t ++ more)) ≡ toWords 5 (D w i u)
-  cell-before i t u more h = rw append-assoc (ap (take 5) (after-rows i u (cells (D w i) t ++ more)) ∙ cell-in (D w i) t u more h)
-
+  -- the rows above i, and the row i up to t
   pub length-before : (i t : ℕ) → length (rows w s i ++ cells (D w i) t) ≡ 5 * (i * (s + 1) + t)
   length-before i t = length-append (rows w s i) (cells (D w i) t) ∙ omega (arith, length-rows w s i, length-cells (D w i) t)
 
@@ -74,10 +71,6 @@ module _ (w s : ℕ) where
       → work ≡ rows w s i ++ cells (D w i) 0 ++ drop (5 * (i * (s + 1) + 0)) work
   unfolding cells
   row-begins i work e = rw (add-zero, append-nil, ← e) (sym (take-append-drop (5 * (i * (s + 1))) work))
-
-  -- what is before the cell t
-  pub before-cell : (i t : ℕ) (work table : List ℕ) → table ≡ rows w s i ++ cells (D w i) t ++ work → take (5 * (i * (s + 1) + t)) table ≡ rows w s i ++ cells (D w i) t
-  before-cell i t work table e = rw e (take-at (rows w s i ++ cells (D w i) t) work (5 * (i * (s + 1) + t)) (length-before i t))
 
   -- the cell t stored behind what is before it
   pub cell-stored : (i t : ℕ) (work : List ℕ) → 5 * (i * (s + 1) + t) + 5 ≤ length work
@@ -113,6 +106,10 @@ module _ (w s : ℕ) where
   -- the rows above i
   pub above-row : (i : ℕ) (work table : List ℕ) → table ≡ rows w s i ++ work → take (5 * (i * (s + 1))) table ≡ rows w s i
   above-row i work table e = rw e (take-at (rows w s i) work (5 * (i * (s + 1))) (length-rows w s i))
+
+  -- the same where the row i is there up to t
+  pub above-cell : (i t : ℕ) (work table : List ℕ) → table ≡ rows w s i ++ cells (D w i) t ++ work → take (5 * (i * (s + 1))) table ≡ rows w s i
+  above-cell i t work table e = above-row i (cells (D w i) t ++ work) table (e ∙ append-assoc (rows w s i) (cells (D w i) t) work)
 
   -- a turn of the loop that fills the rows
   pub next-row : (i : ℕ) (work table next : List ℕ) → table ≡ rows w s i ++ drop (5 * (i * (s + 1))) work → next ≡ rows w s (i + 1) ++ drop (5 * ((i + 1) * (s + 1))) table

@@ -8,16 +8,20 @@ ghost use lib.ListN.{length, take, drop};
 ghost use Rattle.refusal.specs.Code.{outcomeCode, firstCause};
 ghost use Rattle.words.specs.Number.{toWords};
 ghost use Rattle.profile.specs.Checks.{InLimits};
-ghost use Rattle.counts.specs.Counts.{D};
-ghost use Rattle.counts.specs.Table.{cells, rows, tableLength, countCauses, tableCauses, Counts};
+ghost use Rattle.counts.specs.Counts.{share, D};
+ghost use Rattle.counts.specs.Limbs.{number};
+ghost use Rattle.counts.specs.Table.{rows, tableLength, countCauses, tableCauses, Counts};
 use super::cells::load;
 use super::cells::store;
+use super::limbs::Limbs;
+use super::limbs::add;
+use super::limbs::from_words;
+use super::limbs::subtract;
+use super::limbs::to_words;
 use profile::Profile;
 use profile::Shape;
 use refusal::Outcome;
 use refusal::Refusal;
-use words::number::add;
-use words::number::subtract;
 
 // What Count answers. Refused, the count is zero.
 pub struct Counted {
@@ -32,28 +36,26 @@ fn first_cell(t: usize) -> [u32; 5]
     if t == 0 { [1, 0, 0, 0, 0] } else { [0; 5] }
 }
 
-// D(i, t), from the rows above and the cells before it: the window of w shares moves on by one, so one count comes in
-// and one falls out.
-fn cell(table: &[u32], width: usize, sum: usize, i: usize, t: usize) -> [u32; 5]
+// D(i, t), from the row above and the count before it, which is 0 at the row's start: the window of w shares moves on by
+// one, so one count comes in and one falls out.
+fn cell(table: &[u32], previous: Limbs, width: usize, sum: usize, i: usize, t: usize) -> Limbs
     requires { ⌜ (1 ≤ width) × (width ≤ 16) × (i ≤ 40) × (t ≤ sum) × (sum ≤ 600) ⌝ }
-    requires { ⌜ take (5 * (i * (sum + 1) + t)) (now table) ≡ rows width sum i ++ cells (D width i) t ⌝ }
-    requires { ⌜ 5 * (i * (sum + 1) + t) ≤ length (now table) ⌝ }
-    ensures { λ r. ⌜ r ≡ toWords 5 (D width i t) ⌝ }
+    requires { ⌜ take (5 * (i * (sum + 1))) (now table) ≡ rows width sum i ⌝ }
+    requires { ⌜ 5 * (i * (sum + 1)) ≤ length (now table) ⌝ }
+    requires { ⌜ number previous ≡ share (D width i) t 1 ⌝ }
+    ensures { λ r. ⌜ number r ≡ D width i t ⌝ }
 {
     if i == 0 {
-        return first_cell(t);
+        return from_words(first_cell(t));
     }
-    let stride = sum + 1;
-    let above = (i - 1) * stride + t;
-    let up = load(table, above);
-    if t == 0 {
-        return up;
-    }
-    let grown = add(load(table, above + sum), up);
+    let above = (i - 1) * (sum + 1) + t;
+    let incoming = from_words(load(table, above));
+    let grown = add(previous, incoming);
     if t < width {
         return grown;
     }
-    subtract(grown, load(table, above - width))
+    let outgoing = from_words(load(table, above - width));
+    subtract(grown, outgoing)
 }
 
 // Row i.
@@ -63,10 +65,11 @@ fn fill_row(table: &mut [u32], width: usize, sum: usize, i: usize)
     requires { ⌜ 5 * ((i + 1) * (sum + 1)) ≤ length (now table) ⌝ }
     ensures { λ _. ⌜ now (table .exit) ≡ rows width sum (i + 1) ++ drop (5 * ((i + 1) * (sum + 1))) (now (table .entry)) ⌝ }
 {
+    let mut n = from_words([0; 5]);
     let mut t = 0;
     while t < sum + 1 {
-        let n = cell(table, width, sum, i, t);
-        store(table, i * (sum + 1) + t, n);
+        n = cell(table, n, width, sum, i, t);
+        store(table, i * (sum + 1) + t, to_words(n));
         t += 1;
     }
 }

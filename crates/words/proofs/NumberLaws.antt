@@ -62,10 +62,6 @@ toWords-mod k n =
     let words = toWords-value (toWords k n) (toWords-lt k n) in
     rw (← value-toWords k n) (rw length-toWords at words)
 
--- a sum of five-word numbers
-pub add-exact : (a b : ℕ) → a < 2 ^ 160 → b < 2 ^ 160 → toWords 5 (value (toWords 5 a) + value (toWords 5 b)) ≡ toWords 5 (a + b)
-add-exact a b ha hb = rw (value-toWords-5 a ha, value-toWords-5 b hb)
-
 moved : (a b m : ℕ) → b ≤ a → a + m - b ≡ a - b + m
 moved a b m h = omega arith
 

@@ -1,5 +1,5 @@
 -- `counts::table::then_room` meets its contract: a refusal stays as it is, and then the size of the work slice is looked at.
-use mathlib.Core.Path.{_≡_, refl, ap}
+use mathlib.Core.Path.{refl, ap}
 use Prim.Native.Nat.{_+_, _*_, _≤_}
 use native.Mathlib.Omega.{arith}
 use borrow.Author.Tests.{lt-ltb, le-ltb}
