@@ -27,7 +27,7 @@ fn chain_start(
     ensures { λ r. ⌜ ((seed : List ℕ) → length seed ≡ 16 → state ≡ hashed (seedBlock seed) → r ≡ chainHead seed layer tree (leaf .0) (chain .0) secret) ⌝ }
 {
     let address = chain_start_address(layer, tree, leaf, chain);
-    tweaked_hash(state, address, &secret)
+    tweaked_hash(state, address, secret)
 }
 
 // One step, by the height before it.
@@ -43,7 +43,7 @@ fn chain_step(
     ensures { λ r. ⌜ ((seed : List ℕ) → length seed ≡ 16 → state ≡ hashed (seedBlock seed) → r ≡ tweakedHash seed (chainStepAddress layer tree (leaf .0) (chain .0) (height .0)) value) ⌝ }
 {
     let address = chain_step_address(layer, tree, leaf, chain, height);
-    tweaked_hash(state, address, &value)
+    tweaked_hash(state, address, value)
 }
 
 // A value, and the steps that led to it.

@@ -3,3 +3,4 @@ mod running;
 
 pub use running::Added;
 pub use running::Hash;
+pub use running::put;

@@ -111,7 +111,7 @@ fn kept(block: [u8; 64], n: usize) -> [u8; 64]
 }
 
 // The block with the bytes from index `at` on.
-fn put(block: [u8; 64], at: usize, bytes: &[u8]) -> [u8; 64]
+pub fn put(block: [u8; 64], at: usize, bytes: &[u8]) -> [u8; 64]
     requires { ⌜ at + length (now bytes) ≤ 64 ⌝ }
     ensures { λ r. ⌜ r ≡ paste block at (now (bytes .entry)) (length (now (bytes .entry))) ⌝ }
 {

@@ -1,12 +1,15 @@
 // Addresses (FIPS 205) and the tweaked hash.
 ghost use mathlib.Core.Path.{_≡_};
 ghost use mathlib.Core.List.{List, _++_};
-ghost use Prim.Native.Nat.{ℕ, _+_, _≤_};
+ghost use Prim.Native.Nat.{ℕ, _≤_};
 ghost use lib.ListN.{length, take};
-ghost use Rattle.sha256.specs.Digest.{digest};
+ghost use Rattle.sha256.specs.Digest.{padding, wordBytes, digest};
 ghost use Rattle.sha256.specs.Running.{hashed};
 ghost use Rattle.tweak.specs.Tweak.{address as addressOf, chainStepAddress, leafKeyAddress, nodeAddress, chainStartAddress, seedBlock, tweakedHash};
 use sha256::Hash;
+use sha256::put;
+use sha256_block::HashWords;
+use sha256_block::compress;
 use words::bytes::read_16;
 use words::bytes::word_bytes;
 use words::bytes::write_16;
@@ -112,19 +115,42 @@ pub fn absorb(hash: Hash, value: [u8; 16]) -> Hash
     with_value.hash
 }
 
+// The first 16 bytes of a hash value.
+fn front(words: HashWords) -> [u8; 16]
+    ensures { λ r. ⌜ r ≡ take 16 (wordBytes words) ⌝ }
+{
+    let whole = Hash {
+        words: words,
+        block: [0; 64],
+        total: 0,
+    }.digest();
+    read_16(&whole, 0)
+}
+
 // The first 16 bytes of the digest.
 pub fn end(hash: Hash) -> [u8; 16]
     ensures { λ r. ⌜ ((bytes : List ℕ) → hash ≡ hashed bytes → r ≡ take 16 (digest bytes)) ⌝ }
 {
-    let whole = hash.finish().digest();
-    read_16(&whole, 0)
+    let finished = hash.finish();
+    front(finished.words)
 }
 
-// The tweaked hash of the data, from the running hash after the seed's block.
-pub fn tweaked_hash(state: Hash, address: [u8; 22], bytes: &[u8]) -> [u8; 16]
-    requires { ⌜ length (now bytes) ≤ 65000 ⌝ }
-    ensures { λ r. ⌜ ((seed : List ℕ) → length seed ≡ 16 → state ≡ hashed (seedBlock seed) → r ≡ tweakedHash seed address (now (bytes .entry))) ⌝ }
+// The block behind the seed's where the data are one value: the address, the value, and the padding of the 102 bytes.
+fn last_block(address: [u8; 22], value: [u8; 16]) -> [u8; 64]
+    ensures { λ r. ⌜ r ≡ address ++ value ++ padding 102 ⌝ }
 {
-    let with_data = begin(state, address).add(bytes);
-    end(with_data.hash)
+    let mut padded = [0u8; 64];
+    padded[38] = 128;
+    padded[62] = 3;
+    padded[63] = 48;
+    put(put(padded, 0, &address), 22, &value)
+}
+
+// The tweaked hash of one value, from the running hash after the seed's block: one compression.
+pub fn tweaked_hash(state: Hash, address: [u8; 22], value: [u8; 16]) -> [u8; 16]
+    ensures { λ r. ⌜ ((seed : List ℕ) → length seed ≡ 16 → state ≡ hashed (seedBlock seed) → r ≡ tweakedHash seed address value) ⌝ }
+{
+    let block = last_block(address, value);
+    let words = state.words;
+    front(compress(words, &block))
 }

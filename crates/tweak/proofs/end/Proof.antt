@@ -11,22 +11,12 @@ use Rattle.tweak.proofs.end.Tie as tie
 finish-requires : tie.Need-finish-requires
 finish-requires c κs = search needs
 
-digest-requires : tie.Need-digest-requires
-digest-requires c κs = search needs
-
-slice-aggregate-read-16 : tie.Need-slice-aggregate-read-16
-slice-aggregate-read-16 c = search needs
-
-read-16-requires : tie.Need-read-16-requires
-read-16-requires c κs = search needs
+front-requires : tie.Need-front-requires
+front-requires c κs = search needs
 
 returns : tie.Need-returns
 returns c =
-    let made = c .before .before in
-    let whole = made .digest .ensures ∙ ap (λ (h : Hash). wordBytes (h .words)) (made .before .finish .ensures) in
-    λ bytes e. front-taken bytes e (c .read-16 .ensures ∙ ap (take 16) whole)
+    λ bytes e. front-taken bytes e (c .front .ensures ∙ ap (λ (h : Hash). take 16 (wordBytes (h .words))) (c .before .finish .ensures))
 
 pub end-spec : {M : Type 1} → statement M
-end-spec =
-    tie.close
-    (tie.spec finish-requires digest-requires slice-aggregate-read-16 read-16-requires returns)
+end-spec = tie.close (tie.spec finish-requires front-requires returns)

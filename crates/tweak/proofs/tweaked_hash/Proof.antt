@@ -1,37 +1,43 @@
--- `tweak::tweaked_hash` meets its contract: the hash is begun with the address, takes the data and is ended.
-use mathlib.Core.Path.{_≡_}
-use mathlib.Core.List.{_++_}
-use Prim.Native.Nat.{_+_, _≤_}
-use native.Mathlib.Omega.{arith}
+-- `tweak::tweaked_hash` meets its contract: the last block is compressed behind the seed's, and the front is read.
+use mathlib.Core.Path.{_≡_, ap, _∙_}
 use borrow.Author.Needs.{needs}
-use denote.Ref.{now}
-use lib.ListN.{length, length-append}
-use Rattle.tweak.specs.Tweak.{seedBlock}
-use Rattle.tweak.proofs.TweakLaws.{length-seed-block, more-taken, tweaked-digest}
+use lib.ListN.{length}
+use Rattle.sha256_block.specs.Compression.{compress}
+use Rattle.tweak.proofs.TweakLaws.{block-compressed}
 use Rattle.tweak.proofs.tweaked_hash.Statement.{statement}
 use Rattle.tweak.proofs.tweaked_hash.Tie as tie
 
-begin-requires : tie.Need-begin-requires
-begin-requires c κs = search needs
+last-block-requires : tie.Need-last-block-requires
+last-block-requires c κs = search needs
 
-add-requires : tie.Need-add-requires
-add-requires c κs = search needs
+slice-aggregate-compress : tie.Need-slice-aggregate-compress
+slice-aggregate-compress c = search needs
 
-end-requires : tie.Need-end-requires
-end-requires c κs = search needs
+compress-requires : tie.Need-compress-requires
+compress-requires c κs = search needs
+
+front-requires : tie.Need-front-requires
+front-requires c κs = search needs
+
+longs : (s : tie.Start) → (length (s .args .address) ≡ 22) × (length (s .args .value) ≡ 16)
+longs s = search needs
 
 returns : tie.Need-returns
 returns c =
-    let added = c .before in
-    let begun = added .before in
-    let start = begun .before .before in
-    let a = start .args in
-    let bytes = now (a .bytes) in
-    let long : length (a .address) ≡ 22 = search needs in
+    let compressed = c .before in
+    let made = compressed .before .before .before in
+    let a = made .before .args in
+    let long = longs (made .before) in
     λ seed short e.
-    let front = seedBlock seed ++ a .address in
-    let fits : length front + length bytes ≤ 65535 = omega (arith, start .pre, length-seed-block seed short, length-append (seedBlock seed) (a .address)) in
-    tweaked-digest seed (a .address) bytes (c .end .ensures (front ++ bytes) (more-taken front bytes fits (begun .begin .ensures seed short e) (added .add .ensures .state)))
+    block-compressed seed (a .address) (a .value) short (long .0) (long .1) e
+    (compressed .compress .ensures ∙ ap (compress (a .state .words)) (made .last-block .ensures)) (c .front .ensures)
 
 pub tweaked-hash-spec : {M : Type 1} → statement M
-tweaked-hash-spec = tie.close (tie.spec begin-requires add-requires end-requires returns)
+tweaked-hash-spec =
+    tie.close
+    (tie.spec
+    last-block-requires
+    slice-aggregate-compress
+    compress-requires
+    front-requires
+    returns)

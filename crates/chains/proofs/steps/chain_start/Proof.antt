@@ -11,9 +11,6 @@ use Rattle.chains.proofs.steps.chain_start.Tie as tie
 chain-start-address-requires : tie.Need-chain-start-address-requires
 chain-start-address-requires c κs = search needs
 
-slice-aggregate-tweaked-hash : tie.Need-slice-aggregate-tweaked-hash
-slice-aggregate-tweaked-hash c = search needs
-
 tweaked-hash-requires : tie.Need-tweaked-hash-requires
 tweaked-hash-requires c κs = search needs
 
@@ -21,13 +18,12 @@ returns : tie.Need-returns
 unfolding chainHead
 returns c =
     λ seed long e.
-    c .tweaked-hash .ensures seed long e ∙ ap (λ (a : List ℕ). tweakedHash seed a (c .before .before .before .args .t6)) (c .before .before .chain-start-address .ensures)
+    c .tweaked-hash .ensures seed long e ∙ ap (λ (a : List ℕ). tweakedHash seed a (c .before .before .args .secret)) (c .before .chain-start-address .ensures)
 
 pub chain-start-spec : {M : Type 1} → statement M
 chain-start-spec =
     tie.close
     (tie.spec
     chain-start-address-requires
-    slice-aggregate-tweaked-hash
     tweaked-hash-requires
     returns)

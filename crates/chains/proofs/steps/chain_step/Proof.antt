@@ -10,22 +10,18 @@ use Rattle.chains.proofs.steps.chain_step.Tie as tie
 chain-step-address-requires : tie.Need-chain-step-address-requires
 chain-step-address-requires c κs = search needs
 
-slice-aggregate-tweaked-hash : tie.Need-slice-aggregate-tweaked-hash
-slice-aggregate-tweaked-hash c = search needs
-
 tweaked-hash-requires : tie.Need-tweaked-hash-requires
 tweaked-hash-requires c κs = search needs
 
 returns : tie.Need-returns
 returns c =
     λ seed long e.
-    c .tweaked-hash .ensures seed long e ∙ ap (λ (a : List ℕ). tweakedHash seed a (c .before .before .before .args .t7)) (c .before .before .chain-step-address .ensures)
+    c .tweaked-hash .ensures seed long e ∙ ap (λ (a : List ℕ). tweakedHash seed a (c .before .before .args .value)) (c .before .chain-step-address .ensures)
 
 pub chain-step-spec : {M : Type 1} → statement M
 chain-step-spec =
     tie.close
     (tie.spec
     chain-step-address-requires
-    slice-aggregate-tweaked-hash
     tweaked-hash-requires
     returns)
