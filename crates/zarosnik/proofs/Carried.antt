@@ -1,0 +1,119 @@
+-- How an operation's contract becomes that of its call: the call names its profile by numbers, returns the answer's number and writes its values.
+use mathlib.Core.Path.{_≡_, refl, sym, subst}
+use mathlib.Core.Bool.{Bool, true, false, cond}
+use mathlib.Core.List.{List}
+use Prim.Native.Nat.{ℕ}
+use lib.Dec.{eqb}
+use Rattle.refusal.specs.Code.{outcomeCode}
+use Rattle.refusal.specs.declared.Outcome.{Outcome}
+use Rattle.words.specs.Number.{value}
+use Rattle.profile.specs.declared.Shape.{Shape}
+use Rattle.profile.specs.declared.Profile.{Profile}
+use Rattle.counts.specs.Table.{Counts}
+use Rattle.counts.specs.declared.table.Counted.{Counted}
+use Rattle.codewords.specs.Operations.{Unranks, Ranks}
+use Rattle.codewords.specs.declared.ranking.Ranked.{Ranked}
+use Rattle.one_time.specs.Operations.{LeafKeys, Reveals, Recovers}
+use Rattle.one_time.specs.declared.LeafKey.{LeafKey}
+use Rattle.one_time.specs.declared.Recovered.{Recovered}
+use Rattle.tree.specs.Tree.{Roots}
+use Rattle.tree.specs.declared.TreeRoot.{TreeRoot}
+use Rattle.signer.specs.Signing.{Signs, advanced, signNumber, keyAfter}
+use Rattle.signer.specs.declared.SigningKey.{SigningKey}
+use Rattle.signer.specs.declared.Signed.{Signed}
+use Rattle.verifier.specs.Verifying.{Verifies, taken, leafIn, verifyNumber, verifierAfter}
+use Rattle.verifier.specs.declared.Verifier.{Verifier}
+use Rattle.verifier.specs.declared.Verdict.{Verdict}
+use Rattle.sheet.specs.Operation.{ReadsSheet}
+use Rattle.sheet.specs.declared.SheetRead.{SheetRead}
+use Rattle.zarosnik.specs.Interface.{keyOf, verifierOf, CountCall, UnrankCall, RankCall, LeafKeyCall, RootCall, RevealCall, RecoverCall, SignCall, VerifyCall, ReadSheetCall}
+
+-- of a shape
+module _ {p q : Shape} (e : p ≡ q) {r : ℕ} {work work′ : List ℕ} where
+  pub count-call : {a : Counted} → Counts p work work′ a → r ≡ outcomeCode (a .outcome) → CountCall q work work′ (a .count) r
+  count-call {a} h n = subst (λ (s : Shape). CountCall s work work′ (a .count) r) e (record { answer = a; counts = h; returned = n; written = refl })
+
+  pub unrank-call : {number row row′ : List ℕ} {a : Outcome} → Unranks p (value number) work row work′ row′ a → r ≡ outcomeCode a
+      → UnrankCall q number work row work′ row′ r
+  unrank-call {number} {row} {row′} {a} h n =
+      subst (λ (s : Shape). UnrankCall s number work row work′ row′ r) e (record { answer = a; unranks = h; returned = n })
+
+  pub rank-call : {row : List ℕ} {a : Ranked} → Ranks p work row work′ a → r ≡ outcomeCode (a .outcome) → RankCall q row work work′ (a .number) r
+  rank-call {row} {a} h n =
+      subst (λ (s : Shape). RankCall s row work work′ (a .number) r) e (record { answer = a; ranks = h; returned = n; written = refl })
+
+-- of the key that comes back only the next leaf can differ
+only-next : (key after : SigningKey) (granted : Bool) → after ≡ cond granted (advanced key) key
+    → after ≡ keyOf (key .profile) (key .seed) (key .secret) (after .next)
+unfolding advanced
+only-next key after true e = subst (λ (k : SigningKey). k ≡ keyOf (key .profile) (key .seed) (key .secret) (k .next)) (sym e) refl
+only-next key after false e = subst (λ (k : SigningKey). k ≡ keyOf (key .profile) (key .seed) (key .secret) (k .next)) (sym e) refl
+
+-- of the cabinet that comes back only the lowest leaf can differ
+only-lowest : (v after : Verifier) (leaf : ℕ) (granted : Bool) → after ≡ cond granted (taken v leaf) v
+    → after ≡ verifierOf (v .profile) (v .seed) (v .root) (after .lowest)
+unfolding taken
+only-lowest v after leaf true e = subst (λ (x : Verifier). x ≡ verifierOf (v .profile) (v .seed) (v .root) (x .lowest)) (sym e) refl
+only-lowest v after leaf false e = subst (λ (x : Verifier). x ≡ verifierOf (v .profile) (v .seed) (v .root) (x .lowest)) (sym e) refl
+
+-- of a profile
+module _ {p q : Profile} (e : p ≡ q) {r : ℕ} where
+  pub leaf-key-call : {seed secret : List ℕ} {leaf : ℕ} {a : LeafKey} → LeafKeys p seed secret leaf a → r ≡ outcomeCode (a .outcome)
+      → LeafKeyCall q seed secret leaf (a .key) r
+  leaf-key-call {seed} {secret} {leaf} {a} h n =
+      subst (λ (s : Profile). LeafKeyCall s seed secret leaf (a .key) r) e
+      (record { answer = a; leaf-keys = h; returned = n; written = refl })
+
+  pub root-call : {seed secret : List ℕ} {a : TreeRoot} → Roots p seed secret a → r ≡ outcomeCode (a .outcome) → RootCall q seed secret (a .root) r
+  root-call {seed} {secret} {a} h n =
+      subst (λ (s : Profile). RootCall s seed secret (a .root) r) e (record { answer = a; roots = h; returned = n; written = refl })
+
+  pub reveal-call : {seed secret : List ℕ} {leaf : ℕ} {number work values work′ values′ : List ℕ} {a : Outcome}
+      → Reveals p seed secret leaf (value number) work values work′ values′ a → r ≡ outcomeCode a
+      → RevealCall q seed secret leaf number work values work′ values′ r
+  reveal-call {seed} {secret} {leaf} {number} {work} {values} {work′} {values′} {a} h n =
+      subst (λ (s : Profile). RevealCall s seed secret leaf number work values work′ values′ r) e
+      (record { answer = a; reveals = h; returned = n })
+
+  pub recover-call : {seed : List ℕ} {leaf : ℕ} {number values work work′ : List ℕ} {a : Recovered}
+      → Recovers p seed leaf (value number) values work work′ a → r ≡ outcomeCode (a .outcome)
+      → RecoverCall q seed leaf number values work work′ (a .key) (a .steps) r
+  recover-call {seed} {leaf} {number} {values} {work} {work′} {a} h n =
+      subst (λ (s : Profile). RecoverCall s seed leaf number values work work′ (a .key) (a .steps) r) e
+      (record { answer = a; recovers = h; returned = n; key-written = refl; steps-written = refl })
+
+  pub read-sheet-call : {sheet signature message signature′ message′ : List ℕ} {a : SheetRead}
+      → ReadsSheet p sheet signature message signature′ message′ a → r ≡ outcomeCode (a .outcome)
+      → ReadSheetCall q sheet signature message signature′ message′ (a .length) (a .line) r
+  read-sheet-call {sheet} {signature} {message} {signature′} {message′} {a} h n =
+      subst (λ (s : Profile). ReadSheetCall s sheet signature message signature′ message′ (a .length) (a .line) r) e
+      (record { answer = a; reads = h; returned = n; length-written = refl; line-written = refl })
+
+  pub sign-call : {seed secret : List ℕ} {next : ℕ} {random message work out work′ out′ : List ℕ} {a : Signed}
+      → Signs (keyOf p seed secret next) random message work out work′ out′ a → r ≡ outcomeCode (a .outcome)
+      → SignCall (keyOf q seed secret next) random message work out work′ out′ (a .key .next) r
+  unfolding keyAfter
+  sign-call {seed} {secret} {next} {random} {message} {work} {out} {work′} {out′} {a} h n =
+      let key : SigningKey = keyOf p seed secret next in
+      subst (λ (s : Profile). SignCall (keyOf s seed secret next) random message work out work′ out′ (a .key .next) r) e
+      (record {
+        answer = a;
+        signs = h;
+        returned = n;
+        key-kept = only-next key (a .key) (eqb (signNumber key random message work out) 0) (h .key′);
+      })
+
+  pub verify-call : {seed root : List ℕ} {lowest : ℕ} {message signature work work′ : List ℕ} {a : Verdict}
+      → Verifies (verifierOf p seed root lowest) message signature work work′ a → r ≡ outcomeCode (a .outcome)
+      → VerifyCall (verifierOf q seed root lowest) message signature work work′ (a .verifier .lowest) (a .steps) r
+  unfolding verifierAfter
+  verify-call {seed} {root} {lowest} {message} {signature} {work} {work′} {a} h n =
+      let v : Verifier = verifierOf p seed root lowest in
+      subst (λ (s : Profile). VerifyCall (verifierOf s seed root lowest) message signature work work′ (a .verifier .lowest) (a .steps) r) e
+      (record {
+        answer = a;
+        verifies = h;
+        returned = n;
+        verifier-kept = only-lowest v (a .verifier) (leafIn signature) (eqb (verifyNumber v message signature work) 0) (h .verifier);
+        steps-written = refl;
+      })

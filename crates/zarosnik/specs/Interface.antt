@@ -1,0 +1,123 @@
+-- What each function of the C interface returns, writes through its pointers and leaves in the lent slices: the contract of its
+-- operation, carried over. A record names the operation's answer, says that the operation's own contract holds of it, that its number
+-- is what the call returns, and that its values are what the call writes.
+use mathlib.Core.Path.{_≡_}
+use mathlib.Core.Bool.{cond}
+use mathlib.Core.List.{List}
+use Prim.Native.Nat.{ℕ}
+use lib.Dec.{eqb}
+use lib.ListN.{replicate}
+use Rattle.refusal.specs.Code.{outcomeCode}
+use Rattle.refusal.specs.declared.Outcome.{Outcome}
+use Rattle.words.specs.Number.{value}
+use Rattle.sha256.specs.Digest.{digest}
+use Rattle.sha256.specs.Running.{started, addNumber}
+use Rattle.profile.specs.declared.Shape.{Shape}
+use Rattle.profile.specs.declared.Profile.{Profile}
+use Rattle.counts.specs.Table.{Counts}
+use Rattle.counts.specs.declared.table.Counted.{Counted}
+use Rattle.codewords.specs.Operations.{Unranks, Ranks}
+use Rattle.codewords.specs.declared.ranking.Ranked.{Ranked}
+use Rattle.one_time.specs.Operations.{LeafKeys, Reveals, Recovers}
+use Rattle.one_time.specs.declared.LeafKey.{LeafKey}
+use Rattle.one_time.specs.declared.Recovered.{Recovered}
+use Rattle.tree.specs.Tree.{Roots}
+use Rattle.tree.specs.declared.TreeRoot.{TreeRoot}
+use Rattle.signer.specs.Signing.{Signs}
+use Rattle.signer.specs.declared.SigningKey.{SigningKey}
+use Rattle.signer.specs.declared.Signed.{Signed}
+use Rattle.verifier.specs.Verifying.{Verifies}
+use Rattle.verifier.specs.declared.Verifier.{Verifier}
+use Rattle.verifier.specs.declared.Verdict.{Verdict}
+use Rattle.sheet.specs.Operation.{ReadsSheet}
+use Rattle.sheet.specs.declared.SheetRead.{SheetRead}
+
+-- a profile by its four numbers, and its shape by the first three
+abbrev pub shapeOf : (l w s : ℕ) → Shape
+shapeOf l w s = record { chains = l; width = w; sum = s }
+
+abbrev pub profileOf : (l w s h : ℕ) → Profile
+profileOf l w s h = record { shape = shapeOf l w s; height = h }
+
+-- a key and a cabinet by their fields
+abbrev pub keyOf : Profile → (seed secret : List ℕ) (next : ℕ) → SigningKey
+keyOf p seed secret next = record { profile = p; seed = seed; secret = secret; next = next }
+
+abbrev pub verifierOf : Profile → (seed root : List ℕ) (lowest : ℕ) → Verifier
+verifierOf p seed root lowest = record { profile = p; seed = seed; root = root; lowest = lowest }
+
+-- "Hash, as start, add and finish", in one call: add's number on a started hash; granted, the digest, else 32 zero bytes
+pub record HashCall (bytes digest′ : List ℕ) (r : ℕ) : Type 0 where
+  pub returned : r ≡ addNumber started bytes
+  pub written : digest′ ≡ cond (eqb (addNumber started bytes) 0) (digest bytes) (replicate 32 0)
+
+-- Count
+pub record CountCall (p : Shape) (work work′ number′ : List ℕ) (r : ℕ) : Type 0 where
+  pub answer : Counted
+  pub counts : Counts p work work′ answer
+  pub returned : r ≡ outcomeCode (answer .outcome)
+  pub written : number′ ≡ answer .count
+
+-- Spread
+pub record UnrankCall (p : Shape) (number work row work′ row′ : List ℕ) (r : ℕ) : Type 0 where
+  pub answer : Outcome
+  pub unranks : Unranks p (value number) work row work′ row′ answer
+  pub returned : r ≡ outcomeCode answer
+
+-- Gather
+pub record RankCall (p : Shape) (row work work′ number′ : List ℕ) (r : ℕ) : Type 0 where
+  pub answer : Ranked
+  pub ranks : Ranks p work row work′ answer
+  pub returned : r ≡ outcomeCode (answer .outcome)
+  pub written : number′ ≡ answer .number
+
+-- Leaf key
+pub record LeafKeyCall (p : Profile) (seed secret : List ℕ) (leaf : ℕ) (key′ : List ℕ) (r : ℕ) : Type 0 where
+  pub answer : LeafKey
+  pub leaf-keys : LeafKeys p seed secret leaf answer
+  pub returned : r ≡ outcomeCode (answer .outcome)
+  pub written : key′ ≡ answer .key
+
+-- Root
+pub record RootCall (p : Profile) (seed secret root′ : List ℕ) (r : ℕ) : Type 0 where
+  pub answer : TreeRoot
+  pub roots : Roots p seed secret answer
+  pub returned : r ≡ outcomeCode (answer .outcome)
+  pub written : root′ ≡ answer .root
+
+-- Reveal
+pub record RevealCall (p : Profile) (seed secret : List ℕ) (leaf : ℕ) (number work values work′ values′ : List ℕ) (r : ℕ) : Type 0 where
+  pub answer : Outcome
+  pub reveals : Reveals p seed secret leaf (value number) work values work′ values′ answer
+  pub returned : r ≡ outcomeCode answer
+
+-- Recover
+pub record RecoverCall (p : Profile) (seed : List ℕ) (leaf : ℕ) (number values work work′ key′ : List ℕ) (steps′ r : ℕ) : Type 0 where
+  pub answer : Recovered
+  pub recovers : Recovers p seed leaf (value number) values work work′ answer
+  pub returned : r ≡ outcomeCode (answer .outcome)
+  pub key-written : key′ ≡ answer .key
+  pub steps-written : steps′ ≡ answer .steps
+
+-- Issue: the next leaf is written back, and the rest of the key that comes back is the rest of the key given
+pub record SignCall (key : SigningKey) (r message work out work′ out′ : List ℕ) (next′ number : ℕ) : Type 0 where
+  pub answer : Signed
+  pub signs : Signs key r message work out work′ out′ answer
+  pub returned : number ≡ outcomeCode (answer .outcome)
+  pub key-kept : answer .key ≡ keyOf (key .profile) (key .seed) (key .secret) next′
+
+-- Check: the lowest leaf is written back, and the rest of the cabinet that comes back is the rest of the cabinet given
+pub record VerifyCall (v : Verifier) (message signature work work′ : List ℕ) (lowest′ steps′ number : ℕ) : Type 0 where
+  pub answer : Verdict
+  pub verifies : Verifies v message signature work work′ answer
+  pub returned : number ≡ outcomeCode (answer .outcome)
+  pub verifier-kept : answer .verifier ≡ verifierOf (v .profile) (v .seed) (v .root) lowest′
+  pub steps-written : steps′ ≡ answer .steps
+
+-- Read sheet
+pub record ReadSheetCall (p : Profile) (sheet signature message signature′ message′ : List ℕ) (written′ line′ r : ℕ) : Type 0 where
+  pub answer : SheetRead
+  pub reads : ReadsSheet p sheet signature message signature′ message′ answer
+  pub returned : r ≡ outcomeCode (answer .outcome)
+  pub length-written : written′ ≡ answer .length
+  pub line-written : line′ ≡ answer .line

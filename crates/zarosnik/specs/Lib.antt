@@ -1,0 +1,2 @@
+-- The contracts of the C interface.
+pub mod Interface

@@ -1,0 +1,307 @@
+// The C interface: one exported function an operation, which returns the number of the refusal, 0 for granted.
+// Parameters stand in the header's order. Contracts would have to quote `data` and names with an underscore, so `bytes`, `seed`, `secret`,
+// `next`, `lowest` and `written` are the header's `data`, `public_seed`, `secret_seed`, `next_leaf`, `lowest_leaf` and `message_written`.
+ghost use mathlib.Core.Path.{_≡_};
+ghost use mathlib.Core.Bool.{cond};
+ghost use lib.Dec.{eqb};
+ghost use mathlib.Core.List.{List};
+ghost use Prim.Native.Nat.{ℕ};
+ghost use lib.ListN.{replicate};
+ghost use Rattle.refusal.specs.Code.{outcomeCode};
+ghost use Rattle.sha256.specs.Digest.{digest as digestOf};
+ghost use Rattle.sha256.specs.Running.{started, addNumber, Adds};
+ghost use Rattle.zarosnik.specs.Interface.{shapeOf, profileOf, keyOf, verifierOf, HashCall, CountCall, UnrankCall, RankCall, LeafKeyCall, RootCall, RevealCall, RecoverCall, SignCall, VerifyCall, ReadSheetCall};
+use codewords::ranking::rank;
+use codewords::unrank;
+use counts::table::codeword_count;
+use one_time::leaf_key;
+use one_time::one_time_recover;
+use one_time::one_time_sign;
+use profile::Profile;
+use profile::Shape;
+use refusal::Outcome;
+use sha256::Added;
+use sha256::Hash;
+use sheet::read_sheet;
+use signer::SigningKey;
+use signer::sign;
+use tree::root;
+use verifier::Verifier;
+use verifier::verify;
+
+// The number that a call returns.
+fn returned(o: Outcome) -> u32
+    ensures { λ r. ⌜ r ≡ outcomeCode o ⌝ }
+{
+    refusal::outcome_number(o) as u32
+}
+
+fn shape(l: u8, w: u8, s: u16) -> Shape
+    ensures { λ r. ⌜ r ≡ shapeOf l w s ⌝ }
+{
+    Shape {
+        chains: l as u32,
+        width: w as u32,
+        sum: s as u32,
+    }
+}
+
+fn profile(l: u8, w: u8, s: u16, h: u8) -> Profile
+    ensures { λ r. ⌜ r ≡ profileOf l w s h ⌝ }
+{
+    Profile {
+        shape: shape(l, w, s),
+        height: h as u32,
+    }
+}
+
+// The digest where the bytes were granted, else zero.
+fn digest_of(added: Added) -> [u8; 32]
+    ensures { λ r. ⌜ ((bytes : List ℕ) → Adds started bytes added → r ≡ cond (eqb (addNumber started bytes) 0) (digestOf bytes) (replicate 32 0)) ⌝ }
+{
+    let outcome = added.outcome;
+    match outcome {
+        Outcome::Refused(_) => [0; 32],
+        Outcome::Granted => added.hash.finish().digest(),
+    }
+}
+
+// Hash, in one call.
+#[no_mangle]
+pub extern "C" fn zarosnik_hash(bytes: &[u8], digest: &mut [u8; 32]) -> u32
+    ensures { λ r. ⌜ HashCall (now (bytes .entry)) (now (digest .exit)) r ⌝ }
+{
+    let added = Hash::start().add(bytes);
+    let outcome = added.outcome;
+    let found = digest_of(added);
+    *digest = found;
+    returned(outcome)
+}
+
+// Count.
+#[no_mangle]
+pub extern "C" fn zarosnik_count(
+    l: u8,
+    w: u8,
+    s: u16,
+    table: &mut [u32],
+    number: &mut [u32; 5],
+) -> u32
+    ensures { λ r. ⌜ CountCall (shapeOf l w s) (now (table .entry)) (now (table .exit)) (now (number .exit)) r ⌝ }
+{
+    let counted = codeword_count(shape(l, w, s), table);
+    let count = counted.count;
+    *number = count;
+    let outcome = counted.outcome;
+    returned(outcome)
+}
+
+// Spread.
+#[no_mangle]
+pub extern "C" fn zarosnik_unrank(
+    l: u8,
+    w: u8,
+    s: u16,
+    number: &[u32; 5],
+    table: &mut [u32],
+    row: &mut [u8],
+) -> u32
+    ensures { λ r. ⌜ UnrankCall (shapeOf l w s) (now (number .entry)) (now (table .entry)) (now (row .entry)) (now (table .exit)) (now (row .exit)) r ⌝ }
+{
+    returned(unrank(shape(l, w, s), *number, table, row))
+}
+
+// Gather.
+#[no_mangle]
+pub extern "C" fn zarosnik_rank(
+    l: u8,
+    w: u8,
+    s: u16,
+    row: &[u8],
+    table: &mut [u32],
+    number: &mut [u32; 5],
+) -> u32
+    ensures { λ r. ⌜ RankCall (shapeOf l w s) (now (row .entry)) (now (table .entry)) (now (table .exit)) (now (number .exit)) r ⌝ }
+{
+    let ranked = rank(shape(l, w, s), row, table);
+    let found = ranked.number;
+    *number = found;
+    let outcome = ranked.outcome;
+    returned(outcome)
+}
+
+// Leaf key.
+#[no_mangle]
+pub extern "C" fn zarosnik_leaf_key(
+    l: u8,
+    w: u8,
+    s: u16,
+    h: u8,
+    seed: &[u8; 16],
+    secret: &[u8; 16],
+    leaf: u32,
+    key: &mut [u8; 16],
+) -> u32
+    ensures { λ r. ⌜ LeafKeyCall (profileOf l w s h) (now (seed .entry)) (now (secret .entry)) leaf (now (key .exit)) r ⌝ }
+{
+    let made = leaf_key(profile(l, w, s, h), *seed, *secret, leaf);
+    let found = made.key;
+    *key = found;
+    let outcome = made.outcome;
+    returned(outcome)
+}
+
+// Root.
+#[no_mangle]
+pub extern "C" fn zarosnik_root(
+    l: u8,
+    w: u8,
+    s: u16,
+    h: u8,
+    seed: &[u8; 16],
+    secret: &[u8; 16],
+    root: &mut [u8; 16],
+) -> u32
+    ensures { λ r. ⌜ RootCall (profileOf l w s h) (now (seed .entry)) (now (secret .entry)) (now (root .exit)) r ⌝ }
+{
+    let made = tree::root(profile(l, w, s, h), *seed, *secret);
+    let found = made.root;
+    *root = found;
+    let outcome = made.outcome;
+    returned(outcome)
+}
+
+// Reveal.
+#[no_mangle]
+pub extern "C" fn zarosnik_one_time_sign(
+    l: u8,
+    w: u8,
+    s: u16,
+    h: u8,
+    seed: &[u8; 16],
+    secret: &[u8; 16],
+    leaf: u32,
+    number: &[u32; 5],
+    table: &mut [u32],
+    values: &mut [u8],
+) -> u32
+    ensures { λ r. ⌜ RevealCall (profileOf l w s h) (now (seed .entry)) (now (secret .entry)) leaf (now (number .entry)) (now (table .entry)) (now (values .entry)) (now (table .exit)) (now (values .exit)) r ⌝ }
+{
+    returned(one_time_sign(
+        profile(l, w, s, h),
+        *seed,
+        *secret,
+        leaf,
+        *number,
+        table,
+        values,
+    ))
+}
+
+// Recover.
+#[no_mangle]
+pub extern "C" fn zarosnik_one_time_recover(
+    l: u8,
+    w: u8,
+    s: u16,
+    h: u8,
+    seed: &[u8; 16],
+    leaf: u32,
+    number: &[u32; 5],
+    values: &[u8],
+    table: &mut [u32],
+    key: &mut [u8; 16],
+    steps: &mut u32,
+) -> u32
+    ensures { λ r. ⌜ RecoverCall (profileOf l w s h) (now (seed .entry)) leaf (now (number .entry)) (now (values .entry)) (now (table .entry)) (now (table .exit)) (now (key .exit)) (now (steps .exit)) r ⌝ }
+{
+    let recovered = one_time_recover(profile(l, w, s, h), *seed, leaf, *number, values, table);
+    let found = recovered.key;
+    *key = found;
+    *steps = recovered.steps;
+    let outcome = recovered.outcome;
+    returned(outcome)
+}
+
+// Issue.
+#[no_mangle]
+pub extern "C" fn zarosnik_sign(
+    l: u8,
+    w: u8,
+    s: u16,
+    h: u8,
+    seed: &[u8; 16],
+    secret: &[u8; 16],
+    next: &mut u32,
+    r: &[u8; 16],
+    message: &[u8],
+    table: &mut [u32],
+    signature: &mut [u8],
+) -> u32
+    ensures { λ number. ⌜ SignCall (keyOf (profileOf l w s h) (now (seed .entry)) (now (secret .entry)) (now (next .entry))) (now (r .entry)) (now (message .entry)) (now (table .entry)) (now (signature .entry)) (now (table .exit)) (now (signature .exit)) (now (next .exit)) number ⌝ }
+{
+    let key = SigningKey {
+        profile: profile(l, w, s, h),
+        seed: *seed,
+        secret: *secret,
+        next: *next,
+    };
+    let signed = sign(key, *r, message, table, signature);
+    let after = signed.key;
+    *next = after.next;
+    let outcome = signed.outcome;
+    returned(outcome)
+}
+
+// Check.
+#[no_mangle]
+pub extern "C" fn zarosnik_verify(
+    l: u8,
+    w: u8,
+    s: u16,
+    h: u8,
+    seed: &[u8; 16],
+    root: &[u8; 16],
+    lowest: &mut u32,
+    message: &[u8],
+    signature: &[u8],
+    table: &mut [u32],
+    steps: &mut u32,
+) -> u32
+    ensures { λ number. ⌜ VerifyCall (verifierOf (profileOf l w s h) (now (seed .entry)) (now (root .entry)) (now (lowest .entry))) (now (message .entry)) (now (signature .entry)) (now (table .entry)) (now (table .exit)) (now (lowest .exit)) (now (steps .exit)) number ⌝ }
+{
+    let verifier = Verifier {
+        profile: profile(l, w, s, h),
+        seed: *seed,
+        root: *root,
+        lowest: *lowest,
+    };
+    let verdict = verify(verifier, message, signature, table);
+    let after = verdict.verifier;
+    *lowest = after.lowest;
+    *steps = verdict.steps;
+    let outcome = verdict.outcome;
+    returned(outcome)
+}
+
+// Read sheet.
+#[no_mangle]
+pub extern "C" fn zarosnik_read_sheet(
+    l: u8,
+    w: u8,
+    s: u16,
+    h: u8,
+    sheet: &[u8],
+    signature: &mut [u8],
+    message: &mut [u8],
+    written: &mut usize,
+    line: &mut u32,
+) -> u32
+    ensures { λ r. ⌜ ReadSheetCall (profileOf l w s h) (now (sheet .entry)) (now (signature .entry)) (now (message .entry)) (now (signature .exit)) (now (message .exit)) (now (written .exit)) (now (line .exit)) r ⌝ }
+{
+    let read = read_sheet(profile(l, w, s, h), sheet, signature, message);
+    *written = read.length as usize;
+    *line = read.line;
+    let outcome = read.outcome;
+    returned(outcome)
+}

@@ -1,0 +1,325 @@
+/*
+ * Zarosnik: stateful hash-based signatures for flood-gate control cabinets.
+ *
+ * The functions of libzarosnik.a, one for each operation of docs/INTERFACE.md. Each is proved to do what is said here
+ * for every input, provided that the caller keeps these terms:
+ *
+ *   - No pointer is null, not even where its length is 0.
+ *   - Each length is true: so many elements may be read, and written where the pointer is not const. table_len counts
+ *     uint32_t words, every other length counts bytes. An array has the number of elements in its brackets.
+ *   - Pointers to uint32_t and to size_t are aligned as these types are.
+ *   - No two pointers of a call overlap where one of them is not const.
+ *   - l, w, s and h are passed as they are. A value outside its range is refused, but C cuts a wider number to 8 or 16
+ *     bits at the call, so test one from outside before.
+ *   - While a call runs, no other thread writes the memory lent to it, or reads what the call may write. The library
+ *     keeps no state of its own, so calls on separate memory may run at the same time.
+ *
+ * What a call returns and leaves:
+ *
+ *   - It returns 0 where it is granted, else the number of the first cause that holds, in the order listed with the
+ *     function. Those numbers are enum zarosnik_outcome.
+ *   - An answer (digest, number, key, root, steps, message_written, line) is written by every call: the value where
+ *     granted, zero where refused. Two differ: steps of zarosnik_verify after 15, line of zarosnik_read_sheet after 17.
+ *   - A state (next_leaf, lowest_leaf) changes only where the call is granted.
+ *   - A lent slice (table, row, values, signature, message) is untouched by a refusal, except that 7 and 15 leave the
+ *     table of counts in the work slice `table`, as every granted call with a work slice does. What lies past the
+ *     length that is named with the function never changes.
+ *
+ * What the caller keeps and draws:
+ *
+ *   - A key is a profile, two seeds and its next leaf, 0 for a fresh key. Store next_leaf after zarosnik_sign and
+ *     before the signature is handed out: a key restored from an older copy would use a leaf twice, and two orders
+ *     signed with one leaf may let others be forged.
+ *   - A cabinet is a profile, the public seed, the root and the lowest leaf it still takes, 0 for a fresh one. Store
+ *     lowest_leaf before the order is carried out: a cabinet restored from an older copy would take an order again.
+ *   - The library draws no random numbers. The secret seed is 16 random bytes known to the key's holder alone; R is
+ *     16 fresh random bytes for each order.
+ */
+#ifndef ZAROSNIK_H
+#define ZAROSNIK_H
+
+#include <stddef.h>
+#include <stdint.h>
+
+#ifdef __cplusplus
+extern "C" {
+#endif
+
+/* Fixed sizes: hash values, seeds and R; a SHA-256 digest; a number, least word first. */
+#define ZAROSNIK_HASH_BYTES 16u
+#define ZAROSNIK_DIGEST_BYTES 32u
+#define ZAROSNIK_NUMBER_WORDS 5u
+
+/* A profile: l chains, width w, sum s, tree height h. h may be 0, and s is 0 to ZAROSNIK_S_MAX(l, w). */
+#define ZAROSNIK_L_MIN 1u
+#define ZAROSNIK_L_MAX 40u
+#define ZAROSNIK_W_MIN 2u
+#define ZAROSNIK_W_MAX 16u
+#define ZAROSNIK_S_MAX(l, w) ((l) * ((w) - 1u))
+#define ZAROSNIK_H_MAX 10u
+
+/* The bytes of an order text, and of what zarosnik_hash takes. */
+#define ZAROSNIK_MESSAGE_MIN 1u
+#define ZAROSNIK_MESSAGE_MAX 200u
+#define ZAROSNIK_HASH_MAX 65535u
+
+/* Sizes by profile: words of the work slice; bytes of the values, of a signature, and of a sheet with its text;
+ * leaves of a tree; chain steps of a check. */
+#define ZAROSNIK_TABLE_WORDS(l, s) (5u * ((l) + 1u) * ((s) + 1u))
+#define ZAROSNIK_VALUES_BYTES(l) (16u * (l))
+#define ZAROSNIK_SIGNATURE_BYTES(l, h) (20u + 16u * (l) + 16u * (h))
+#define ZAROSNIK_SHEET_BYTES(l, h, message_len) (69u + 37u * ((l) + (h)) + 2u * (message_len))
+#define ZAROSNIK_LEAVES(h) (1u << (h))
+#define ZAROSNIK_STEPS(l, w, s) (ZAROSNIK_S_MAX(l, w) - (s))
+
+/* What is enough for every profile. */
+#define ZAROSNIK_TABLE_WORDS_MAX 123205u
+#define ZAROSNIK_VALUES_BYTES_MAX 640u
+#define ZAROSNIK_SIGNATURE_BYTES_MAX 820u
+#define ZAROSNIK_SHEET_BYTES_MAX 2319u
+
+/* The gate profile. */
+#define ZAROSNIK_GATE_L 34u
+#define ZAROSNIK_GATE_W 16u
+#define ZAROSNIK_GATE_S 255u
+#define ZAROSNIK_GATE_H 10u
+#define ZAROSNIK_GATE_TABLE_WORDS 44800u
+#define ZAROSNIK_GATE_VALUES_BYTES 544u
+#define ZAROSNIK_GATE_SIGNATURE_BYTES 724u
+#define ZAROSNIK_GATE_LEAVES 1024u
+#define ZAROSNIK_GATE_STEPS 255u
+
+/* What a function returns. */
+enum zarosnik_outcome {
+    ZAROSNIK_GRANTED = 0,
+    ZAROSNIK_REFUSED_CHAIN_COUNT = 1,        /* l outside 1 to 40 */
+    ZAROSNIK_REFUSED_WIDTH = 2,              /* w outside 2 to 16 */
+    ZAROSNIK_REFUSED_SUM = 3,                /* s over l * (w - 1) */
+    ZAROSNIK_REFUSED_HEIGHT = 4,             /* h over 10 */
+    ZAROSNIK_REFUSED_TABLE_TOO_SHORT = 5,    /* the work slice has too few words */
+    ZAROSNIK_REFUSED_OUTPUT_TOO_SHORT = 6,   /* an output slice has too few bytes */
+    ZAROSNIK_REFUSED_NUMBER_TOO_LARGE = 7,   /* the number is not below the count */
+    ZAROSNIK_REFUSED_CODEWORD_LENGTH = 8,    /* the row does not have l bytes */
+    ZAROSNIK_REFUSED_DIGIT_TOO_LARGE = 9,    /* a length of the row is above w - 1 */
+    ZAROSNIK_REFUSED_CODEWORD_SUM = 10,      /* the sum of the row is not s */
+    ZAROSNIK_REFUSED_LEAF_OUT_OF_RANGE = 11, /* the leaf is not below 2^h */
+    ZAROSNIK_REFUSED_KEY_SPENT = 12,         /* the next leaf is not below 2^h */
+    ZAROSNIK_REFUSED_SIGNATURE_LENGTH = 13,  /* the signature, or the values, have another length */
+    ZAROSNIK_REFUSED_LEAF_PASSED = 14,       /* the leaf is below the lowest that the cabinet still takes */
+    ZAROSNIK_REFUSED_ROOT_DIFFERS = 15,      /* the signature leads to another root */
+    ZAROSNIK_REFUSED_MESSAGE_LENGTH = 16,    /* the order text is empty or over 200 bytes */
+    ZAROSNIK_REFUSED_SHEET_LINE = 17,        /* a line of the sheet is wrong, missing or too many */
+    ZAROSNIK_REFUSED_HASH_TOO_LONG = 18      /* over 65,535 bytes to hash */
+};
+
+/*
+ * The SHA-256 digest (FIPS 180-4) of a message in one piece.
+ *
+ *   data, len   in: the message
+ *   digest      answer: its digest
+ *
+ * Refusals: 18 len over 65,535.
+ */
+uint32_t zarosnik_hash(const uint8_t *data, size_t len, uint8_t digest[ZAROSNIK_DIGEST_BYTES]);
+
+/*
+ * Count: how many rows of l lengths from 0 to w - 1 have the sum s.
+ *
+ *   l, w, s            in: the profile without its height
+ *   table, table_len   work slice of at least ZAROSNIK_TABLE_WORDS(l, s) words
+ *   number             answer: the count
+ *
+ * Refusals: 1, 2, 3; 5 work slice too short.
+ * Granted: the table of counts stands in the first ZAROSNIK_TABLE_WORDS(l, s) words of table: for i from 0 to l, for t
+ * from 0 to s, the number of rows of i lengths with the sum t, five words each.
+ * Refused: table is untouched.
+ */
+uint32_t zarosnik_count(uint8_t l, uint8_t w, uint16_t s, uint32_t *table, size_t table_len,
+                        uint32_t number[ZAROSNIK_NUMBER_WORDS]);
+
+/*
+ * Spread: the row that has a number, counted from 0 in dictionary order, the first length most significant.
+ *
+ *   l, w, s            in: the profile without its height
+ *   number             in: the number
+ *   table, table_len   work slice of at least ZAROSNIK_TABLE_WORDS(l, s) words
+ *   row, row_len       output slice of at least l bytes
+ *
+ * Refusals: 1, 2, 3; 5 work slice too short; 6 row_len under l; 7 number not below the count.
+ * Granted: the l lengths stand in the first l bytes of row, one byte each, and the table of counts in table.
+ * Refused: row is untouched, and so is table, except that 7 leaves the table of counts in it.
+ */
+uint32_t zarosnik_unrank(uint8_t l, uint8_t w, uint16_t s, const uint32_t number[ZAROSNIK_NUMBER_WORDS],
+                         uint32_t *table, size_t table_len, uint8_t *row, size_t row_len);
+
+/*
+ * Gather: the number of a row.
+ *
+ *   l, w, s            in: the profile without its height
+ *   row, row_len       in: the lengths, one byte each
+ *   table, table_len   work slice of at least ZAROSNIK_TABLE_WORDS(l, s) words
+ *   number             answer: the number
+ *
+ * Refusals: 1, 2, 3; 5 work slice too short; 8 row_len other than l; 9 a length above w - 1; 10 sum other than s.
+ * Granted: the table of counts stands in table.
+ * Refused: table is untouched.
+ */
+uint32_t zarosnik_rank(uint8_t l, uint8_t w, uint16_t s, const uint8_t *row, size_t row_len,
+                       uint32_t *table, size_t table_len, uint32_t number[ZAROSNIK_NUMBER_WORDS]);
+
+/*
+ * Leaf key: the public key of one leaf.
+ *
+ *   l, w, s, h    in: the profile
+ *   public_seed   in: the public seed
+ *   secret_seed   in: the secret seed
+ *   leaf          in: the leaf, from 0
+ *   key           answer: the leaf's key
+ *
+ * Refusals: 1, 2, 3, 4; 11 leaf not below 2^h.
+ */
+uint32_t zarosnik_leaf_key(uint8_t l, uint8_t w, uint16_t s, uint8_t h,
+                           const uint8_t public_seed[ZAROSNIK_HASH_BYTES],
+                           const uint8_t secret_seed[ZAROSNIK_HASH_BYTES], uint32_t leaf,
+                           uint8_t key[ZAROSNIK_HASH_BYTES]);
+
+/*
+ * Root: the root of a key's tree, which its cabinets hold. Hashes all 2^h leaves.
+ *
+ *   l, w, s, h    in: the profile
+ *   public_seed   in: the public seed
+ *   secret_seed   in: the secret seed
+ *   root          answer: the root
+ *
+ * Refusals: 1, 2, 3, 4.
+ */
+uint32_t zarosnik_root(uint8_t l, uint8_t w, uint16_t s, uint8_t h,
+                       const uint8_t public_seed[ZAROSNIK_HASH_BYTES],
+                       const uint8_t secret_seed[ZAROSNIK_HASH_BYTES],
+                       uint8_t root[ZAROSNIK_HASH_BYTES]);
+
+/*
+ * Reveal: the l chain values that sign a number with one leaf. It keeps no account of the leaves used: zarosnik_sign
+ * does.
+ *
+ *   l, w, s, h           in: the profile
+ *   public_seed          in: the public seed
+ *   secret_seed          in: the secret seed
+ *   leaf                 in: the leaf, from 0
+ *   number               in: the number
+ *   table, table_len     work slice of at least ZAROSNIK_TABLE_WORDS(l, s) words
+ *   values, values_len   output slice of at least ZAROSNIK_VALUES_BYTES(l) bytes
+ *
+ * Refusals: 1, 2, 3, 4; 5 work slice too short; 6 values_len under 16 * l; 11 leaf not below 2^h; 7 number not below
+ * the count.
+ * Granted: the values stand in the first 16 * l bytes of values, and the table of counts in table.
+ * Refused: values is untouched, and so is table, except that 7 leaves the table of counts in it.
+ */
+uint32_t zarosnik_one_time_sign(uint8_t l, uint8_t w, uint16_t s, uint8_t h,
+                                const uint8_t public_seed[ZAROSNIK_HASH_BYTES],
+                                const uint8_t secret_seed[ZAROSNIK_HASH_BYTES], uint32_t leaf,
+                                const uint32_t number[ZAROSNIK_NUMBER_WORDS],
+                                uint32_t *table, size_t table_len, uint8_t *values, size_t values_len);
+
+/*
+ * Recover: the leaf key to which the values of a number lead. For the values that Reveal gave for the same number and
+ * leaf it is the leaf's key.
+ *
+ *   l, w, s, h           in: the profile
+ *   public_seed          in: the public seed
+ *   leaf                 in: the leaf, from 0
+ *   number               in: the number
+ *   values, values_len   in: the values, ZAROSNIK_VALUES_BYTES(l) bytes
+ *   table, table_len     work slice of at least ZAROSNIK_TABLE_WORDS(l, s) words
+ *   key                  answer: the leaf key
+ *   steps                answer: the chain steps made, ZAROSNIK_STEPS(l, w, s)
+ *
+ * Refusals: 1, 2, 3, 4; 5 work slice too short; 13 values_len other than 16 * l; 11 leaf not below 2^h; 7 number not
+ * below the count.
+ * Granted: the table of counts stands in table.
+ * Refused: table is untouched, except that 7 leaves the table of counts in it.
+ */
+uint32_t zarosnik_one_time_recover(uint8_t l, uint8_t w, uint16_t s, uint8_t h,
+                                   const uint8_t public_seed[ZAROSNIK_HASH_BYTES], uint32_t leaf,
+                                   const uint32_t number[ZAROSNIK_NUMBER_WORDS],
+                                   const uint8_t *values, size_t values_len,
+                                   uint32_t *table, size_t table_len,
+                                   uint8_t key[ZAROSNIK_HASH_BYTES], uint32_t *steps);
+
+/*
+ * Issue: signs an order text with the key's next leaf.
+ *
+ *   l, w, s, h                 in: the key's profile
+ *   public_seed                in: the key's public seed
+ *   secret_seed                in: the key's secret seed
+ *   next_leaf                  state: the key's next leaf, any value
+ *   r                          in: R, 16 fresh random bytes for this order
+ *   message, message_len       in: the order text
+ *   table, table_len           work slice of at least ZAROSNIK_TABLE_WORDS(l, s) words
+ *   signature, signature_len   output slice of at least ZAROSNIK_SIGNATURE_BYTES(l, h) bytes
+ *
+ * Refusals: 1, 2, 3, 4; 5 work slice too short; 16 text empty or over 200 bytes; 6 signature_len under
+ * 20 + 16 * l + 16 * h; 12 next leaf not below 2^h; 7 message number not below the count (then take another R).
+ * Granted: the signature stands in the first 20 + 16 * l + 16 * h bytes of signature, the table of counts in table,
+ * and next_leaf is 1 more. Store next_leaf before the signature is handed out.
+ * Refused: next_leaf keeps its value, so no leaf is used up. signature is untouched, and so is table, except that 7
+ * leaves the table of counts in it.
+ */
+uint32_t zarosnik_sign(uint8_t l, uint8_t w, uint16_t s, uint8_t h,
+                       const uint8_t public_seed[ZAROSNIK_HASH_BYTES],
+                       const uint8_t secret_seed[ZAROSNIK_HASH_BYTES], uint32_t *next_leaf,
+                       const uint8_t r[ZAROSNIK_HASH_BYTES], const uint8_t *message, size_t message_len,
+                       uint32_t *table, size_t table_len, uint8_t *signature, size_t signature_len);
+
+/*
+ * Check: judges the signature of an order text.
+ *
+ *   l, w, s, h                 in: the cabinet's profile
+ *   public_seed                in: the cabinet's public seed
+ *   root                       in: the cabinet's root, from zarosnik_root
+ *   lowest_leaf                state: the lowest leaf that the cabinet still takes, any value
+ *   message, message_len       in: the order text
+ *   signature, signature_len   in: the signature, ZAROSNIK_SIGNATURE_BYTES(l, h) bytes
+ *   table, table_len           work slice of at least ZAROSNIK_TABLE_WORDS(l, s) words
+ *   steps                      answer: the chain steps made, ZAROSNIK_STEPS(l, w, s) where granted and for 15, else 0
+ *
+ * Refusals: 1, 2, 3, 4; 5 work slice too short; 16 text empty or over 200 bytes; 13 signature_len other than
+ * 20 + 16 * l + 16 * h; 11 the signature's leaf not below 2^h; 14 that leaf below lowest_leaf; 7 message number not
+ * below the count; 15 the root recovered differs from root.
+ * Granted: the order may be carried out. lowest_leaf is the signature's leaf + 1, and the table of counts stands in
+ * table. Store lowest_leaf before the order is carried out.
+ * Refused: lowest_leaf keeps its value. table is untouched, except that 7 and 15 leave the table of counts in it.
+ */
+uint32_t zarosnik_verify(uint8_t l, uint8_t w, uint16_t s, uint8_t h,
+                         const uint8_t public_seed[ZAROSNIK_HASH_BYTES],
+                         const uint8_t root[ZAROSNIK_HASH_BYTES], uint32_t *lowest_leaf,
+                         const uint8_t *message, size_t message_len,
+                         const uint8_t *signature, size_t signature_len,
+                         uint32_t *table, size_t table_len, uint32_t *steps);
+
+/*
+ * Read sheet: the signature and the order text of a sheet, for the profile that is expected. It judges the sheet's
+ * form alone; the order is judged by zarosnik_verify.
+ *
+ *   l, w, s, h                 in: the profile expected
+ *   sheet, sheet_len           in: the sheet
+ *   signature, signature_len   output slice of at least ZAROSNIK_SIGNATURE_BYTES(l, h) bytes
+ *   message, message_len       output slice that takes the sheet's text; ZAROSNIK_MESSAGE_MAX bytes are always enough
+ *   message_written            answer: the length of the text
+ *   line                       answer: after 17 the number, from 1, of the first wrong line; else 0
+ *
+ * Refusals: 1, 2, 3, 4; 17 a line is wrong or missing, or something stands after the last line; 6 signature_len under
+ * 20 + 16 * l + 16 * h; 6 message_len under the text's length.
+ * Granted: the signature stands in the first 20 + 16 * l + 16 * h bytes of signature, the text in the first
+ * message_written bytes of message.
+ * Refused: signature and message are untouched.
+ */
+uint32_t zarosnik_read_sheet(uint8_t l, uint8_t w, uint16_t s, uint8_t h, const uint8_t *sheet, size_t sheet_len,
+                             uint8_t *signature, size_t signature_len, uint8_t *message, size_t message_len,
+                             size_t *message_written, uint32_t *line);
+
+#ifdef __cplusplus
+}
+#endif
+
+#endif
