@@ -6,7 +6,7 @@ with the number of its refusal, or 0, its value, and the slices as the call leav
 """
 
 import itertools
-from functools import cache
+from functools import cache, lru_cache
 
 WORDS = 5
 
@@ -24,6 +24,7 @@ def number_words(n):
     return [n >> 32 * k & 0xFFFFFFFF for k in range(WORDS)]
 
 
+@lru_cache(maxsize=64)
 def table(l, w, s):
     """D(i, t) for i up to l and t up to s, row i after row i - 1."""
     cells = [ways(w, i, t) for i in range(l + 1) for t in range(s + 1)]

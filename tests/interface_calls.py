@@ -1,0 +1,259 @@
+"""Calls of the C interface, each with all that it must leave: the number that it answers with and
+what every pointer points to at exit, as the independent implementation gives them.
+"""
+
+import ctypes
+import hashlib
+
+import sheets
+import signatures
+import zarosnik
+from interface_memory import Memory, Placed, words_memory
+from zarosnik import number_words
+
+# The parameters in order; `name[]` is a pointer and, behind it, a length.
+PROTOTYPES = {
+    "hash": "data[] digest",
+    "count": "l w s table[] number",
+    "unrank": "l w s number table[] row[]",
+    "rank": "l w s row[] table[] number",
+    "leaf_key": "l w s h public_seed secret_seed leaf key",
+    "root": "l w s h public_seed secret_seed root",
+    "one_time_sign": "l w s h public_seed secret_seed leaf number table[] values[]",
+    "one_time_recover": "l w s h public_seed leaf number values[] table[] key steps",
+    "sign": "l w s h public_seed secret_seed next_leaf r message[] table[] signature[]",
+    "verify": "l w s h public_seed root lowest_leaf message[] signature[] table[] steps",
+    "read_sheet": "l w s h sheet[] signature[] message[] message_written line",
+}
+# Every other parameter is a pointer.
+BY_VALUE = {
+    "l": ctypes.c_uint8,
+    "w": ctypes.c_uint8,
+    "s": ctypes.c_uint16,
+    "h": ctypes.c_uint8,
+    "leaf": ctypes.c_uint32,
+}
+
+MOST_HASHED = 65535
+
+
+def load(shared_object):
+    library = ctypes.CDLL(shared_object)
+    for operation, parameters in PROTOTYPES.items():
+        types = []
+        for name in parameters.split():
+            types.append(BY_VALUE.get(name, ctypes.c_void_p))
+            if name.endswith("[]"):
+                types.append(ctypes.c_size_t)
+        function = getattr(library, f"zarosnik_{operation}")
+        function.argtypes = types
+        function.restype = ctypes.c_uint32
+    return library
+
+
+class Call:
+    """An operation, its arguments by name, and the number that it must answer with. The causes are
+    those that were laid on purpose, in the document's order."""
+
+    def __init__(self, operation, outcome, shift, arguments):
+        self.operation = operation
+        self.outcome = outcome
+        self.shift = shift
+        self.arguments = arguments
+        self.causes = []
+
+    def __str__(self):
+        lines = [f"zarosnik_{self.operation} must answer {self.outcome}"]
+        lines += [f"  {name} = {argument}" for name, argument in self.arguments.items()]
+        return "\n".join(lines + [f"  (memory shifted by {self.shift})"])
+
+    def make(self, library):
+        """Makes the call. Answers with a line for each thing that is not as it must be."""
+        placed = {}
+        values = []
+        for parameter in PROTOTYPES[self.operation].split():
+            name = parameter.removesuffix("[]")
+            argument = self.arguments[name]
+            if isinstance(argument, Memory):
+                placed[name] = Placed(argument, (self.shift + 7 * len(placed)) % 16)
+                values.append(placed[name].address)
+                if parameter.endswith("[]"):
+                    values.append(argument.length)
+            else:
+                values.append(argument)
+        outcome = getattr(library, f"zarosnik_{self.operation}")(*values)
+        wrong = []
+        if outcome != self.outcome:
+            wrong.append(f"answer: expected {self.outcome}, got {outcome}")
+        for name, memory in placed.items():
+            wrong += [f"{name}: {line}" for line in memory.differences()]
+        return wrong
+
+
+def shape(p):
+    return {"l": p.l, "w": p.w, "s": p.s}
+
+
+class Calls:
+    """One method an operation: from its arguments to the call and what it must leave. Slices come
+    as memory. The calls of signing keys and verifiers also give what these become."""
+
+    def __init__(self, pick):
+        self.pick = pick
+
+    def call(self, operation, outcome, **arguments):
+        return Call(operation, outcome, self.pick.randrange(16), arguments)
+
+    def answer(self, after):
+        """Bytes or words that every call writes, over anything."""
+        unit = 4 if isinstance(after, list) else 1
+        return Memory(self.pick.randbytes(unit * len(after)), unit).leave(after)
+
+    def size_answer(self, after):
+        return Memory(self.pick.randbytes(8), unit=8).leave(after.to_bytes(8, "little"))
+
+    def hash(self, data):
+        outcome = 18 if len(data.before) > MOST_HASHED else 0
+        digest = bytes(32) if outcome else hashlib.sha256(data.before).digest()
+        return self.call("hash", outcome, data=data, digest=self.answer(digest))
+
+    def count(self, p, table):
+        outcome, number, filled = zarosnik.count(p.l, p.w, p.s, table.words())
+        return self.call(
+            "count",
+            outcome,
+            **shape(p),
+            table=table.leave(filled),
+            number=self.answer(number_words(number)),
+        )
+
+    def unrank(self, p, number, table, row):
+        outcome, written, filled = zarosnik.spread(p.l, p.w, p.s, number, table.words(), row.before)
+        return self.call(
+            "unrank",
+            outcome,
+            **shape(p),
+            number=words_memory(number_words(number)),
+            table=table.leave(filled),
+            row=row.leave(written),
+        )
+
+    def rank(self, p, row, table):
+        outcome, number, filled = zarosnik.gather(p.l, p.w, p.s, row.before, table.words())
+        return self.call(
+            "rank",
+            outcome,
+            **shape(p),
+            row=row,
+            table=table.leave(filled),
+            number=self.answer(number_words(number)),
+        )
+
+    def leaf_key(self, p, seed, secret, leaf):
+        outcome, key = signatures.leaf_key(p, seed, secret, leaf)
+        return self.call(
+            "leaf_key",
+            outcome,
+            **p._asdict(),
+            public_seed=Memory(seed),
+            secret_seed=Memory(secret),
+            leaf=leaf,
+            key=self.answer(key),
+        )
+
+    def root(self, p, seed, secret):
+        outcome, root = signatures.root(p, seed, secret)
+        return self.call(
+            "root",
+            outcome,
+            **p._asdict(),
+            public_seed=Memory(seed),
+            secret_seed=Memory(secret),
+            root=self.answer(root),
+        )
+
+    def one_time_sign(self, p, seed, secret, leaf, number, table, values):
+        outcome, shown, filled = signatures.reveal(
+            p, seed, secret, leaf, number, table.words(), values.before
+        )
+        return self.call(
+            "one_time_sign",
+            outcome,
+            **p._asdict(),
+            public_seed=Memory(seed),
+            secret_seed=Memory(secret),
+            leaf=leaf,
+            number=words_memory(number_words(number)),
+            table=table.leave(filled),
+            values=values.leave(shown),
+        )
+
+    def one_time_recover(self, p, seed, leaf, number, values, table):
+        outcome, key, steps, filled = signatures.recover(
+            p, seed, leaf, number, values.before, table.words()
+        )
+        return self.call(
+            "one_time_recover",
+            outcome,
+            **p._asdict(),
+            public_seed=Memory(seed),
+            leaf=leaf,
+            number=words_memory(number_words(number)),
+            values=values,
+            table=table.leave(filled),
+            key=self.answer(key),
+            steps=self.answer([steps]),
+        )
+
+    def sign(self, key, r, message, table, signature):
+        """The call, and the key that it hands back."""
+        outcome, after, written, filled = signatures.issue(
+            key, r, message.before, table.words(), signature.before
+        )
+        call = self.call(
+            "sign",
+            outcome,
+            **key.profile._asdict(),
+            public_seed=Memory(key.seed),
+            secret_seed=Memory(key.secret),
+            next_leaf=words_memory([key.next]).leave([after.next]),
+            r=Memory(r),
+            message=message,
+            table=table.leave(filled),
+            signature=signature.leave(written),
+        )
+        return call, after
+
+    def verify(self, verifier, message, signature, table):
+        """The call, and the verifier that it hands back."""
+        outcome, after, steps, filled = signatures.check(
+            verifier, message.before, signature.before, table.words()
+        )
+        call = self.call(
+            "verify",
+            outcome,
+            **verifier.profile._asdict(),
+            public_seed=Memory(verifier.seed),
+            root=Memory(verifier.root),
+            lowest_leaf=words_memory([verifier.lowest]).leave([after.lowest]),
+            message=message,
+            signature=signature,
+            table=table.leave(filled),
+            steps=self.answer([steps]),
+        )
+        return call, after
+
+    def read_sheet(self, p, sheet, signature, message):
+        outcome, line, size, shown, text = sheets.read_sheet(
+            p, sheet.before, signature.before, message.before
+        )
+        return self.call(
+            "read_sheet",
+            outcome,
+            **p._asdict(),
+            sheet=sheet,
+            signature=signature.leave(shown),
+            message=message.leave(text),
+            message_written=self.size_answer(size),
+            line=self.answer([line]),
+        )

@@ -1,0 +1,182 @@
+"""The cases of a run. A case is one call or a sequence of calls; the run's seed and the case's
+number give it, so that it can be made again alone.
+
+Every round of cases has, for each operation, granted calls, each cause of refusal alone, each two
+together, and several; slices whose length passes 32 bits; and sequences in which a fresh key signs
+and a fresh verifier checks.
+"""
+
+import itertools
+import random
+from functools import cache, lru_cache, partial
+
+from interface_calls import Calls
+from interface_damage import Order, flipped, swapped
+from interface_inputs import CAUSES, FAR, Inputs, cheap_height, signable_shape
+from interface_memory import Memory
+from sheets import right_sheet
+from signatures import GATE, Profile, SigningKey, Verifier, pieces, root_of, signature_length
+
+SEQUENCES = 8
+# Causes that come in many ways.
+MANIFOLD = [("rank", 10), ("verify", 15), ("read_sheet", 17)]
+# Counts of about half of 2^128: some orders are refused by 7.
+HALF_SIGNABLE = [(40, 10, 168), (40, 11, 144), (40, 16, 130), (34, 15, 238)]
+
+
+class Unsound(Exception):
+    """A call is not what it was drawn to be: a fault of the tests, not of the library."""
+
+
+def demand(holds, call):
+    if not holds:
+        raise Unsound(f"drawn otherwise, with the causes {call.causes}: {call}")
+
+
+def single(operation, causes, far, pick):
+    """One call. A far slice is one whose length passes 32 bits."""
+    call = getattr(Inputs(pick, operation, causes, far), operation)()
+    call.causes = [cause for cause in CAUSES[operation] if cause in causes]
+    demand(call.outcome == abs(next(iter(call.causes), 0)), call)
+    yield call
+
+
+def several(operation, pick):
+    causes = [cause for cause in CAUSES[operation] if pick.random() < 0.3]
+    yield from single(operation, causes, None, pick)
+
+
+class Sequence:
+    """A fresh key signs, a fresh verifier checks. What a call hands back is given to the next. That
+    is the implementation's state, and the library's too: each call is compared before the next."""
+
+    def __init__(self, pick, p):
+        self.pick = pick
+        self.p = p
+        self.calls = Calls(pick)
+        self.key = SigningKey(p, pick.randbytes(16), pick.randbytes(16), 0)
+        self.root = root_of(p, self.key.seed, self.key.secret)
+        self.verifier = Verifier(p, self.key.seed, self.root, 0)
+        self.issued = []
+
+    def sign(self):
+        """The next order, granted or refused."""
+        causes = self.pick.choice([[], [], [], [5], [16], [6]])
+        inputs = Inputs(self.pick, "sign", causes, profile=self.p)
+        size = signature_length(self.p)
+        message, out = inputs.message(), inputs.lent("signature", size, 6)
+        r = self.pick.randbytes(16)
+        call, self.key = self.calls.sign(self.key, r, message, inputs.table(), out)
+        if call.outcome == 0:
+            self.issued.append((out.after[:size], message.before))
+        return call
+
+    def check(self, signature, text, causes=()):
+        table = Inputs(self.pick, "verify", causes, profile=self.p).table()
+        call, self.verifier = self.calls.verify(
+            self.verifier, Memory(text), Memory(signature), table
+        )
+        return call
+
+    def refused_check(self, taken):
+        """A check that is refused: damaged, another key's, without the work slice, or replayed."""
+        pick, (signature, text) = self.pick, self.pick.choice(self.issued)
+        head, parts = signature[:20], pieces(signature[20:])
+        values, siblings = parts[: self.p.l], parts[self.p.l :]
+        foreign = Order(pick, self.p)
+        checks = [
+            (flipped(pick, signature), text),
+            (head + b"".join(swapped(pick, values) + siblings), text),
+            (signature[:-1], text),
+            (signature + b"\0", text),
+            (signature, flipped(pick, text)),
+            (signature, b""),
+            (signature, text, [5]),
+            (foreign.signature(), foreign.text),
+        ]
+        if len(siblings) > 1:
+            checks.append((head + b"".join(values + swapped(pick, siblings)), text))
+        checks += [self.issued[pick.randrange(taken)] for _ in range(4) if taken]
+        return self.check(*pick.choice(checks))
+
+    def run(self):
+        yield self.calls.root(self.p, self.key.seed, self.key.secret)
+        while self.key.next < 1 << self.p.h:
+            yield self.sign()
+        yield from (self.sign() for _ in range(2))
+        yield from self.checks_in_order()
+        yield from self.checks_in_any_order()
+        yield self.sheet()
+
+    def checks_in_order(self):
+        """Whatever is refused in between, each order issued is taken, reports the same steps and
+        carries another leaf."""
+        for taken, (signature, text) in enumerate(self.issued):
+            for _ in range(self.pick.randrange(3)):
+                call = self.refused_check(taken)
+                demand(call.outcome != 0, call)
+                yield call
+            call = self.check(signature, text)
+            steps = self.p.l * (self.p.w - 1) - self.p.s
+            demand(call.outcome == 0 and call.arguments["steps"].after_words() == [steps], call)
+            demand(int.from_bytes(signature[:4], "big") == taken, call)
+            yield call
+
+    def checks_in_any_order(self):
+        self.verifier = self.verifier._replace(lowest=0)
+        for _ in range(3):
+            yield self.check(*self.pick.choice(self.issued))
+
+    def sheet(self):
+        signature, text = self.pick.choice(self.issued)
+        sheet = Memory(right_sheet(self.p, signature, text))
+        slices = [Memory(self.pick.randbytes(len(part) + 9)) for part in (signature, text)]
+        return self.calls.read_sheet(self.p, sheet, *slices)
+
+
+def sequence(pick):
+    l, w, s = pick.choice([signable_shape(pick), pick.choice(HALF_SIGNABLE)])
+    yield from Sequence(pick, Profile(l, w, s, cheap_height(pick, l, w))).run()
+
+
+def gate(pick):
+    """The gate profile at its full height, once in a run: the first leaf, any, and the last."""
+    orders = Sequence(pick, GATE)
+    yield orders.calls.root(GATE, orders.key.seed, orders.key.secret)
+    for leaf in (0, pick.randrange(1, 1023), 1023):
+        orders.key = orders.key._replace(next=leaf)
+        while orders.key.next == leaf:
+            yield orders.sign()
+    yield orders.sign()
+    for signature, text in orders.issued:
+        yield orders.check(signature, flipped(pick, text))
+        yield orders.check(signature, text)
+
+
+@cache
+def plan():
+    cases = [partial(single, operation, causes, far) for operation, far, causes in FAR]
+    for operation, causes in CAUSES.items():
+        alone = [[cause] for cause in causes]
+        pairs = list(itertools.combinations(causes, 2))
+        granted = [[]] * (2 + 2 * len(causes))
+        cases += [partial(single, operation, c, None) for c in granted + 3 * alone + pairs]
+        cases += [partial(several, operation)] * len(causes)
+    cases += [partial(single, operation, [cause], None) for operation, cause in MANIFOLD * 20]
+    return cases + [sequence] * SEQUENCES
+
+
+@lru_cache(maxsize=2)
+def round_of(seed, number):
+    cases = list(plan())
+    random.Random(f"{seed} round {number}").shuffle(cases)
+    return cases
+
+
+def case(seed, number):
+    """The calls of a case, each drawn when the one before was made."""
+    pick = random.Random(f"{seed} case {number}")
+    if number == 0:
+        return gate(pick)
+    turn, place = divmod(number - 1, len(plan()))
+    return round_of(seed, turn)[place](pick)

@@ -1,0 +1,295 @@
+"""Random inputs for one call of the C interface, with just those causes of refusal that are asked
+for: none, one, or several at once, of which the first in the document's order must be told.
+"""
+
+from interface_calls import MOST_HASHED, Calls
+from interface_damage import Order, flipped, wrong_sheet
+from interface_memory import Filling, Memory
+from sheets import right_sheet
+from signatures import Profile, SigningKey, Verifier, revealed, signature_length
+from zarosnik import row_of, table_length, ways
+
+# Read sheet refuses by 6 for two slices. This is the text's.
+TEXT_SLICE = -6
+
+# The causes of each operation in the document's order.
+CAUSES = {
+    "hash": [18],
+    "count": [1, 2, 3, 5],
+    "unrank": [1, 2, 3, 5, 6, 7],
+    "rank": [1, 2, 3, 5, 8, 9, 10],
+    "leaf_key": [1, 2, 3, 4, 11],
+    "root": [1, 2, 3, 4],
+    "one_time_sign": [1, 2, 3, 4, 5, 6, 11, 7],
+    "one_time_recover": [1, 2, 3, 4, 5, 13, 11, 7],
+    "sign": [1, 2, 3, 4, 5, 16, 6, 12, 7],
+    "verify": [1, 2, 3, 4, 5, 16, 13, 11, 14, 7, 15],
+    "read_sheet": [1, 2, 3, 4, 17, 6, TEXT_SLICE],
+}
+
+# Slices whose length may pass 32 bits, and the cause of refusal where this is too long. Cut to 32
+# bits, such a length would be right; where longer is right too, it would be too short.
+FAR = [
+    ("hash", "data", [18]),
+    ("count", "table", []),
+    ("unrank", "table", []),
+    ("unrank", "row", []),
+    ("rank", "table", []),
+    ("rank", "row", [8]),
+    ("one_time_sign", "table", []),
+    ("one_time_sign", "values", []),
+    ("one_time_recover", "table", []),
+    ("one_time_recover", "values", [13]),
+    ("sign", "table", []),
+    ("sign", "signature", []),
+    ("sign", "message", [16]),
+    ("verify", "table", []),
+    ("verify", "message", [16]),
+    ("verify", "signature", [13]),
+    ("read_sheet", "sheet", [17]),
+    ("read_sheet", "signature", []),
+    ("read_sheet", "message", []),
+]
+
+# l, w, the least and the largest s with a count of 2^128 or more, so that every order has a row.
+SIGNABLE = [
+    (34, 16, 211, 299),
+    (35, 15, 196, 294),
+    (36, 14, 184, 284),
+    (37, 13, 175, 269),
+    (38, 12, 170, 248),
+    (39, 11, 169, 221),
+    (40, 11, 149, 251),
+    (40, 16, 133, 467),
+]
+
+PAST_WORD = 1 << 32
+PAST_NUMBER = 1 << 160
+# So many hashes may go into one tree, so many words into the table of a profile out of its limits.
+MOST_HASHES = 6000
+MOST_WORDS = 150000
+
+
+def signable_shape(pick):
+    l, w, low, high = pick.choice(SIGNABLE)
+    return l, w, pick.choice([low, high, (low + high) // 2, pick.randrange(low, high + 1)])
+
+
+def any_shape(pick):
+    """Mostly small, and up to every limit."""
+    if pick.random() < 0.7:
+        l, w = pick.randrange(1, 9), pick.randrange(2, 7)
+    else:
+        l = pick.choice([1, 40, pick.randrange(1, 41)])
+        w = pick.choice([2, 16, pick.randrange(2, 17)])
+    most = l * (w - 1)
+    return l, w, pick.choice([0, most, most // 2, pick.randrange(most + 1)])
+
+
+def scant_shape(pick):
+    """So few rows that no digest gives the number of one."""
+    while True:
+        l, w, s = any_shape(pick)
+        if ways(w, l, s) < 1 << 80:
+            return l, w, s
+
+
+def cheap_height(pick, l, w):
+    """Small enough for all leaves to be hashed."""
+    return pick.choice([h for h in range(11) if (l * w) << h <= MOST_HASHES])
+
+
+class Inputs:
+    """Draws the arguments of one call: one method an operation. Where a number of the profile is to
+    be wrong, slices have the sizes that go with it, as far as it can be: a library that takes such
+    a profile is not saved by a slice that is too short."""
+
+    def __init__(self, pick, operation, causes=(), far=None, profile=None):
+        self.pick = pick
+        self.causes = set(causes)
+        self.far = far
+        self.calls = Calls(pick)
+        self.good = profile or self.good_profile(operation)
+        self.p = self.given_profile()
+
+    def good_profile(self, operation):
+        pick = self.pick
+        if operation == "rank" and 10 in self.causes and pick.random() < 0.3:
+            # room for a sum that is the same in its low byte
+            l, w, s = pick.randrange(20, 41), 16, pick.randrange(40)
+        elif operation not in ("sign", "verify"):
+            l, w, s = any_shape(pick)
+        else:
+            l, w, s = scant_shape(pick) if 7 in self.causes else signable_shape(pick)
+        # every refusal but 7 comes before the tree is hashed
+        hashed = operation in ("root", "sign") and self.causes <= {7}
+        return Profile(l, w, s, cheap_height(pick, l, w) if hashed else pick.randrange(11))
+
+    def given_profile(self):
+        pick, (l, w, s, h) = self.pick, self.good
+        if 1 in self.causes:
+            l = pick.choice([0, 41, 42, 255, pick.randrange(41, 256)])
+        if 2 in self.causes:
+            w = pick.choice([0, 1, 17, 255, pick.randrange(17, 256)])
+        if 3 in self.causes:
+            over = max(0, l * (w - 1) + 1)
+            # one of them has the low byte of the good sum
+            s = pick.choice([over, over + (s - over) % 256, 65535, pick.randrange(over, 65536)])
+        if 4 in self.causes:
+            h = pick.choice([11, 12, h + 32, 255, pick.randrange(11, 256)])
+        return Profile(l, w, s, h)
+
+    def filling(self, size):
+        return Filling(self.pick.getrandbits(32), size)
+
+    def seed(self):
+        return self.pick.choice([bytes(16), b"\xff" * 16] + [self.pick.randbytes(16)] * 6)
+
+    def lent(self, name, right, cause, unit=1):
+        """A slice to write to: too short where that is the cause, else right or longer."""
+        pick = self.pick
+        if self.far == name:
+            return Memory(self.filling(unit * (right + 1)), unit).stretch(PAST_WORD + right - 1)
+        if cause in self.causes:
+            sizes = [right - 1, right - 1, 0, pick.randrange(max(1, right))]
+        else:
+            sizes = [right, right, right + 1, right + pick.randrange(2, 40)]
+        return Memory(self.filling(unit * max(0, pick.choice(sizes))), unit)
+
+    def exact(self, name, content, cause):
+        """A slice to read from, which has one right length."""
+        pick, right = self.pick, len(content)
+        if self.far == name:
+            return Memory(content + pick.randbytes(1)).stretch(PAST_WORD + right)
+        if cause not in self.causes:
+            return Memory(content)
+        sizes = {0, right - 1, right + 1, right - 16, right + 16, pick.randrange(2 * right + 2)}
+        size = pick.choice(sorted(size for size in sizes if size >= 0 and size != right))
+        return Memory((content + pick.randbytes(right + 17))[:size], behind=content[size:])
+
+    def table(self):
+        p = self.p if table_length(self.p.l, self.p.s) <= MOST_WORDS else self.good
+        return self.lent("table", table_length(p.l, p.s), 5, unit=4)
+
+    def number(self):
+        pick, count = self.pick, ways(self.good.w, self.good.l, self.good.s)
+        if 7 not in self.causes:
+            return pick.choice([0, count - 1, pick.randrange(count)])
+        # some are below the count but for one bit in a higher word
+        numbers = [pick.randrange(count) | 1 << 32 * k for k in range(5)]
+        numbers += [count, count, count + 1, PAST_NUMBER - 1, pick.randrange(count, PAST_NUMBER)]
+        return pick.choice([n for n in numbers if n >= count])
+
+    def leaf(self, cause):
+        pick, end = self.pick, 1 << self.good.h
+        if cause not in self.causes:
+            return pick.choice([0, end - 1, pick.randrange(end)])
+        leaves = [end, end, end + 1, PAST_WORD - 1, pick.randrange(end, PAST_WORD)]
+        return pick.choice(leaves + [pick.randrange(end) | 1 << pick.randrange(self.good.h, 32)])
+
+    def message(self):
+        pick = self.pick
+        right = pick.choice([1, 200, pick.randrange(1, 201)])
+        wrong = pick.choice([0, 0, 201, 201, 202, 256, 257, 65537])
+        if self.far == "message":
+            return Memory(self.filling(201)).stretch(PAST_WORD + right)
+        return Memory(self.filling(wrong if 16 in self.causes else right))
+
+    def padded(self, content, right):
+        """Content with the length that the given profile asks for."""
+        return (content + self.pick.randbytes(right))[:right]
+
+    def hash(self):
+        pick = self.pick
+        edges = [55, 56, 63, 64, 65, 119, 120, 127, 128]
+        size = pick.choice([0, 1, pick.choice(edges), pick.randrange(400), MOST_HASHED])
+        if 18 in self.causes:
+            over = MOST_HASHED + 1
+            size = over + pick.choice([0, 0, 1, 64, over, pick.randrange(70000)])
+        data = Memory(self.filling(size))
+        return self.calls.hash(data.stretch(PAST_WORD + pick.randrange(100)) if self.far else data)
+
+    def count(self):
+        return self.calls.count(self.p, self.table())
+
+    def unrank(self):
+        row = self.lent("row", self.p.l, 6)
+        return self.calls.unrank(self.p, self.number(), self.table(), row)
+
+    def rank(self):
+        row = row_of(*self.good[:3], self.number())
+        if 10 in self.causes:
+            row = self.other_sum(row)
+        if 9 in self.causes:
+            at, w = self.pick.randrange(len(row)), self.good.w
+            wide = self.pick.choice([w, 255, self.pick.randrange(w, 256)])
+            row = row[:at] + bytes([wide]) + row[at + 1 :]
+        row = self.exact("row", self.padded(row, self.p.l), 8)
+        return self.calls.rank(self.p, row, self.table())
+
+    def other_sum(self, row):
+        """One length is more or less by 1, or the row's sum is another with the same low byte."""
+        (l, w, s, _), at = self.good, self.pick.randrange(len(row))
+        if s + 256 <= l * (w - 1) and self.pick.random() < 0.5:
+            return row_of(l, w, s + 256, self.pick.randrange(ways(w, l, s + 256)))
+        by = 1 if row[at] == 0 or row[at] < w - 1 and self.pick.random() < 0.5 else -1
+        return row[:at] + bytes([row[at] + by]) + row[at + 1 :]
+
+    def leaf_key(self):
+        return self.calls.leaf_key(self.p, self.seed(), self.seed(), self.leaf(11))
+
+    def root(self):
+        return self.calls.root(self.p, self.seed(), self.seed())
+
+    def one_time_sign(self):
+        values = self.lent("values", 16 * self.p.l, 6)
+        seeds = self.seed(), self.seed()
+        return self.calls.one_time_sign(
+            self.p, *seeds, self.leaf(11), self.number(), self.table(), values
+        )
+
+    def one_time_recover(self):
+        """Values as signed, with a bit flipped, or any."""
+        p, seed, leaf, number = self.good, self.seed(), self.leaf(11), self.number()
+        values = self.pick.randbytes(16 * p.l)
+        if 7 not in self.causes and self.pick.random() < 0.7:
+            values = revealed(p, seed, self.seed(), leaf, number)
+            if self.pick.random() < 0.5:
+                values = flipped(self.pick, values)
+        values = self.exact("values", self.padded(values, 16 * self.p.l), 13)
+        return self.calls.one_time_recover(self.p, seed, leaf, number, values, self.table())
+
+    def sign(self):
+        key = SigningKey(self.p, self.seed(), self.seed(), self.leaf(12))
+        signature = self.lent("signature", signature_length(self.p), 6)
+        r = self.pick.randbytes(16)
+        return self.calls.sign(key, r, self.message(), self.table(), signature)[0]
+
+    def verify(self):
+        order = Order(self.pick, self.good)
+        if 15 in self.causes:
+            order.damage()
+        lowest = self.pick.choice([0, order.leaf, self.pick.randrange(order.leaf + 1)])
+        if 11 in self.causes:
+            order.leaf = self.leaf(11)
+        if 14 in self.causes:
+            above = min(order.leaf + 1, PAST_WORD - 1)
+            lowest = self.pick.choice([above, PAST_WORD - 1, self.pick.randrange(above, PAST_WORD)])
+        verifier = Verifier(self.p, order.seed, order.root, lowest)
+        signature = self.padded(order.signature(), signature_length(self.p))
+        signature = self.exact("signature", signature, 13)
+        message = self.message() if 16 in self.causes else Memory(order.text)
+        return self.calls.verify(verifier, message, signature, self.table())[0]
+
+    def read_sheet(self):
+        pick, p = self.pick, self.good
+        text = pick.randbytes(pick.choice([1, 200, pick.randrange(1, 201)]))
+        sheet = right_sheet(p, pick.randbytes(signature_length(p)), text)
+        given = Memory(sheet)
+        if self.far == "sheet":
+            given = self.exact("sheet", sheet, 17)
+        elif 17 in self.causes:
+            given = wrong_sheet(pick, p, sheet)
+        signature = self.lent("signature", signature_length(self.p), 6)
+        message = self.lent("message", len(text), TEXT_SLICE)
+        return self.calls.read_sheet(self.p, given, signature, message)
