@@ -95,8 +95,8 @@ module _ (p : Profile) (work : List ℕ) (own : List (Bool × ℕ)) (between : B
           let seven : number ≡ 7 = only-late ∙ rw (le-leb (count (p .shape)) n (refused .0)) in
           record { answer = refused .1 ∙ sym seven; some = rw seven; not-fifteen = rw seven; table = filled-table (p .shape) work 7 seven refl table-there }
 
-      pub passed-spread : r ≡ Granted → Passes number (p .shape) n more work row work′ row′
-      passed-spread s =
+      pub passed-unrank : r ≡ Granted → Passes number (p .shape) n more work row work′ row′
+      passed-unrank s =
           let granted = after-granted u (passed .counted) (omega (arith, passed .limits .few-chains)) s in
           record {
             left = only-late ∙ cause-passed (leb (count (p .shape)) n) 7 more (lt-leb (count (p .shape)) n (granted .0));

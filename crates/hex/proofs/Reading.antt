@@ -7,9 +7,9 @@ use native.Mathlib.Numerals.{add-one, add-two}
 use native.Mathlib.Omega.{arith}
 use borrow.Author.Tests.{lt-ltb, le-ltb, ltb-true, ltb-false, eq-eqb, ne-eqb, eqb-true, eqb-false}
 use lib.Dec.{ltb, eqb}
-use lib.ListN.{length, getD, take, drop, set, length-append, drop-of-length-le, List·getD-eq-default}
-use lib.Seq.{drop-cons, append-snoc, take-all, take-suc-set}
-use Rattle.hex.specs.Digits.{byteOf, byteAt, hasBytes}
+use lib.ListN.{length, getD, take, drop, set, length-append, take-append-drop, drop-of-length-le, List·getD-eq-default}
+use lib.Seq.{drop-cons, append-snoc, take-all, take-suc-set, drop-set-lt}
+use Rattle.hex.specs.Digits.{byteOf, byteAt, hasBytes, orKept, readInto, ReadsLine}
 use Rattle.hex.specs.Hex.{lineEnd, digitOf, Line, wrong, right, behind, readLine}
 use Rattle.hex.specs.declared.Digits.{Digits}
 use Rattle.hex.specs.declared.Digits.the-variants.{Wrong, Byte}
@@ -162,6 +162,33 @@ module _ (chars : List ℕ) (at : ℕ) where
       let all : i ≡ n = omega arith in
       before ∙ rw (← all, take-all i bytes high) (whole-line bytes chars (at + 2 * i) e)
 
+-- the same loop, by what it leaves in the slice
+module _ (chars : List ℕ) (at : ℕ) where
+  pub into-begins : (bytes : List ℕ) → readInto chars at bytes ≡ take 0 bytes ++ readInto chars (at + 2 * 0) (drop 0 bytes)
+  into-begins bytes = let none : at + 2 * 0 ≡ at = omega arith in rw none
+
+  module _ (bytes : List ℕ) (i : ℕ) {left : List ℕ} (before : left ≡ take i bytes ++ readInto chars (at + 2 * i) (drop i bytes)) where
+    pub into-next : {b : ℕ} → i < length bytes → byteAt chars (at + 2 * i) ≡ Byte b
+        → left ≡ take (i + 1) (set bytes i b) ++ readInto chars (at + 2 * (i + 1)) (drop (i + 1) (set bytes i b))
+    unfolding readInto orKept
+    into-next {b} h e =
+        let next : at + 2 * (i + 1) ≡ at + 2 * i + 2 = omega arith in
+        before
+        ∙ rw (drop-cons bytes i 0 h, e, next, add-one i, take-suc-set bytes i b h, drop-set-lt (suc i) bytes i b (omega arith), append-snoc (take i bytes) b (readInto chars (at + 2 * i + 2) (drop (suc i) bytes)))
+
+    -- no byte stands at the index
+    pub into-wrong : byteAt chars (at + 2 * i) ≡ Wrong → bytes ≡ left
+    unfolding readInto orKept
+    into-wrong e = sym (before ∙ rw (into-none (drop i bytes)) (take-append-drop i bytes))
+      where
+        into-none : (old : List ℕ) → readInto chars (at + 2 * i) old ≡ old
+        into-none [] = refl
+        into-none (o ∷ old) = rw e
+
+    pub into-all : length bytes ≤ i → bytes ≡ left
+    unfolding readInto
+    into-all h = sym (before ∙ rw (drop-of-length-le bytes h, append-nil) (take-all i bytes h))
+
 -- a byte takes two characters
 pub byte-room : (chars : List ℕ) (at : ℕ) {b : ℕ} → byteAt chars at ≡ Byte b → at + 2 ≤ length chars
 byte-room chars at {b} e = by (ltb (length chars) (at + 2)) refl
@@ -170,11 +197,11 @@ byte-room chars at {b} e = by (ltb (length chars) (at + 2)) refl
     by false p = ltb-false (length chars) (at + 2) p
     by true p = let z : _≡_ {A = ℕ} 0 1 = cc (byte-short chars at (ltb-true (length chars) (at + 2) p)) in absurd (omega arith)
 
--- the answer no
-pub answer-no : (n : ℕ) {l l′ : Line} {B : Type 0} → l ≡ l′ → hasBytes n l′ ≡ false → (false ≡ hasBytes n l) × (false ≡ true → B)
-answer-no n e other = (sym (ap (hasBytes n) e ∙ other), λ z. absurd (true≢false (sym z)))
+-- the two answers
+module _ (chars : List ℕ) (at : ℕ) (old : List ℕ) {new : List ℕ} (left : new ≡ readInto chars at old) where
+  pub answer-no : {l : Line} → readLine (drop at chars) ≡ l → hasBytes (length old) l ≡ false → ReadsLine chars at old new false
+  answer-no e other = record { told = sym (ap (hasBytes (length old)) e ∙ other); bytes = λ z. absurd (true≢false (sym z)); left = left }
 
--- the answer yes
-pub answer-yes : {n : ℕ} {l : Line} {bytes rest : List ℕ} → length bytes ≡ n → l ≡ right bytes rest → (true ≡ hasBytes n l) × (true ≡ true → l ≡ right bytes rest)
-unfolding hasBytes
-answer-yes {n = n} {bytes = bytes} h e = (sym (ap (hasBytes n) e ∙ eq-eqb (length bytes) n h), λ _. e)
+  pub answer-yes : length new ≡ length old → readLine (drop at chars) ≡ right new (drop (at + 2 * length old + 1) chars) → ReadsLine chars at old new true
+  unfolding hasBytes
+  answer-yes h e = record { told = sym (ap (hasBytes (length old)) e ∙ eq-eqb (length new) (length old) h); bytes = λ _. e; left = left }

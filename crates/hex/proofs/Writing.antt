@@ -6,7 +6,8 @@ use native.Mathlib.Numerals.{add-one}
 use native.Mathlib.Nat.{add-zero}
 use native.Mathlib.Omega.{arith}
 use lib.ListN.{length, getD, take, drop, set, length-append, length-drop, take-append-drop}
-use lib.Seq.{length-take-le, take-suc, take-at, drop-append-add, drop-drop, sets-eq}
+use lib.Seq.{length-take-le, take-suc, sets-eq}
+use Rattle.words.proofs.Joins.{written-behind}
 use Rattle.hex.specs.Hex.{hexDigit, hexOf, lineEnd, lineOf}
 use Rattle.hex.proofs.HexLaws.{length-hexOf, hexOf-append}
 
@@ -32,13 +33,10 @@ module _ (o : List ℕ) (at : ℕ) (s : List ℕ) (fits : at + length s ≤ leng
   still-long = ap length e ∙ length-append (take at o ++ s) (drop (at + length s) o) ∙ omega (arith, front-long, length-drop (at + length s) o)
 
   -- more is written behind it
-  pub written-behind : (v : List ℕ) {out′ : List ℕ} → out′ ≡ withAt out (at + length s) v → out′ ≡ withAt o at (s ++ v)
-  written-behind v w =
-      let back : drop (at + length s + length v) (withAt o at s) ≡ drop (at + length s + length v) o =
-      ap (λ j. drop (j + length v) (withAt o at s)) (sym front-long)
-      ∙ drop-append-add (take at o ++ s) (drop (at + length s) o) (length v) ∙ drop-drop (length v) (at + length s) o in
+  pub withAt-behind : (v : List ℕ) {out′ : List ℕ} → out′ ≡ withAt out (at + length s) v → out′ ≡ withAt o at (s ++ v)
+  withAt-behind v w =
       let both : at + length s + length v ≡ at + length (s ++ v) = omega (arith, length-append s v) in
-      w ∙ rw (e, take-at (take at o ++ s) (drop (at + length s) o) (at + length s) front-long, back, both, append-assoc (take at o) s v)
+      written-behind (take at o ++ s) v o (at + length s) (length v) front-long e w ∙ rw (both, append-assoc (take at o) s v)
 
 -- nothing is written yet
 pub written-none : (o : List ℕ) (at : ℕ) → o ≡ withAt o at []
@@ -50,7 +48,7 @@ pub written-byte : (o : List ℕ) (at : ℕ) (bytes : List ℕ) (i : ℕ) {out o
     → out′ ≡ withAt o at (hexOf (take (i + 1) bytes))
 written-byte o at bytes i fits h e w =
     let long : length (hexOf (take i bytes)) ≡ 2 * i = length-hexOf (take i bytes) ∙ ap (λ n. 2 * n) (length-take-le i bytes (omega arith)) in
-    rw (add-one, take-suc bytes i 0 h, hexOf-append) (written-behind o at (hexOf (take i bytes)) (omega (arith, long)) e (hexOf (getD bytes i 0 ∷ [])) (rw (long, length-hexOf (getD bytes i 0 ∷ [])) w))
+    rw (add-one, take-suc bytes i 0 h, hexOf-append) (withAt-behind o at (hexOf (take i bytes)) (omega (arith, long)) e (hexOf (getD bytes i 0 ∷ [])) (rw (long, length-hexOf (getD bytes i 0 ∷ [])) w))
 
 -- the line's ending behind the bytes
 pub written-line : (o : List ℕ) (at : ℕ) (bytes : List ℕ) {out : List ℕ} → at + 2 * length bytes + 1 ≤ length o
@@ -63,5 +61,5 @@ written-line o at bytes {out} fits e =
     let end : at + 2 * length bytes + 1 ≡ at + length (lineOf bytes) = omega (arith, length-lineOf bytes) in
     let room : at + length (hexOf bytes) ≤ length o = omega arith in
     rw (end, ← long)
-    (written-behind o at (hexOf bytes) room before (lineEnd ∷ [])
+    (withAt-behind o at (hexOf bytes) room before (lineEnd ∷ [])
     (sets-eq (lineEnd ∷ []) out (at + length (hexOf bytes)) (omega (arith, still-long o at (hexOf bytes) room before))))

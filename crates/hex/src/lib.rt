@@ -1,11 +1,10 @@
 // Bytes as upper-case hex, two characters a byte, and lines of them.
 ghost use mathlib.Core.Path.{_≡_};
-ghost use mathlib.Core.Bool.{true};
 ghost use mathlib.Core.List.{[], _∷_, _++_};
 ghost use Prim.Native.Nat.{_+_, _*_, _≤_, _<_};
 ghost use lib.ListN.{length, take, drop};
-ghost use Rattle.hex.specs.Hex.{hexDigit, hexOf, lineOf, digitOf, right, readLine};
-ghost use Rattle.hex.specs.Digits.{byteAt, hasBytes};
+ghost use Rattle.hex.specs.Hex.{hexDigit, hexOf, lineOf, digitOf};
+ghost use Rattle.hex.specs.Digits.{byteAt, ReadsLine};
 
 // What two characters are read as.
 pub enum Digits {
@@ -61,11 +60,11 @@ pub fn byte_at(chars: &[u8], at: usize) -> Digits
     Digits::Byte(16 * high + low)
 }
 
-// Whether the line from index `at` on has exactly as many bytes as the slice, which then holds them.
+// Whether the line from index `at` on has exactly as many bytes as the slice, which then holds them. Else it holds those
+// in front of the first that is wrong, and behind them what stood there.
 pub fn read_line(chars: &[u8], at: usize, bytes: &mut [u8]) -> bool
     requires { ⌜ at ≤ length (now chars) ⌝ }
-    ensures told { λ r. ⌜ r ≡ hasBytes (length (now (bytes .entry))) (readLine (drop at (now (chars .entry)))) ⌝ }
-    ensures bytes { λ r. ⌜ (r ≡ true → readLine (drop at (now (chars .entry))) ≡ right (now (bytes .exit)) (drop (at + 2 * length (now (bytes .entry)) + 1) (now (chars .entry)))) ⌝ }
+    ensures { λ r. ⌜ ReadsLine (now (chars .entry)) at (now (bytes .entry)) (now (bytes .exit)) r ⌝ }
 {
     let mut i = 0;
     while i < bytes.len() {

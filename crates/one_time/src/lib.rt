@@ -1,13 +1,15 @@
 // The one-time signatures of a leaf: Leaf key, Reveal and Recover.
 ghost use mathlib.Core.Path.{_≡_};
-ghost use mathlib.Core.Bool.{not};
+ghost use mathlib.Core.Logic.{_⊎_};
 ghost use mathlib.Core.List.{[], _∷_, _++_};
-ghost use Prim.Native.Nat.{_*_, _^_, _≤_};
-ghost use lib.Dec.{ltb, leb, eqb};
-ghost use Rattle.refusal.specs.Code.{outcomeCode, firstCause};
+ghost use Prim.Native.Nat.{_^_, _≤_};
+ghost use lib.Dec.{leb};
+ghost use lib.ListN.{length};
+ghost use Rattle.refusal.specs.Code.{code, outcomeCode, firstCause};
 ghost use Rattle.words.specs.Number.{value};
 ghost use Rattle.counts.specs.Table.{tableCauses};
 ghost use Rattle.one_time.specs.Operations.{leafKeyNumber, LeafKeys, Reveals, Recovers};
+ghost use Rattle.one_time.specs.Placing.{Places};
 use chains::leaves::key_of_leaf;
 use chains::leaves::recover_key;
 use chains::leaves::write_values;
@@ -60,19 +62,17 @@ fn leaf_key_outcome(p: Profile, leaf: u32) -> Outcome
     }
 }
 
-// The causes of Reveal before the table is filled.
-fn sign_outcome(p: Profile, leaf: u32, words: usize, bytes: usize) -> Outcome
-    ensures { λ r. ⌜ outcomeCode r ≡ firstCause (tableCauses p words ++ ((ltb bytes (16 * p .shape .chains), 6) ∷ (leb (2 ^ p .height) leaf, 11) ∷ [])) ⌝ }
+// The causes before the table is filled: those of the table, `refusal` where the size of the values is wrong, and 11.
+fn early_outcome(p: Profile, leaf: u32, words: usize, wrong: bool, refusal: Refusal) -> Outcome
+    ensures { λ r. ⌜ outcomeCode r ≡ firstCause (tableCauses p words ++ ((wrong, code refusal) ∷ (leb (2 ^ p .height) leaf, 11) ∷ [])) ⌝ }
 {
     let checked = table_outcome(p, words);
     match checked {
         Outcome::Refused(_) => checked,
         Outcome::Granted => {
-            let shape = p.shape;
-            let chains = shape.chains as usize;
             let height = p.height;
-            if bytes < 16 * chains {
-                Outcome::Refused(Refusal::OutputTooShort)
+            if wrong {
+                Outcome::Refused(refusal)
             } else {
                 leaf_outcome(leaf, height)
             }
@@ -80,22 +80,26 @@ fn sign_outcome(p: Profile, leaf: u32, words: usize, bytes: usize) -> Outcome
     }
 }
 
-// The causes of Recover before the table is filled.
-fn recover_outcome(p: Profile, leaf: u32, words: usize, bytes: usize) -> Outcome
-    ensures { λ r. ⌜ outcomeCode r ≡ firstCause (tableCauses p words ++ ((not (eqb bytes (16 * p .shape .chains)), 13) ∷ (leb (2 ^ p .height) leaf, 11) ∷ [])) ⌝ }
+// What Reveal and Recover share, which differ in the refusal of a wrong size: every cause, and where none holds the
+// codeword of the number into the first bytes of the row.
+fn place_row(
+    p: Profile,
+    leaf: u32,
+    number: [u32; 5],
+    wrong: bool,
+    refusal: Refusal,
+    table: &mut [u32],
+    row: &mut [u8],
+) -> Outcome
+    requires { ⌜ ((code refusal ≡ 6) ⊎ (code refusal ≡ 13)) × (length (now row) ≡ 40) ⌝ }
+    ensures { λ r. ⌜ Places p leaf (value number) wrong (code refusal) (now (table .entry)) (now (row .entry)) (now (table .exit)) (now (row .exit)) r ⌝ }
 {
-    let checked = table_outcome(p, words);
-    match checked {
-        Outcome::Refused(_) => checked,
+    let early = early_outcome(p, leaf, table.len(), wrong, refusal);
+    match early {
+        Outcome::Refused(_) => early,
         Outcome::Granted => {
             let shape = p.shape;
-            let chains = shape.chains as usize;
-            let height = p.height;
-            if bytes != 16 * chains {
-                Outcome::Refused(Refusal::SignatureLength)
-            } else {
-                leaf_outcome(leaf, height)
-            }
+            unrank(shape, number, table, row)
         }
     }
 }
@@ -133,31 +137,35 @@ pub fn one_time_sign(
 ) -> Outcome
     ensures { λ r. ⌜ Reveals p seed secret leaf (value number) (now (table .entry)) (now (values .entry)) (now (table .exit)) (now (values .exit)) r ⌝ }
 {
-    let outcome = sign_outcome(p, leaf, table.len(), values.len());
+    let shape = p.shape;
+    let chains = shape.chains as usize;
+    let short = values.len() < 16 * chains;
+    let mut row = [0u8; 40];
+    let outcome = place_row(
+        p,
+        leaf,
+        number,
+        short,
+        Refusal::OutputTooShort,
+        table,
+        &mut row,
+    );
     match outcome {
         Outcome::Refused(_) => outcome,
         Outcome::Granted => {
-            let shape = p.shape;
-            let mut row = [0u8; 40];
-            let placed = unrank(shape, number, table, &mut row);
-            match placed {
-                Outcome::Refused(_) => placed,
-                Outcome::Granted => {
-                    let state = seeded(seed);
-                    write_values(
-                        state,
-                        0,
-                        0,
-                        Leaf(leaf),
-                        secret,
-                        row,
-                        shape.chains,
-                        values,
-                        0,
-                    );
-                    placed
-                }
-            }
+            let state = seeded(seed);
+            write_values(
+                state,
+                0,
+                0,
+                Leaf(leaf),
+                secret,
+                row,
+                shape.chains,
+                values,
+                0,
+            );
+            outcome
         }
     }
 }
@@ -173,7 +181,19 @@ pub fn one_time_recover(
 ) -> Recovered
     ensures { λ r. ⌜ Recovers p seed leaf (value number) (now (values .entry)) (now (table .entry)) (now (table .exit)) r ⌝ }
 {
-    let outcome = recover_outcome(p, leaf, table.len(), values.len());
+    let shape = p.shape;
+    let chains = shape.chains as usize;
+    let other = values.len() != 16 * chains;
+    let mut row = [0u8; 40];
+    let outcome = place_row(
+        p,
+        leaf,
+        number,
+        other,
+        Refusal::SignatureLength,
+        table,
+        &mut row,
+    );
     match outcome {
         Outcome::Refused(_) => Recovered {
             outcome: outcome,
@@ -181,36 +201,24 @@ pub fn one_time_recover(
             steps: 0,
         },
         Outcome::Granted => {
-            let shape = p.shape;
-            let mut row = [0u8; 40];
-            let placed = unrank(shape, number, table, &mut row);
-            match placed {
-                Outcome::Refused(_) => Recovered {
-                    outcome: placed,
-                    key: [0; 16],
-                    steps: 0,
-                },
-                Outcome::Granted => {
-                    let state = seeded(seed);
-                    let found = recover_key(
-                        state,
-                        0,
-                        0,
-                        Leaf(leaf),
-                        row,
-                        shape.width,
-                        shape.chains,
-                        values,
-                        0,
-                    );
-                    let key = found.key;
-                    let steps = found.steps;
-                    Recovered {
-                        outcome: placed,
-                        key: key,
-                        steps: steps,
-                    }
-                }
+            let state = seeded(seed);
+            let found = recover_key(
+                state,
+                0,
+                0,
+                Leaf(leaf),
+                row,
+                shape.width,
+                shape.chains,
+                values,
+                0,
+            );
+            let key = found.key;
+            let steps = found.steps;
+            Recovered {
+                outcome: outcome,
+                key: key,
+                steps: steps,
             }
         }
     }

@@ -17,7 +17,7 @@ use Rattle.hex.specs.Digits.{byteAt}
 use Rattle.hex.specs.declared.Digits.the-variants.{Byte}
 use Rattle.hex.proofs.HexLaws.{digit-hex, length-hexOf, hexOf-append}
 use Rattle.hex.proofs.Reading.{byte-right}
-use Rattle.hex.proofs.Writing.{length-lineOf, withAt, written-behind}
+use Rattle.hex.proofs.Writing.{length-lineOf, withAt, withAt-behind}
 use Rattle.message.specs.Message.{signatureLength}
 use Rattle.sheet.specs.Frames.{Frame, firstFrame, profileFrame, leafFrame, randomizerFrame, numbered, frames, textFrame}
 use Rattle.sheet.specs.Sheet.{linesOf}
@@ -67,9 +67,9 @@ signature-copied sheet o n {s1} {s2} {s3} fits e1 e2 e3 =
     let all-long : 0 + length (leaf ++ randomizer ++ values) ≡ 20 + 16 * n = omega (arith, length-append (leaf ++ randomizer) values) in
     let first : s1 ≡ withAt o 0 leaf = rw leaf-long e1 in
     let second : s2 ≡ withAt s1 (0 + length leaf) randomizer = rw (leaf-long, randomizer-long) e2 in
-    let both : s2 ≡ withAt o 0 (leaf ++ randomizer) = written-behind o 0 leaf (omega arith) first randomizer second in
+    let both : s2 ≡ withAt o 0 (leaf ++ randomizer) = withAt-behind o 0 leaf (omega arith) first randomizer second in
     let third : s3 ≡ withAt s2 (0 + length (leaf ++ randomizer)) values = rw (both-long, values-long) e3 in
-    written-behind o 0 (leaf ++ randomizer) (omega arith) both values third ∙ ap (λ k. leaf ++ randomizer ++ values ++ drop k o) all-long
+    withAt-behind o 0 (leaf ++ randomizer) (omega arith) both values third ∙ ap (λ k. leaf ++ randomizer ++ values ++ drop k o) all-long
 
 -- a byte that stands as hex
 module _ (sheet : List ℕ) (at b : ℕ) (more : List ℕ) (small : b < 256) (e : drop at sheet ≡ hexDigit (b / 16) ∷ hexDigit (b % 16) ∷ more) where

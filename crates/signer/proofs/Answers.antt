@@ -16,7 +16,7 @@ use Rattle.profile.specs.Checks.{InLimits}
 use Rattle.counts.specs.Counts.{count}
 use Rattle.counts.specs.Table.{tableCauses}
 use Rattle.codewords.specs.Operations.{Unranks}
-use Rattle.codewords.proofs.TableOperation.{Between, filled-table, early-passed, refused-early, refused-seven, passed-spread}
+use Rattle.codewords.proofs.TableOperation.{Between, filled-table, early-passed, refused-early, refused-seven, passed-unrank}
 use Rattle.tweak.specs.Tweak.{noLayer, noTree}
 use Rattle.chains.specs.Leaves.{revealed}
 use Rattle.one_time.specs.Operations.{revealedBy}
@@ -105,7 +105,7 @@ module _ (key : SigningKey) (r message work out : List ℕ) (o : Outcome)
     unfolding keyAfter outputAfter signatureOf revealedBy
     sign-granted s a way w =
         let passes =
-        passed-spread (key .profile) work (signOwn key (length message) (length out)) (sign-between key (length message) (length out)) o e n []
+        passed-unrank (key .profile) work (signOwn key (length message) (length out)) (sign-between key (length message) (length out)) o e n []
         (signNumber key r message work out) (sign-causes n same) q u long s in
         let shown = revealed-row (key .profile .shape) n (drop (key .profile .shape .chains) row) (passes .below) (key .seed) (key .secret) noLayer noTree (key .next) in
         record {

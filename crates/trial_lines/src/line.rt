@@ -1,8 +1,9 @@
 // A line of text, collected before it is written.
 ghost use mathlib.Core.Path.{_≡_};
-ghost use Prim.Native.Nat.{_+_, _<_, _≤_};
+ghost use Prim.Native.Nat.{_+_, _<_};
 ghost use lib.ListN.{set};
 use super::first;
+use hex::hex_digit;
 use profile::Shape;
 use refusal::Outcome;
 
@@ -10,14 +11,6 @@ use refusal::Outcome;
 pub struct Line {
     pub bytes: [u8; 320],
     pub length: usize,
-}
-
-// The digit of a number below 16, in upper case.
-fn hex_digit(n: u8) -> u8
-    requires { ⌜ n < 16 ⌝ }
-    ensures { λ r. ⌜ ((n < 10 → r ≡ 48 + n) × (10 ≤ n → r ≡ 55 + n)) ⌝ }
-{
-    if n < 10 { b'0' + n } else { b'A' + (n - 10) }
 }
 
 impl Line {

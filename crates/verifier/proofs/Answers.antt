@@ -20,7 +20,7 @@ use Rattle.counts.specs.Counts.{count}
 use Rattle.counts.specs.Table.{tableCauses}
 use Rattle.codewords.specs.Codeword.{stepsLeft}
 use Rattle.codewords.specs.Operations.{Unranks}
-use Rattle.codewords.proofs.TableOperation.{Between, Passes, filled-table, early-passed, refused-early, refused-seven, passed-spread}
+use Rattle.codewords.proofs.TableOperation.{Between, Passes, filled-table, early-passed, refused-early, refused-seven, passed-unrank}
 use Rattle.tweak.specs.Tweak.{noLayer, noTree}
 use Rattle.chains.specs.Leaves.{recovered}
 use Rattle.one_time.specs.Operations.{recoveredBy, stepsOf}
@@ -118,9 +118,9 @@ module _ (v : Verifier) (message signature work : List ℕ) (o : Outcome)
         (recovered (v .seed) noLayer noTree (v .profile .shape .width) (v .profile .shape .chains) leaf row′ (valuesIn signature))
         (siblingsIn (v .profile) signature) (v .profile .height))
         (made : steps ≡ stepsLeft (v .profile .shape .width) (take (v .profile .shape .chains) row′)) where
-      spread : Passes (verifyNumber v message signature work) (v .profile .shape) n differs work row work′ row′
-      spread =
-          passed-spread (v .profile) work (verifyOwn v (length message) signature) (verify-between v (length message) signature) o e n differs
+      unranked : Passes (verifyNumber v message signature work) (v .profile .shape) n differs work row work′ row′
+      unranked =
+          passed-unrank (v .profile) work (verifyOwn v (length message) signature) (verify-between v (length message) signature) o e n differs
           (verifyNumber v message signature work) (verify-causes n e-n) q u long s
 
       top-recovered : top ≡ recoveredRoot v message signature
@@ -128,15 +128,15 @@ module _ (v : Verifier) (message signature work : List ℕ) (o : Outcome)
       top-recovered =
           climb
           ∙ rw
-          (e-leaf, spread .placed, recovered-row (v .profile .shape) n (drop (v .profile .shape .chains) row) (spread .below) (v .seed) (valuesIn signature) noLayer noTree (leafIn signature), e-n)
+          (e-leaf, unranked .placed, recovered-row (v .profile .shape) n (drop (v .profile .shape .chains) row) (unranked .below) (v .seed) (valuesIn signature) noLayer noTree (leafIn signature), e-n)
 
       steps-full : steps ≡ stepsOf (v .profile .shape) (numberIn v message signature)
       unfolding stepsOf
-      steps-full = made ∙ rw (spread .placed, steps-row (v .profile .shape) n (drop (v .profile .shape .chains) row) (spread .below), e-n)
+      steps-full = made ∙ rw (unranked .placed, steps-row (v .profile .shape) n (drop (v .profile .shape .chains) row) (unranked .below), e-n)
 
       -- 15 or granted, as the comparison of the roots answers
       compared : (b : Bool) → b ≡ same top (v .root) → verifyNumber v message signature work ≡ firstCause ((not b, 15) ∷ [])
-      compared b c = spread .left ∙ rw (c, top-recovered)
+      compared b c = unranked .left ∙ rw (c, top-recovered)
 
       pub verify-differs : {b : Bool} → b ≡ same top (v .root) → b ≡ false
           → Verifies v message signature work work′ (record { outcome = Refused RootDiffers; verifier = v; steps = steps })
@@ -147,7 +147,7 @@ module _ (v : Verifier) (message signature work : List ℕ) (o : Outcome)
             number = sym fifteen;
             verifier = rw fifteen;
             steps = rw fifteen steps-full;
-            table = filled-table (v .profile .shape) work 15 fifteen refl (spread .filled);
+            table = filled-table (v .profile .shape) work 15 fifteen refl (unranked .filled);
           }
 
       pub verify-granted : {b : Bool} {after : Verifier} → b ≡ same top (v .root) → b ≡ true → after ≡ taken v leaf
@@ -159,5 +159,5 @@ module _ (v : Verifier) (message signature work : List ℕ) (o : Outcome)
             number = ap outcomeCode s ∙ sym zero;
             verifier = rw zero (a ∙ ap (taken v) e-leaf);
             steps = rw zero steps-full;
-            table = filled-table (v .profile .shape) work 0 zero refl (spread .filled);
+            table = filled-table (v .profile .shape) work 0 zero refl (unranked .filled);
           }

@@ -1,20 +1,21 @@
--- `hex::read_line` meets its contract. The invariant: the first i bytes stand in front of the line from behind them on.
+-- `hex::read_line` meets its contract. The invariant: the first i bytes stand in front of the line from behind them on, and in front of what is read there.
 use mathlib.Core.Path.{_≡_, refl, sym, _∙_}
-use mathlib.Core.Bool.{true, false}
+use mathlib.Core.Bool.{false}
+use mathlib.Core.List.{_++_}
 use Prim.Native.Nat.{_+_, _-_, _*_, _≤_}
 use native.Mathlib.Omega.{arith}
 use borrow.Author.Needs.{needs}
 use denote.Ref.{now}
 use lib.ListN.{length, getD, take, drop, length-set}
 use lib.Seq.{length-take-le}
-use Rattle.hex.specs.Digits.{hasBytes}
+use Rattle.hex.specs.Digits.{readInto, ReadsLine}
 use Rattle.hex.specs.Hex.{lineEnd, readLine}
-use Rattle.hex.proofs.Reading.{past-end, ahead, short-line, long-line, read-begins, read-next, read-all, byte-room, answer-no, answer-yes}
+use Rattle.hex.proofs.Reading.{past-end, ahead, short-line, long-line, read-begins, read-next, read-all, into-begins, into-next, into-wrong, into-all, byte-room, answer-no, answer-yes}
 use Rattle.hex.proofs.read_line.Statement.{statement}
 use Rattle.hex.proofs.read_line.Tie as tie
 
 abbrev Inv-loop : tie.InvT-loop
-Inv-loop chars at bytes₀ i₀ bytes i = (i ≤ length bytes) × (at + 2 * i ≤ length chars) × (length bytes ≡ length bytes₀) × (readLine (drop at chars) ≡ ahead (take i bytes) (readLine (drop (at + 2 * i) chars)))
+Inv-loop chars at bytes₀ i₀ bytes i = (i ≤ length bytes) × (at + 2 * i ≤ length chars) × (length bytes ≡ length bytes₀) × (readLine (drop at chars) ≡ ahead (take i bytes) (readLine (drop (at + 2 * i) chars))) × (readInto chars at bytes₀ ≡ take i bytes ++ readInto chars (at + 2 * i) (drop i bytes))
 
 abbrev μ-loop : tie.MeasureT-loop
 μ-loop chars at bytes₀ i₀ bytes i = length bytes - i
@@ -26,18 +27,23 @@ start q = q .before .before .before
 read-long : (q : tie.At-loop Inv-loop μ-loop) → length (take (q .loop .i) (q .loop .bytes)) ≡ q .loop .i
 read-long q = length-take-le (q .loop .i) (q .loop .bytes) (q .loop .inv .0)
 
+-- all bytes have been read
+all-read : (q : tie.At-loop Inv-loop μ-loop) → length (q .loop .bytes) ≤ q .loop .i
+    → q .loop .bytes ≡ readInto (now (start q .args .chars)) (start q .args .at) (now (start q .args .bytes))
+all-read q all = into-all (now (start q .args .chars)) (start q .args .at) (q .loop .bytes) (q .loop .i) (q .loop .inv .4) all
+
 -- all bytes have been read, and no ending stands behind them
-not-ended : (q : tie.At-loop Inv-loop μ-loop) {B : Type 0} → length (q .loop .bytes) ≤ q .loop .i
+not-ended : (q : tie.At-loop Inv-loop μ-loop) → length (q .loop .bytes) ≤ q .loop .i
     → (getD (now (start q .args .chars)) (start q .args .at + 2 * q .loop .i) 0 ≡ lineEnd → ⊥)
-    → (false ≡ hasBytes (length (now (start q .args .bytes))) (readLine (drop (start q .args .at) (now (start q .args .chars))))) × (false ≡ true → B)
+    → ReadsLine (now (start q .args .chars)) (start q .args .at) (now (start q .args .bytes)) (q .loop .bytes) false
 not-ended q all other =
-    answer-no _ (q .loop .inv .3)
+    answer-no _ _ _ (all-read q all) (q .loop .inv .3)
     (long-line (take (q .loop .i) (q .loop .bytes)) _ (now (start q .args .chars)) (start q .args .at + 2 * q .loop .i) (omega (arith, read-long q)) other)
 
 loop-holds : tie.Need-loop-holds Inv-loop μ-loop
 loop-holds c =
     let args = c .before .before .args in
-    (omega arith, omega arith, refl, read-begins (now (args .chars)) (args .at) (now (args .bytes)))
+    (omega arith, omega arith, refl, read-begins (now (args .chars)) (args .at) (now (args .bytes)), into-begins (now (args .chars)) (args .at) (now (args .bytes)))
 
 mul-byte-at : tie.Need-mul-byte-at Inv-loop μ-loop
 mul-byte-at c = search needs
@@ -61,7 +67,9 @@ returns : tie.Need-returns Inv-loop μ-loop
 returns c =
     let called = c .before .before in
     let q = called .before .before in
-    answer-no _ (q .loop .inv .3) (short-line _ _ _ _ (omega (arith, read-long q)) (sym (called .byte-at .ensures) ∙ c .enum-told .given .1))
+    let none = sym (called .byte-at .ensures) ∙ c .enum-told .given .1 in
+    answer-no _ _ _ (into-wrong _ _ (q .loop .bytes) (q .loop .i) (q .loop .inv .4) none) (q .loop .inv .3)
+    (short-line _ _ _ _ (omega (arith, read-long q)) none)
 
 slice-write-bytes : tie.Need-slice-write-bytes Inv-loop μ-loop
 slice-write-bytes c = search needs
@@ -78,7 +86,7 @@ loop-again c =
     let q = called .before .before in
     let args = start q .args in
     let byte = sym (called .byte-at .ensures) ∙ c .before .b .given .1 in
-    (simp length-set (omega arith), omega (arith, byte-room (now (args .chars)) (args .at + 2 * q .loop .i) byte), simp length-set (q .loop .inv .2), read-next (now (args .chars)) (args .at) (q .loop .bytes) (q .loop .i) (omega arith) byte (q .loop .inv .3))
+    (simp length-set (omega arith), omega (arith, byte-room (now (args .chars)) (args .at + 2 * q .loop .i) byte), simp length-set (q .loop .inv .2), read-next (now (args .chars)) (args .at) (q .loop .bytes) (q .loop .i) (omega arith) byte (q .loop .inv .3), into-next (now (args .chars)) (args .at) (q .loop .bytes) (q .loop .i) (q .loop .inv .4) (omega arith) byte)
 
 mul-end : tie.Need-mul-end Inv-loop μ-loop
 mul-end c = search needs
@@ -108,7 +116,8 @@ returns-4 : tie.Need-returns-4 Inv-loop μ-loop
 returns-4 c =
     let ended = c .before .before .before in
     let loop = ended .before .loop in
-    answer-yes (loop .inv .2) (read-all _ _ (loop .bytes) (loop .i) (loop .inv .0) (ended .loop-test .left) (loop .inv .2) (c .if2 .left) (loop .inv .3))
+    answer-yes _ _ _ (all-read (ended .before) (ended .loop-test .left)) (loop .inv .2)
+    (read-all _ _ (loop .bytes) (loop .i) (loop .inv .0) (ended .loop-test .left) (loop .inv .2) (c .if2 .left) (loop .inv .3))
 
 pub read-line-spec : {M : Type 1} → statement M
 read-line-spec =

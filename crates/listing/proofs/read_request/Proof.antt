@@ -20,7 +20,7 @@ read-line-requires c κs = search needs
 returns : tie.Need-returns
 returns c =
     let q = c .before .before in
-    sym (not-five (readLine (now (start q .args .input))) (sym (q .read-line .ensures .0) ∙ not-true _ (c .if1 .taken)))
+    sym (not-five (readLine (now (start q .args .input))) (sym (q .read-line .ensures .told) ∙ not-true _ (c .if1 .taken)))
 
 array-read-if2 : tie.Need-array-read-if2
 array-read-if2 c = search needs
@@ -28,7 +28,7 @@ array-read-if2 c = search needs
 returns-2 : tie.Need-returns-2
 returns-2 c =
     let q = c .before .before .before in
-    sym (other-kind (q .read-line .last .1 .1 .0) (q .read-line .ensures .1 (not-false _ (c .before .if1 .left))) (c .if2 .taken) (q .read-line .kept .1 .1 .0))
+    sym (other-kind (q .read-line .last .1 .1 .0) (q .read-line .ensures .bytes (not-false _ (c .before .if1 .left))) (c .if2 .taken) (q .read-line .kept .1 .1 .0))
 
 array-read-shape-of : tie.Need-array-read-shape-of
 array-read-shape-of c = search needs
@@ -50,7 +50,7 @@ returns-3 c =
     let last = c .before in
     let q = last .before .before .before in
     let shape = c .shape-of .ensures in
-    sym (asked (q .read-line .last .1 .1 .0) (q .read-line .ensures .1 (not-false _ (last .before .if1 .left))) (c .shape-of .result) (last .if2 .left) (q .read-line .kept .1 .1 .0) (shape .0) (shape .1) (shape .2))
+    sym (asked (q .read-line .last .1 .1 .0) (q .read-line .ensures .bytes (not-false _ (last .before .if1 .left))) (c .shape-of .result) (last .if2 .left) (q .read-line .kept .1 .1 .0) (shape .0) (shape .1) (shape .2))
 
 pub read-request-spec : {M : Type 1} → statement M
 read-request-spec =

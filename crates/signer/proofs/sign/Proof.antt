@@ -94,14 +94,14 @@ same-length-3 c = search needs
 returns-3 : tie.Need-returns-3
 returns-3 c =
     let written = c .before .before in
-    let spread = written .before .before .before in
-    let unranked = spread .before .before .before .before .before in
+    let told = written .before .before .before in
+    let unranked = told .before .before .before .before .before in
     let numbered = unranked .before .before .before in
     let way = numbered .before .before in
     let g = granted numbered in
     let a = start g .args in
     sign-granted (a .key) (a .r) (now (a .message)) (now (a .table)) (now (a .signature)) _ (g .before .before .sign-outcome .ensures) (g .enum-told2 .given .1)
-    (number numbered) (unranked .unrank .ensures) refl (spread .enum-told4 .given .1) (way .before .advance .ensures) (way .way-up .ensures .0) (written .write-signature .ensures)
+    (number numbered) (unranked .unrank .ensures) refl (told .enum-told4 .given .1) (way .before .advance .ensures) (way .way-up .ensures .0) (written .write-signature .ensures)
 
 pub sign-spec : {M : Type 1} → statement M
 sign-spec =

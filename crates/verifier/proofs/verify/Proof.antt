@@ -45,17 +45,17 @@ enum-told-4 c = search needs
 abbrev way : tie.After-unrank → tie.After-enum-told2
 way c = c .before .before .before .before .before .before
 
-abbrev spread : tie.After-enum-told4 → tie.After-unrank
-spread c = c .before .before .before .before .before
+abbrev unranked : tie.After-enum-told4 → tie.After-unrank
+unranked c = c .before .before .before .before .before
 
 leaf-in-requires : tie.Need-leaf-in-requires
-leaf-in-requires c κs = omega (arith, fits (way (spread c)) .front)
+leaf-in-requires c κs = omega (arith, fits (way (unranked c)) .front)
 
 take-leaf-requires : tie.Need-take-leaf-requires
-take-leaf-requires c κs = omega (arith, fits (way (spread (c .before))) .small, c .leaf-in .ensures)
+take-leaf-requires c κs = omega (arith, fits (way (unranked (c .before))) .small, c .leaf-in .ensures)
 
 recover-root-requires : tie.Need-recover-root-requires
-recover-root-requires c κs = let h = fits (way (spread (c .before .before))) in (h .limits, h .low, h .long)
+recover-root-requires c κs = let h = fits (way (unranked (c .before .before))) in (h .limits, h .low, h .long)
 
 same-root-requires : tie.Need-same-root-requires
 same-root-requires c κs = search needs
@@ -86,7 +86,7 @@ returns-3 c =
     let advanced = found .before in
     let leafed = advanced .before in
     let told = leafed .before in
-    let placed = spread told in
+    let placed = unranked told in
     let g = way placed in
     let a = start g .args in
     verify-granted (a .v) (now (a .message)) (now (a .signature)) (now (a .table)) _ (g .before .before .verify-outcome .ensures) (g .enum-told2 .given .1) (placed .before .before .before .number-in .ensures) (placed .unrank .ensures) refl (told .enum-told4 .given .1) (leafed .leaf-in .ensures) (found .recover-root .ensures .0) (found .recover-root .ensures .1) (compared .same-root .ensures) (c .if1 .taken) (advanced .take-leaf .ensures)
@@ -100,7 +100,7 @@ returns-4 c =
     let found = compared .before .before .before in
     let leafed = found .before .before in
     let told = leafed .before in
-    let placed = spread told in
+    let placed = unranked told in
     let g = way placed in
     let a = start g .args in
     verify-differs (a .v) (now (a .message)) (now (a .signature)) (now (a .table)) _ (g .before .before .verify-outcome .ensures) (g .enum-told2 .given .1) (placed .before .before .before .number-in .ensures) (placed .unrank .ensures) refl (told .enum-told4 .given .1) (leafed .leaf-in .ensures) (found .recover-root .ensures .0) (found .recover-root .ensures .1) (compared .same-root .ensures) (c .if1 .left)
