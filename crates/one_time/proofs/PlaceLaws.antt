@@ -11,12 +11,12 @@ use Rattle.refusal.specs.Code.{outcomeCode, firstCause}
 use Rattle.refusal.specs.declared.Refusal.{Refusal}
 use Rattle.refusal.specs.declared.Outcome.{Outcome}
 use Rattle.refusal.specs.declared.Outcome.the-variants.{Granted, Refused}
-use Rattle.refusal.proofs.Causes.{none-here, granted-then}
+use Rattle.refusal.proofs.Causes.{none-here, granted-then, refused-number}
 use Rattle.profile.specs.declared.Profile.{Profile}
 use Rattle.counts.specs.Counts.{count}
 use Rattle.counts.specs.Table.{tableCauses}
 use Rattle.counts.proofs.Room.{table-numbered}
-use Rattle.codewords.specs.Operations.{Unranks}
+use Rattle.codewords.specs.Operations.{unrankNumber, Unranks}
 use Rattle.codewords.proofs.TableOperation.{Between, Refuses, filled-table, early-passed, refused-early, refused-seven, passed-unrank}
 use Rattle.one_time.specs.Placing.{placeNumber, Places}
 
@@ -48,11 +48,11 @@ own-between p leaf wrong known =
       not-fifteen = (size-not 15 known refl refl, (refl, tt));
     }
 
--- refused, whatever the row
-refused-places : (p : Profile) (leaf n : ℕ) (wrong : Bool) (size : ℕ) {work row work′ row′ : List ℕ} {r : Outcome} {x : Refusal} → r ≡ Refused x
+-- refused, with the row as it was
+refused-places : (p : Profile) (leaf n : ℕ) (wrong : Bool) (size : ℕ) {work row work′ row′ : List ℕ} {r : Outcome} {x : Refusal} → r ≡ Refused x → row′ ≡ row
     → Refuses (placeNumber p leaf n wrong size work) (p .shape) work work′ r → Places p leaf n wrong size work row work′ row′ r
-refused-places p leaf n wrong size q refused =
-    record { number = refused .answer; table = refused .table; granted = λ g. let z : _≡_ {A = ℕ} 0 1 = cc in absurd (omega arith) }
+refused-places p leaf n wrong size q kept refused =
+    record { number = refused .answer; table = refused .table; granted = λ g. let z : _≡_ {A = ℕ} 0 1 = cc in absurd (omega arith); refused = λ _ _. kept }
 
 module _ (p : Profile) (leaf n : ℕ) (wrong : Bool) {size : ℕ} (known : (size ≡ 6) ⊎ (size ≡ 13)) (work : List ℕ) (o : Outcome) (e : outcomeCode o ≡ firstCause (tableCauses p (length work) ++ ownCauses p leaf wrong size)) where
   causes : placeNumber p leaf n wrong size work ≡ firstCause (tableCauses p (length work) ++ (ownCauses p leaf wrong size ++ ((leb (count (p .shape)) n, 7) ∷ [])))
@@ -62,7 +62,7 @@ module _ (p : Profile) (leaf n : ℕ) (wrong : Bool) {size : ℕ} (known : (size
   -- refused before the table is filled
   pub place-refused : (row : List ℕ) (x : Refusal) → o ≡ Refused x → Places p leaf n wrong size work row work row o
   place-refused row x q =
-      refused-places p leaf n wrong size q
+      refused-places p leaf n wrong size q refl
       (refused-early p work (ownCauses p leaf wrong size) (own-between p leaf wrong known) o e n [] (placeNumber p leaf n wrong size work) causes x q)
 
   -- granted so far, and Spread with a row of 40 bytes
@@ -79,7 +79,8 @@ module _ (p : Profile) (leaf n : ℕ) (wrong : Bool) {size : ℕ} (known : (size
             number = ap outcomeCode s ∙ sym (passes .left);
             table = filled-table (p .shape) work 0 (passes .left) refl (passes .filled);
             granted = λ _. record { limits = passed .0 .limits; sized = sized .0; below = passes .below; placed = passes .placed };
+            refused = λ x t. let z : _≡_ {A = ℕ} 0 1 = cc in absurd (omega arith);
           }
       by (Refused x) s =
-          refused-places p leaf n wrong size s
+          refused-places p leaf n wrong size s (u .written ∙ rw (refused-number r (unrankNumber (p .shape) n work row) x (u .number) s))
           (refused-seven p work (ownCauses p leaf wrong size) (own-between p leaf wrong known) o e n [] (placeNumber p leaf n wrong size work) causes q u long x s)

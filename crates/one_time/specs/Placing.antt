@@ -6,8 +6,9 @@ use Prim.Native.Nat.{ℕ, _^_, _<_}
 use lib.Dec.{leb}
 use lib.ListN.{length, drop}
 use Rattle.refusal.specs.Code.{outcomeCode, firstCause}
+use Rattle.refusal.specs.declared.Refusal.{Refusal}
 use Rattle.refusal.specs.declared.Outcome.{Outcome}
-use Rattle.refusal.specs.declared.Outcome.the-variants.{Granted}
+use Rattle.refusal.specs.declared.Outcome.the-variants.{Granted, Refused}
 use Rattle.profile.specs.Checks.{InLimits}
 use Rattle.profile.specs.declared.Profile.{Profile}
 use Rattle.counts.specs.Counts.{count}
@@ -32,3 +33,4 @@ pub record Places (p : Profile) (leaf n : ℕ) (wrong : Bool) (size : ℕ) (work
   pub number : outcomeCode r ≡ placeNumber p leaf n wrong size work
   pub table : work′ ≡ tableAfter (placeNumber p leaf n wrong size work) (p .shape) work
   pub granted : r ≡ Granted → Placed p n wrong row row′
+  pub refused : (x : Refusal) → r ≡ Refused x → row′ ≡ row
