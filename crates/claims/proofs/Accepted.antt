@@ -20,7 +20,7 @@ use Rattle.tree.specs.Tree.{rootOf}
 use Rattle.message.specs.Message.{signatureLength}
 use Rattle.signer.specs.Signing.{advanced, keyNumber}
 use Rattle.signer.specs.declared.SigningKey.{SigningKey}
-use Rattle.verifier.specs.Verifying.{passed, taken, leafIn, numberIn, recoveredRoot, causesBeforeRoot, verifyNumber, verifierAfter, stepsMade}
+use Rattle.verifier.specs.Verifying.{passed, taken, leafIn, numberIn, recoveredRoot, causesBeforeRoot, verifyCode, verifierAfter, stepsMade}
 use Rattle.verifier.specs.declared.Verifier.{Verifier}
 use Rattle.claims.specs.Orders.{Issued}
 use Rattle.claims.proofs.OneTimeProved.{climbs-to-root}
@@ -47,7 +47,7 @@ table-none p words none long =
 
 -- what a check of it answers
 pub record MadeAccepted (key : SigningKey) (low : ℕ) (one : Issued) (work : List ℕ) : Type 0 where
-  pub accepted : verifyNumber (cabinet key low) (one .message) (one .signature) work ≡ 0
+  pub accepted : verifyCode (cabinet key low) (one .message) (one .signature) work ≡ 0
   pub steps : stepsMade (cabinet key low) (one .message) (one .signature) work ≡ key .profile .shape .chains * (key .profile .shape .width - 1) - key .profile .shape .sum
   pub after : verifierAfter (cabinet key low) (one .message) (one .signature) work ≡ cabinet (advanced key) (key .next + 1)
 

@@ -15,7 +15,7 @@ use Rattle.counts.specs.Counts.{count}
 use Rattle.counts.specs.Table.{tableLength, tableCauses}
 use Rattle.counts.proofs.Room.{table-numbered}
 use Rattle.message.specs.Message.{outsideText, signatureLength}
-use Rattle.signer.specs.Signing.{spent, advanced, keyNumber, signatureOf, signNumber, keyAfter, outputAfter}
+use Rattle.signer.specs.Signing.{spent, advanced, keyNumber, signatureOf, signCode, keyAfter, outputAfter}
 use Rattle.signer.specs.declared.SigningKey.{SigningKey}
 use Rattle.signer.proofs.SignatureLaws.{length-signature}
 use Rattle.claims.specs.Orders.{IssueCall, Issued, issuedBy, issued}
@@ -27,8 +27,8 @@ pub record Signable (key : SigningKey) (r message : List ℕ) : Type 0 where
   pub left : key .next < 2 ^ key .profile .height
   pub below : keyNumber key r message < count (key .profile .shape)
 
-signable : (key : SigningKey) (r message work out : List ℕ) → signNumber key r message work out ≡ 0 → Signable key r message
-unfolding signNumber tableCauses spent
+signable : (key : SigningKey) (r message work out : List ℕ) → signCode key r message work out ≡ 0 → Signable key r message
+unfolding signCode tableCauses spent
 signable key r message work out e =
     let p = key .profile in
     let number : List (Bool × ℕ) = (leb (count (p .shape)) (keyNumber key r message), 7) ∷ [] in
@@ -60,7 +60,7 @@ AllMade key (one ∷ more) = Made key one × AllMade (advanced key) more
 
 module _ (key : SigningKey) (c : IssueCall) where
   abbrev granted : Bool
-  granted = eqb (signNumber key (c .r) (c .message) (c .work) (c .out)) 0
+  granted = eqb (signCode key (c .r) (c .message) (c .work) (c .out)) 0
 
   abbrev one : Issued
   one =

@@ -10,7 +10,7 @@ use Rattle.profile.specs.declared.Profile.{Profile}
 use Rattle.message.specs.Message.{signatureLength}
 use Rattle.signer.specs.Signing.{freshKey, advanced}
 use Rattle.signer.specs.declared.SigningKey.{SigningKey}
-use Rattle.verifier.specs.Verifying.{verifyNumber, verifierAfter}
+use Rattle.verifier.specs.Verifying.{verifyCode, verifierAfter}
 use Rattle.verifier.specs.declared.Verifier.{Verifier}
 use Rattle.claims.specs.Orders.{IssueCall, Issued, issued, leaves, NoLeafTwice, Check, AllAccepted, OrdersHold, GateFigures}
 use Rattle.claims.specs.Orders.Check.{next, other}
@@ -30,9 +30,9 @@ no-leaf-twice key calls i j less within same =
     omega (arith, rise i (omega arith), rise j within)
 
 -- a refused check leaves the cabinet as it was
-stays : (v : Verifier) (message signature work : List ℕ) → (verifyNumber v message signature work ≡ 0 → ⊥) → verifierAfter v message signature work ≡ v
+stays : (v : Verifier) (message signature work : List ℕ) → (verifyCode v message signature work ≡ 0 → ⊥) → verifierAfter v message signature work ≡ v
 unfolding verifierAfter
-stays v message signature work refused = rw (ne-eqb (verifyNumber v message signature work) 0 refused)
+stays v message signature work refused = rw (ne-eqb (verifyCode v message signature work) 0 refused)
 
 all-accepted : (checks : List Check) (key : SigningKey) (low : ℕ) (all : List Issued) → low ≤ key .next → AllMade key all
     → AllAccepted (key .profile .shape) (cabinet key low) all checks

@@ -8,9 +8,9 @@ use Rattle.refusal.proofs.Causes.{none-then}
 use Rattle.profile.specs.Checks.{InLimits}
 use Rattle.profile.specs.declared.Shape.{Shape}
 use Rattle.counts.specs.Counts.{D, count}
-use Rattle.counts.specs.Table.{countCauses, countNumber}
+use Rattle.counts.specs.Table.{countCauses, countCode}
 use Rattle.counts.proofs.Room.{count-numbered}
-use Rattle.codewords.specs.Operations.{rowOf, rankNumber}
+use Rattle.codewords.specs.Operations.{rowOf, rankCode}
 use Rattle.codewords.proofs.CodewordLaws.{codeword-valid}
 use Rattle.codewords.proofs.RankLaws.{rowCauses, row-codeword, codeword-passes}
 use Rattle.codewords.proofs.OrderLaws.{incomparable, codeword-injective, complete, order}
@@ -31,7 +31,7 @@ unfolding count
 rows-ordered p limits m n = order (p .width) (p .chains) (p .sum) m n
 
 pub rank-exact : (p : Shape) → InLimits p → RankExact p
-unfolding count countNumber rankNumber
+unfolding count countCode rankCode
 rank-exact p limits work row none =
     let first = countCauses p (length work) in
     let then = none-then first (rowCauses p row) none (count-numbered p (length work)) in

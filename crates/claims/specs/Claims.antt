@@ -6,9 +6,9 @@ use Prim.Native.Nat.{ℕ, _<_, _≤_}
 use lib.ListN.{getD}
 use Rattle.profile.specs.declared.Shape.{Shape}
 use Rattle.counts.specs.Counts.{count}
-use Rattle.counts.specs.Table.{countNumber}
+use Rattle.counts.specs.Table.{countCode}
 use Rattle.codewords.specs.Codeword.{IsCodeword, Before}
-use Rattle.codewords.specs.Operations.{rowOf, rankNumber}
+use Rattle.codewords.specs.Operations.{rowOf, rankCode}
 
 -- "Under one profile, two message numbers below the count are equal exactly when no chain in the first one's signature stands
 -- higher than the same chain in the second's": a chain stands at the length that the number's row has at the chain's place
@@ -30,5 +30,5 @@ Ordered p = (m n : ℕ) → m < count p → n < count p → (m < n) ↔ Before (
 -- "So, past 5, refused exactly if no number has that row": Gather, where 1, 2, 3 and 5 refuse nothing
 abbrev pub RankExact : Shape → Type 0
 RankExact p =
-    (work row : List ℕ) → countNumber p work ≡ 0
-    → (rankNumber p work row ≡ 0) ↔ ((n : ℕ) × (n < count p) × (rowOf p n ≡ row))
+    (work row : List ℕ) → countCode p work ≡ 0
+    → (rankCode p work row ≡ 0) ↔ ((n : ℕ) × (n < count p) × (rowOf p n ≡ row))

@@ -12,9 +12,9 @@ use Rattle.profile.specs.declared.Profile.{Profile}
 use Rattle.counts.specs.Table.{tableLength}
 use Rattle.tree.specs.Tree.{rootOf}
 use Rattle.message.specs.Message.{signatureLength}
-use Rattle.signer.specs.Signing.{freshKey, signNumber, keyAfter, outputAfter}
+use Rattle.signer.specs.Signing.{freshKey, signCode, keyAfter, outputAfter}
 use Rattle.signer.specs.declared.SigningKey.{SigningKey}
-use Rattle.verifier.specs.Verifying.{freshVerifier, leafIn, recoveredRoot, causesBeforeRoot, verifyNumber, verifierAfter, stepsMade}
+use Rattle.verifier.specs.Verifying.{freshVerifier, leafIn, recoveredRoot, causesBeforeRoot, verifyCode, verifierAfter, stepsMade}
 use Rattle.verifier.specs.declared.Verifier.{Verifier}
 
 -- "A list holds any Issue calls, each with any R, text, work slice and output slice"
@@ -34,7 +34,7 @@ pub record Issued : Type 0 where
 -- "An issued signature is the first 20 + 16 × l + 16 × h output bytes of a granted call, as that call left them; its own text is that call's text"
 unfoldable pub issuedBy : SigningKey → IssueCall → List Issued
 issuedBy key c =
-    cond (eqb (signNumber key (c .r) (c .message) (c .work) (c .out)) 0)
+    cond (eqb (signCode key (c .r) (c .message) (c .work) (c .out)) 0)
     (record {
       signature = take (signatureLength (key .profile)) (outputAfter key (c .r) (c .message) (c .work) (c .out));
       message = c .message;
@@ -69,11 +69,11 @@ AllAccepted p v signatures [] = Unit {0}
 AllAccepted p v [] (next work ∷ checks) = AllAccepted p v [] checks
 AllAccepted p v (one ∷ signatures) (next work ∷ checks) =
     tableLength p ≤ length work
-    → (verifyNumber v (one .message) (one .signature) work ≡ 0)
+    → (verifyCode v (one .message) (one .signature) work ≡ 0)
     × (stepsMade v (one .message) (one .signature) work ≡ p .chains * (p .width - 1) - p .sum)
     × AllAccepted p (verifierAfter v (one .message) (one .signature) work) signatures checks
 AllAccepted p v signatures (other message signature work ∷ checks) =
-    (verifyNumber v message signature work ≡ 0 → ⊥) → AllAccepted p (verifierAfter v message signature work) signatures checks
+    (verifyCode v message signature work ≡ 0 → ⊥) → AllAccepted p (verifierAfter v message signature work) signatures checks
 
 -- what demand 3 says of a list: "by a cabinet that starts fresh with that key's profile, public seed and root"
 abbrev pub OrdersHold : Profile → (seed secret : List ℕ) → List IssueCall → Type 0
@@ -85,7 +85,7 @@ OrdersHold p seed secret calls =
 abbrev pub JudgedByRoot : Verifier → (message signature work : List ℕ) → Type 0
 JudgedByRoot v message signature work =
     firstCause (causesBeforeRoot v message signature work) ≡ 0
-    → (verifyNumber v message signature work ≡ 0) ↔ (recoveredRoot v message signature ≡ v .root)
+    → (verifyCode v message signature work ≡ 0) ↔ (recoveredRoot v message signature ≡ v .root)
 
 -- "The gate profile is l = 34, w = 16, s = 255, h = 10"
 abbrev pub gate : Profile

@@ -7,7 +7,7 @@ use Rattle.profile.specs.Checks.{shapeCauses}
 use Rattle.profile.specs.declared.Shape.{Shape}
 use Rattle.counts.specs.Counts.{count}
 use Rattle.codewords.specs.Codeword.{codeword, rank, stepsLeft}
-use Rattle.codewords.specs.Operations.{unrankNumber, rankNumber}
+use Rattle.codewords.specs.Operations.{unrankCode, rankCode}
 
 abbrev pub shape : (l w s : ℕ) → Shape
 shape l w s = record { chains = l; width = w; sum = s }
@@ -30,9 +30,9 @@ trials =
     ∷ record { given = codeword 3 3 3 3; said = 1 ∷ 1 ∷ 1 ∷ [] }
     ∷ record { given = codeword 3 3 3 6; said = 2 ∷ 1 ∷ 0 ∷ [] }
     ∷ record { given = rank 3 3 (2 ∷ 0 ∷ 1 ∷ []) ∷ []; said = 5 ∷ [] }
-    ∷ record { given = unrankNumber (shape 3 3 3) 7 work row3 ∷ []; said = 7 ∷ [] }
-    ∷ record { given = rankNumber (shape 3 3 3) work (1 ∷ 2 ∷ 1 ∷ []) ∷ []; said = 10 ∷ [] }
-    ∷ record { given = rankNumber (shape 3 3 3) work (3 ∷ 0 ∷ 0 ∷ []) ∷ []; said = 9 ∷ [] }
+    ∷ record { given = unrankCode (shape 3 3 3) 7 work row3 ∷ []; said = 7 ∷ [] }
+    ∷ record { given = rankCode (shape 3 3 3) work (1 ∷ 2 ∷ 1 ∷ []) ∷ []; said = 10 ∷ [] }
+    ∷ record { given = rankCode (shape 3 3 3) work (3 ∷ 0 ∷ 0 ∷ []) ∷ []; said = 9 ∷ [] }
     -- l = 1, w = 16, s = 15: one row, no step
     ∷ record { given = count (shape 1 16 15) ∷ []; said = 1 ∷ [] }
     ∷ record { given = codeword 16 1 15 0; said = 15 ∷ [] }

@@ -17,13 +17,13 @@ use Rattle.profile.specs.declared.Shape.{Shape}
 use Rattle.counts.specs.Counts.{count}
 use Rattle.counts.specs.Table.{withTable, countCauses}
 use Rattle.codewords.specs.Codeword.{codeword, IsCodeword}
-use Rattle.codewords.specs.Operations.{unrankNumber, Unranks}
+use Rattle.codewords.specs.Operations.{unrankCode, Unranks}
 use Rattle.codewords.proofs.CodewordLaws.{codeword-valid}
 use Rattle.codewords.proofs.UnrankAnswer.{unrank-last}
 
 module _ {p : Shape} {n : ℕ} {work row work′ row′ : List ℕ} {r : Outcome} (u : Unranks p n work row work′ row′ r)
     (none : firstCause (countCauses p (length work)) ≡ 0) (room : p .chains ≤ length row) where
-  last : unrankNumber p n work row ≡ firstCause ((leb (count p) n, 7) ∷ [])
+  last : unrankCode p n work row ≡ firstCause ((leb (count p) n, 7) ∷ [])
   last = unrank-last p n work row none room
 
   pub after-number : outcomeCode r ≡ firstCause ((leb (count p) n, 7) ∷ [])

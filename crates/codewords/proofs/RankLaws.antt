@@ -24,7 +24,7 @@ use Rattle.counts.proofs.CountLaws.{sumTo-cong, sumTo-mono, share-low, D-small}
 use Rattle.counts.proofs.Room.{count-numbered}
 use Rattle.counts.proofs.TableLaws.{length-rows, cell-of}
 use Rattle.codewords.specs.Codeword.{rank, total, IsCodeword}
-use Rattle.codewords.specs.Operations.{someAbove, rankNumber, Ranks}
+use Rattle.codewords.specs.Operations.{someAbove, rankCode, Ranks}
 use Rattle.codewords.proofs.CodewordLaws.{Front, front, rank-lt}
 
 -- the lengths from a place on, the first of them apart
@@ -207,7 +207,7 @@ module _ (p : Shape) (row : List ℕ) where
 -- what Gather answers, refused and granted
 module _ (p : Shape) (work row : List ℕ) (o : Outcome) (e : outcomeCode o ≡ firstCause (countCauses p (length work) ++ rowCauses p row)) where
   pub rank-refused : (r : Refusal) → o ≡ Refused r → Ranks p work row work (record { outcome = o; number = 0 ∷ 0 ∷ 0 ∷ 0 ∷ 0 ∷ [] })
-  unfolding rankNumber toWords
+  unfolding rankCode toWords
   rank-refused r q =
       let test = refused-number o (firstCause (countCauses p (length work) ++ rowCauses p row)) r e q in
       record { number = e; ranked = rw test; table = rw test }
@@ -220,7 +220,7 @@ module _ (p : Shape) (work row : List ℕ) (o : Outcome) (e : outcomeCode o ≡ 
 
   pub rank-granted : (left n : List ℕ) → o ≡ Granted → left ≡ rows (p .width) (p .sum) (p .chains + 1) ++ drop (5 * ((p .chains + 1) * (p .sum + 1))) work
       → n ≡ toWords 5 (rank (p .width) (p .sum) row) → Ranks p work row left (record { outcome = o; number = n })
-  unfolding rankNumber withTable tableLength
+  unfolding rankCode withTable tableLength
   rank-granted left n q filled ranked =
       let none = granted-none (countCauses p (length work) ++ rowCauses p row) [] o e q in
       record { number = e; ranked = rw none ranked; table = rw none filled }

@@ -19,16 +19,16 @@ abbrev pub rowOf : Shape → ℕ → List ℕ
 rowOf p n = codeword (p .width) (p .chains) (p .sum) n
 
 -- "Spread, number to row: 1, 2, 3, 5; 6 output under l bytes; 7 number not below the count"
-unfoldable pub unrankNumber : Shape → ℕ → (work row : List ℕ) → ℕ
-unrankNumber p n work row =
+unfoldable pub unrankCode : Shape → ℕ → (work row : List ℕ) → ℕ
+unrankCode p n work row =
     firstCause
     (countCauses p (length work) ++ ((ltb (length row) (p .chains), 6) ∷ (leb (count p) n, 7) ∷ []))
 
 -- what Spread answers and leaves: the table after a success and after 7, the row after a success, nothing else
 pub record Unranks (p : Shape) (n : ℕ) (work row work′ row′ : List ℕ) (r : Outcome) : Type 0 where
-  pub number : outcomeCode r ≡ unrankNumber p n work row
-  pub table : work′ ≡ cond (eqb (unrankNumber p n work row) 0 || eqb (unrankNumber p n work row) 7) (withTable p work) work
-  pub written : row′ ≡ cond (eqb (unrankNumber p n work row) 0) (codeword (p .width) (p .chains) (p .sum) n ++ drop (p .chains) row) row
+  pub number : outcomeCode r ≡ unrankCode p n work row
+  pub table : work′ ≡ cond (eqb (unrankCode p n work row) 0 || eqb (unrankCode p n work row) 7) (withTable p work) work
+  pub written : row′ ≡ cond (eqb (unrankCode p n work row) 0) (codeword (p .width) (p .chains) (p .sum) n ++ drop (p .chains) row) row
 
 -- "a length above w − 1"
 unfoldable pub someAbove : ℕ → List ℕ → Bool
@@ -36,14 +36,14 @@ someAbove w [] = false
 someAbove w (a ∷ row) = leb w a || someAbove w row
 
 -- "Gather, row to number: 1, 2, 3, 5; 8 the row hasn't l bytes; 9 a length above w − 1; 10 sum other than s"
-unfoldable pub rankNumber : Shape → (work row : List ℕ) → ℕ
-rankNumber p work row =
+unfoldable pub rankCode : Shape → (work row : List ℕ) → ℕ
+rankCode p work row =
     firstCause
     (countCauses p (length work)
     ++ ((not (eqb (length row) (p .chains)), 8) ∷ (someAbove (p .width) row, 9) ∷ (not (eqb (total row) (p .sum)), 10) ∷ []))
 
 -- what Gather answers and leaves; refused, the number is zero
 pub record Ranks (p : Shape) (work row work′ : List ℕ) (r : Ranked) : Type 0 where
-  pub number : outcomeCode (r .outcome) ≡ rankNumber p work row
-  pub ranked : r .number ≡ toWords 5 (cond (eqb (rankNumber p work row) 0) (rank (p .width) (p .sum) row) 0)
-  pub table : work′ ≡ cond (eqb (rankNumber p work row) 0) (withTable p work) work
+  pub number : outcomeCode (r .outcome) ≡ rankCode p work row
+  pub ranked : r .number ≡ toWords 5 (cond (eqb (rankCode p work row) 0) (rank (p .width) (p .sum) row) 0)
+  pub table : work′ ≡ cond (eqb (rankCode p work row) 0) (withTable p work) work

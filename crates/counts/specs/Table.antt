@@ -39,14 +39,14 @@ countCauses p words = shapeCauses p ++ ((ltb words (tableLength p), 5) ∷ [])
 unfoldable pub tableCauses : Profile → (words : ℕ) → List (Bool × ℕ)
 tableCauses p words = profileCauses p ++ ((ltb words (tableLength (p .shape)), 5) ∷ [])
 
-unfoldable pub countNumber : Shape → List ℕ → ℕ
-countNumber p work = firstCause (countCauses p (length work))
+unfoldable pub countCode : Shape → List ℕ → ℕ
+countCode p work = firstCause (countCauses p (length work))
 
 -- "Count fills the work slice and gives the count"; refused, it gives zero and leaves the slice
 pub record Counts (p : Shape) (work left : List ℕ) (r : Counted) : Type 0 where
-  pub number : outcomeCode (r .outcome) ≡ countNumber p work
-  pub counted : r .count ≡ toWords 5 (cond (eqb (countNumber p work) 0) (count p) 0)
-  pub table : left ≡ cond (eqb (countNumber p work) 0) (withTable p work) work
+  pub number : outcomeCode (r .outcome) ≡ countCode p work
+  pub counted : r .count ≡ toWords 5 (cond (eqb (countCode p work) 0) (count p) 0)
+  pub table : left ≡ cond (eqb (countCode p work) 0) (withTable p work) work
 
 -- "Every refusal leaves all lent slices untouched, except that 7 and 15 leave the table in the work slice, as every success with a work slice does"
 unfoldable pub tableAfter : (number : ℕ) → Shape → (work : List ℕ) → List ℕ

@@ -9,7 +9,7 @@ use Rattle.profile.specs.Checks.{shapeCauses}
 use Rattle.counts.specs.Counts.{sumTo, share, D, count}
 use Rattle.counts.specs.Table.{tableLength, countCauses}
 use Rattle.codewords.specs.Codeword.{place, codeword}
-use Rattle.listing.specs.Listing.{requestOf, requestIn, rowLine, rowLines, tableWords, listingNumber, answerTo, listingOf}
+use Rattle.listing.specs.Listing.{requestOf, requestIn, rowLine, rowLines, tableWords, listingCode, answerTo, listingOf}
 
 -- the characters 1003030003 and the ending
 abbrev input : List ℕ
@@ -26,5 +26,5 @@ printed =
     ++ lineOf (17 ∷ 0 ∷ 6 ∷ 2 ∷ 1 ∷ 0 ∷ [])
 
 pub example : listingOf input ≡ printed
-unfolding fromBytes toBytes joinTo hexDigit hexOf lineOf digitOf behind readLine shapeCauses sumTo share D count tableLength countCauses place codeword requestOf requestIn rowLine rowLines tableWords listingNumber answerTo listingOf
+unfolding fromBytes toBytes joinTo hexDigit hexOf lineOf digitOf behind readLine shapeCauses sumTo share D count tableLength countCauses place codeword requestOf requestIn rowLine rowLines tableWords listingCode answerTo listingOf
 example = refl

@@ -13,7 +13,7 @@ use Rattle.hex.proofs.HexLaws.{hex-low, hex-high}
 use Rattle.profile.specs.declared.Shape.{Shape}
 use Rattle.counts.specs.Counts.{count}
 use Rattle.codewords.specs.Operations.{rowOf}
-use Rattle.listing.specs.Listing.{requestIn, rowLine, rowLines, listingNumber, answerTo, listingOf}
+use Rattle.listing.specs.Listing.{requestIn, rowLine, rowLines, listingCode, answerTo, listingOf}
 use Rattle.listing.specs.declared.Request.the-variants.{Asked}
 use Rattle.listing.proofs.Requests.{listing-is}
 
@@ -56,6 +56,6 @@ count-rows p zero = refl
 count-rows p (suc n) = count-append (joinTo (rowLine p) n) (rowLine p n) ∙ omega (arith, count-rows p n, count-row p n)
 
 -- a shape that is granted has as many lines as numbers, up to the first 256
-pub lines-printed : (input : List ℕ) (p : Shape) → requestIn (readLine input) ≡ Asked p → listingNumber p ≡ 0 → lineCount (listingOf input) ≡ min (count p) 256
+pub lines-printed : (input : List ℕ) (p : Shape) → requestIn (readLine input) ≡ Asked p → listingCode p ≡ 0 → lineCount (listingOf input) ≡ min (count p) 256
 unfolding answerTo rowLines
 lines-printed input p asked granted = rw (listing-is input refl asked, granted) (count-rows p (min (count p) 256))

@@ -23,7 +23,7 @@ use Rattle.profile.specs.declared.Shape.{Shape}
 use Rattle.counts.specs.Counts.{count}
 use Rattle.counts.specs.Table.{countCauses}
 use Rattle.counts.proofs.Room.{count-numbered, count-limits}
-use Rattle.codewords.specs.Operations.{rowOf, unrankNumber, Unranks}
+use Rattle.codewords.specs.Operations.{rowOf, unrankCode, Unranks}
 use Rattle.codewords.proofs.CodewordLaws.{codeword-valid}
 use Rattle.listing.specs.Listing.{rowLine, rowLines}
 
@@ -55,8 +55,8 @@ unfolding rowLine
 line-long p n h = length-lineOf (17 ∷ toBytes 2 n ++ rowOf p n) ∙ rw (bytes-long p n h)
 
 -- Spread grants a number below the count, where Count grants the shape and the row has room
-granted : (p : Shape) (n : ℕ) (work row : List ℕ) → firstCause (countCauses p (length work)) ≡ 0 → p .chains ≤ length row → n < count p → unrankNumber p n work row ≡ 0
-unfolding unrankNumber
+granted : (p : Shape) (n : ℕ) (work row : List ℕ) → firstCause (countCauses p (length work)) ≡ 0 → p .chains ≤ length row → n < count p → unrankCode p n work row ≡ 0
+unfolding unrankCode
 granted p n work row none room below =
     none-then (countCauses p (length work)) ((ltb (length row) (p .chains), 6) ∷ (leb (count p) n, 7) ∷ []) none (count-numbered p (length work))
     ∙ rw (le-ltb (length row) (p .chains) room, lt-leb (count p) n below)

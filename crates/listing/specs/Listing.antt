@@ -44,13 +44,13 @@ unfoldable pub tableWords : ℕ
 tableWords = 16000
 
 -- the causes of Count
-unfoldable pub listingNumber : Shape → ℕ
-listingNumber p = firstCause (countCauses p tableWords)
+unfoldable pub listingCode : Shape → ℕ
+listingCode p = firstCause (countCauses p tableWords)
 
 -- "a malformed line prints 1F11"
 unfoldable pub answerTo : Request → List ℕ
 answerTo Malformed = refusalLine 17
-answerTo (Asked p) = cond (eqb (listingNumber p) 0) (rowLines p) (refusalLine (listingNumber p))
+answerTo (Asked p) = cond (eqb (listingCode p) 0) (rowLines p) (refusalLine (listingCode p))
 
 -- all that is printed
 unfoldable pub listingOf : (input : List ℕ) → List ℕ

@@ -16,9 +16,9 @@ use Rattle.profile.specs.declared.Profile.{Profile}
 use Rattle.counts.specs.Counts.{count}
 use Rattle.counts.specs.Table.{tableCauses}
 use Rattle.counts.proofs.Room.{table-numbered}
-use Rattle.codewords.specs.Operations.{unrankNumber, Unranks}
+use Rattle.codewords.specs.Operations.{unrankCode, Unranks}
 use Rattle.codewords.proofs.TableOperation.{Between, Refuses, filled-table, early-passed, refused-early, refused-seven, passed-unrank}
-use Rattle.one_time.specs.Placing.{placeNumber, Places}
+use Rattle.one_time.specs.Placing.{placeCode, Places}
 
 -- the causes between 5 and 7
 abbrev ownCauses : Profile → (leaf : ℕ) (wrong : Bool) (size : ℕ) → List (Bool × ℕ)
@@ -50,20 +50,20 @@ own-between p leaf wrong known =
 
 -- refused, with the row as it was
 refused-places : (p : Profile) (leaf n : ℕ) (wrong : Bool) (size : ℕ) {work row work′ row′ : List ℕ} {r : Outcome} {x : Refusal} → r ≡ Refused x → row′ ≡ row
-    → Refuses (placeNumber p leaf n wrong size work) (p .shape) work work′ r → Places p leaf n wrong size work row work′ row′ r
+    → Refuses (placeCode p leaf n wrong size work) (p .shape) work work′ r → Places p leaf n wrong size work row work′ row′ r
 refused-places p leaf n wrong size q kept refused =
     record { number = refused .answer; table = refused .table; granted = λ g. let z : _≡_ {A = ℕ} 0 1 = cc in absurd (omega arith); refused = λ _ _. kept }
 
 module _ (p : Profile) (leaf n : ℕ) (wrong : Bool) {size : ℕ} (known : (size ≡ 6) ⊎ (size ≡ 13)) (work : List ℕ) (o : Outcome) (e : outcomeCode o ≡ firstCause (tableCauses p (length work) ++ ownCauses p leaf wrong size)) where
-  causes : placeNumber p leaf n wrong size work ≡ firstCause (tableCauses p (length work) ++ (ownCauses p leaf wrong size ++ ((leb (count (p .shape)) n, 7) ∷ [])))
-  unfolding placeNumber
+  causes : placeCode p leaf n wrong size work ≡ firstCause (tableCauses p (length work) ++ (ownCauses p leaf wrong size ++ ((leb (count (p .shape)) n, 7) ∷ [])))
+  unfolding placeCode
   causes = refl
 
   -- refused before the table is filled
   pub place-refused : (row : List ℕ) (x : Refusal) → o ≡ Refused x → Places p leaf n wrong size work row work row o
   place-refused row x q =
       refused-places p leaf n wrong size q refl
-      (refused-early p work (ownCauses p leaf wrong size) (own-between p leaf wrong known) o e n [] (placeNumber p leaf n wrong size work) causes x q)
+      (refused-early p work (ownCauses p leaf wrong size) (own-between p leaf wrong known) o e n [] (placeCode p leaf n wrong size work) causes x q)
 
   -- granted so far, and Spread with a row of 40 bytes
   pub place-unrank : {row work′ row′ : List ℕ} {r : Outcome} → o ≡ Granted → Unranks (p .shape) n work row work′ row′ r → length row ≡ 40
@@ -72,7 +72,7 @@ module _ (p : Profile) (leaf n : ℕ) (wrong : Bool) {size : ℕ} (known : (size
     where
       by : (r′ : Outcome) → r ≡ r′ → Places p leaf n wrong size work row work′ row′ r
       by Granted s =
-          let passes = passed-unrank p work (ownCauses p leaf wrong size) (own-between p leaf wrong known) o e n [] (placeNumber p leaf n wrong size work) causes q u long s in
+          let passes = passed-unrank p work (ownCauses p leaf wrong size) (own-between p leaf wrong known) o e n [] (placeCode p leaf n wrong size work) causes q u long s in
           let passed = early-passed p work (ownCauses p leaf wrong size) (own-between p leaf wrong known) o e q in
           let sized = none-here wrong size ((leb (2 ^ p .height) leaf, 11) ∷ []) (size-not 0 known refl refl) (passed .1) in
           record {
@@ -82,5 +82,5 @@ module _ (p : Profile) (leaf n : ℕ) (wrong : Bool) {size : ℕ} (known : (size
             refused = λ x t. let z : _≡_ {A = ℕ} 0 1 = cc in absurd (omega arith);
           }
       by (Refused x) s =
-          refused-places p leaf n wrong size s (u .written ∙ rw (refused-number r (unrankNumber (p .shape) n work row) x (u .number) s))
-          (refused-seven p work (ownCauses p leaf wrong size) (own-between p leaf wrong known) o e n [] (placeNumber p leaf n wrong size work) causes q u long x s)
+          refused-places p leaf n wrong size s (u .written ∙ rw (refused-number r (unrankCode (p .shape) n work row) x (u .number) s))
+          (refused-seven p work (ownCauses p leaf wrong size) (own-between p leaf wrong known) o e n [] (placeCode p leaf n wrong size work) causes q u long x s)

@@ -24,17 +24,17 @@ unfoldable pub keyOf : Profile → (seed secret : List ℕ) (leaf : ℕ) → Lis
 keyOf p seed secret leaf = leafKey seed secret noLayer noTree (p .shape .width) (p .shape .chains) leaf
 
 -- "Leaf key and Root: profile checks; Leaf key also 11, leaf not below 2^h"
-unfoldable pub leafKeyNumber : Profile → (leaf : ℕ) → ℕ
-leafKeyNumber p leaf = firstCause (profileCauses p ++ ((leb (2 ^ p .height) leaf, 11) ∷ []))
+unfoldable pub leafKeyCode : Profile → (leaf : ℕ) → ℕ
+leafKeyCode p leaf = firstCause (profileCauses p ++ ((leb (2 ^ p .height) leaf, 11) ∷ []))
 
 -- what Leaf key answers; refused, the key is zero
 pub record LeafKeys (p : Profile) (seed secret : List ℕ) (leaf : ℕ) (r : LeafKey) : Type 0 where
-  pub number : outcomeCode (r .outcome) ≡ leafKeyNumber p leaf
-  pub key : r .key ≡ cond (eqb (leafKeyNumber p leaf) 0) (keyOf p seed secret leaf) (replicate 16 0)
+  pub number : outcomeCode (r .outcome) ≡ leafKeyCode p leaf
+  pub key : r .key ≡ cond (eqb (leafKeyCode p leaf) 0) (keyOf p seed secret leaf) (replicate 16 0)
 
 -- "Reveal, number to l values: profile checks, 5, 6 (16 × l bytes), 11, 7"
-unfoldable pub revealNumber : Profile → (leaf n : ℕ) (work values : List ℕ) → ℕ
-revealNumber p leaf n work values =
+unfoldable pub revealCode : Profile → (leaf n : ℕ) (work values : List ℕ) → ℕ
+revealCode p leaf n work values =
     firstCause
     (tableCauses p (length work)
     ++ ((ltb (length values) (16 * p .shape .chains), 6) ∷ (leb (2 ^ p .height) leaf, 11) ∷ (leb (count (p .shape)) n, 7) ∷ []))
@@ -45,13 +45,13 @@ revealedBy p seed secret leaf n = revealed seed secret noLayer noTree leaf (p .s
 
 -- what Reveal answers and leaves
 pub record Reveals (p : Profile) (seed secret : List ℕ) (leaf n : ℕ) (work values work′ values′ : List ℕ) (r : Outcome) : Type 0 where
-  pub number : outcomeCode r ≡ revealNumber p leaf n work values
-  pub table : work′ ≡ tableAfter (revealNumber p leaf n work values) (p .shape) work
-  pub written : values′ ≡ cond (eqb (revealNumber p leaf n work values) 0) (revealedBy p seed secret leaf n ++ drop (16 * p .shape .chains) values) values
+  pub number : outcomeCode r ≡ revealCode p leaf n work values
+  pub table : work′ ≡ tableAfter (revealCode p leaf n work values) (p .shape) work
+  pub written : values′ ≡ cond (eqb (revealCode p leaf n work values) 0) (revealedBy p seed secret leaf n ++ drop (16 * p .shape .chains) values) values
 
 -- "Recover …: profile checks, 5; 13 values not 16 × l bytes; 11, 7"
-unfoldable pub recoverNumber : Profile → (leaf n : ℕ) (values work : List ℕ) → ℕ
-recoverNumber p leaf n values work =
+unfoldable pub recoverCode : Profile → (leaf n : ℕ) (values work : List ℕ) → ℕ
+recoverCode p leaf n values work =
     firstCause
     (tableCauses p (length work)
     ++ ((not (eqb (length values) (16 * p .shape .chains)), 13) ∷ (leb (2 ^ p .height) leaf, 11) ∷ (leb (count (p .shape)) n, 7) ∷ []))
@@ -67,7 +67,7 @@ stepsOf p n = stepsLeft (p .width) (rowOf p n)
 
 -- what Recover answers and leaves; refused, the key is zero, and "Steps are 0 when refused"
 pub record Recovers (p : Profile) (seed : List ℕ) (leaf n : ℕ) (values work work′ : List ℕ) (r : Recovered) : Type 0 where
-  pub number : outcomeCode (r .outcome) ≡ recoverNumber p leaf n values work
-  pub key : r .key ≡ cond (eqb (recoverNumber p leaf n values work) 0) (recoveredBy p seed leaf n values) (replicate 16 0)
-  pub steps : r .steps ≡ cond (eqb (recoverNumber p leaf n values work) 0) (stepsOf (p .shape) n) 0
-  pub table : work′ ≡ tableAfter (recoverNumber p leaf n values work) (p .shape) work
+  pub number : outcomeCode (r .outcome) ≡ recoverCode p leaf n values work
+  pub key : r .key ≡ cond (eqb (recoverCode p leaf n values work) 0) (recoveredBy p seed leaf n values) (replicate 16 0)
+  pub steps : r .steps ≡ cond (eqb (recoverCode p leaf n values work) 0) (stepsOf (p .shape) n) 0
+  pub table : work′ ≡ tableAfter (recoverCode p leaf n values work) (p .shape) work

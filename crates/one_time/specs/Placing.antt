@@ -16,8 +16,8 @@ use Rattle.counts.specs.Table.{tableCauses, tableAfter}
 use Rattle.codewords.specs.Operations.{rowOf}
 
 -- the number, where a wrong size of the values has the number `size`
-unfoldable pub placeNumber : Profile → (leaf n : ℕ) (wrong : Bool) (size : ℕ) (work : List ℕ) → ℕ
-placeNumber p leaf n wrong size work =
+unfoldable pub placeCode : Profile → (leaf n : ℕ) (wrong : Bool) (size : ℕ) (work : List ℕ) → ℕ
+placeCode p leaf n wrong size work =
     firstCause
     (tableCauses p (length work) ++ ((wrong, size) ∷ (leb (2 ^ p .height) leaf, 11) ∷ (leb (count (p .shape)) n, 7) ∷ []))
 
@@ -30,7 +30,7 @@ pub record Placed (p : Profile) (n : ℕ) (wrong : Bool) (row row′ : List ℕ)
 
 -- what the causes answer and leave
 pub record Places (p : Profile) (leaf n : ℕ) (wrong : Bool) (size : ℕ) (work row work′ row′ : List ℕ) (r : Outcome) : Type 0 where
-  pub number : outcomeCode r ≡ placeNumber p leaf n wrong size work
-  pub table : work′ ≡ tableAfter (placeNumber p leaf n wrong size work) (p .shape) work
+  pub number : outcomeCode r ≡ placeCode p leaf n wrong size work
+  pub table : work′ ≡ tableAfter (placeCode p leaf n wrong size work) (p .shape) work
   pub granted : r ≡ Granted → Placed p n wrong row row′
   pub refused : (x : Refusal) → r ≡ Refused x → row′ ≡ row

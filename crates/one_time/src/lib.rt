@@ -8,7 +8,7 @@ ghost use lib.ListN.{length};
 ghost use Rattle.refusal.specs.Code.{code, outcomeCode, firstCause};
 ghost use Rattle.words.specs.Number.{value};
 ghost use Rattle.counts.specs.Table.{tableCauses};
-ghost use Rattle.one_time.specs.Operations.{leafKeyNumber, LeafKeys, Reveals, Recovers};
+ghost use Rattle.one_time.specs.Operations.{leafKeyCode, LeafKeys, Reveals, Recovers};
 ghost use Rattle.one_time.specs.Placing.{Places};
 use chains::leaves::key_of_leaf;
 use chains::leaves::recover_key;
@@ -50,7 +50,7 @@ fn leaf_outcome(leaf: u32, height: u32) -> Outcome
 
 // The causes of Leaf key.
 fn leaf_key_outcome(p: Profile, leaf: u32) -> Outcome
-    ensures { λ r. ⌜ outcomeCode r ≡ leafKeyNumber p leaf ⌝ }
+    ensures { λ r. ⌜ outcomeCode r ≡ leafKeyCode p leaf ⌝ }
 {
     let checked = check_profile(p);
     match checked {

@@ -11,7 +11,7 @@ use lib.Seq.{length-take-le, take-at}
 use Rattle.sha256_block.specs.Compression.{compress, initial}
 use Rattle.sha256_block.specs.declared.compression.HashWords.{HashWords}
 use Rattle.sha256.specs.Digest.{compressAll, padding, finalWords, wordBytes, digest}
-use Rattle.sha256.specs.Running.{pending, rest, started, extended, addNumber, addState, finished, hashed, addAll, AllGranted, joined}
+use Rattle.sha256.specs.Running.{pending, rest, started, extended, addCode, addState, finished, hashed, addAll, AllGranted, joined}
 use Rattle.sha256.specs.declared.running.Hash.{Hash}
 use Rattle.sha256.proofs.Blocks.{all-short, all-append, rest-append}
 
@@ -83,8 +83,8 @@ module _ (bytes : List ℕ) where
 
   -- add, on a state that has taken the bytes
   pub add-hashed : (more : List ℕ) → length bytes + length more ≤ 65535
-      → (addNumber (hashed bytes) more ≡ 0) × (addState (hashed bytes) more ≡ hashed (bytes ++ more))
-  unfolding addNumber addState hashed
+      → (addCode (hashed bytes) more ≡ 0) × (addState (hashed bytes) more ≡ hashed (bytes ++ more))
+  unfolding addCode addState hashed
   add-hashed more h =
       let fits = le-ltb 65535 (length bytes + length more) h in
       (rw fits, rw (fits, extended-hashed more))
@@ -99,8 +99,8 @@ unfolding started hashed rest
 started-hashed = rw (all-short initial [] (omega arith))
 
 -- what is granted fits
-granted-fits : (s : Hash) (bytes : List ℕ) → addNumber s bytes ≡ 0 → s .total + length bytes ≤ 65535
-unfolding addNumber
+granted-fits : (s : Hash) (bytes : List ℕ) → addCode s bytes ≡ 0 → s .total + length bytes ≤ 65535
+unfolding addCode
 granted-fits s bytes g = by-test (ltb 65535 (s .total + length bytes)) refl g
   where
     by-test : (over : Bool) → ltb 65535 (s .total + length bytes) ≡ over → cond {A = ℕ} over 18 0 ≡ 0 → s .total + length bytes ≤ 65535

@@ -35,8 +35,8 @@ extended s bytes =
     record { words = compressAll (s .words) all; block = rest all; total = s .total + length bytes }
 
 -- "only add refuses, by 18, if the total with the new bytes is over 65,535"
-unfoldable pub addNumber : Hash → List ℕ → ℕ
-addNumber s bytes = cond (ltb 65535 (s .total + length bytes)) 18 0
+unfoldable pub addCode : Hash → List ℕ → ℕ
+addCode s bytes = cond (ltb 65535 (s .total + length bytes)) 18 0
 
 -- "the state is returned the same"
 unfoldable pub addState : Hash → List ℕ → Hash
@@ -44,7 +44,7 @@ addState s bytes = cond (ltb 65535 (s .total + length bytes)) s (extended s byte
 
 -- what add answers
 pub record Adds (s : Hash) (bytes : List ℕ) (r : Added) : Type 0 where
-  pub number : outcomeCode (r .outcome) ≡ addNumber s bytes
+  pub number : outcomeCode (r .outcome) ≡ addCode s bytes
   pub state : r .hash ≡ addState s bytes
 
 -- finish: the words of the digest, in a state that has taken no bytes
@@ -62,7 +62,7 @@ addAll s (bytes ∷ more) = addAll (addState s bytes) more
 
 abbrev pub AllGranted : Hash → List (List ℕ) → Type 0
 AllGranted s [] = Unit {0}
-AllGranted s (bytes ∷ more) = (addNumber s bytes ≡ 0) × AllGranted (addState s bytes) more
+AllGranted s (bytes ∷ more) = (addCode s bytes ≡ 0) × AllGranted (addState s bytes) more
 
 -- the bytes of the adds, joined
 unfoldable pub joined : List (List ℕ) → List ℕ

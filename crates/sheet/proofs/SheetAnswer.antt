@@ -21,7 +21,7 @@ use Rattle.hex.specs.Hex.{Line, wrong, right}
 use Rattle.message.specs.Message.{signatureLength}
 use Rattle.sheet.specs.Frames.{Frame, numbered, frames, textFrame}
 use Rattle.sheet.specs.Sheet.{Reading, wrongLine, read, readFrame, inFront, followed, ended, readFrames, readSheet}
-use Rattle.sheet.specs.Operation.{lineIn, signatureIn, textIn, isWrong, sheetNumber, ReadsSheet}
+use Rattle.sheet.specs.Operation.{lineIn, signatureIn, textIn, isWrong, sheetCode, ReadsSheet}
 use Rattle.sheet.specs.Reader.{judgement}
 use Rattle.sheet.specs.Payload.{bytesIn, shown}
 use Rattle.sheet.specs.declared.place.Judged.the-variants as judged
@@ -83,7 +83,7 @@ module _ (p : Profile) (sheet signature message : List ℕ) where
   -- the profile is refused
   pub profile-refused : (o : Outcome) → outcomeCode o ≡ firstCause (profileCauses p) → (r : Refusal) → o ≡ Refused r
       → ReadsSheet p sheet signature message signature message (record { outcome = o; line = 0; length = 0 })
-  unfolding sheetNumber
+  unfolding sheetCode
   profile-refused o e r q =
       let some = refused-some (profileCauses p) late o e r q in
       let other = refused-without (profileCauses p) late o e r q 17 refl (profile-without p 17 (lit≤ tt)) in
@@ -96,8 +96,8 @@ module _ (p : Profile) (sheet signature message : List ℕ) where
       }
 
   module _ (none : firstCause (profileCauses p) ≡ 0) where
-    number-then : sheetNumber p sheet signature message ≡ firstCause late
-    unfolding sheetNumber
+    number-then : sheetCode p sheet signature message ≡ firstCause late
+    unfolding sheetCode
     number-then = none-then (profileCauses p) late none (profile-numbered p)
 
     -- the wrong line's number is small
@@ -112,11 +112,11 @@ module _ (p : Profile) (sheet signature message : List ℕ) where
         → ReadsSheet p sheet signature message signature message (record { outcome = Refused SheetLine; line = n; length = 0 })
     unfolding isWrong lineIn
     wrong-line n e =
-        let number : sheetNumber p sheet signature message ≡ 17 = number-then ∙ rw e in
+        let number : sheetCode p sheet signature message ≡ 17 = number-then ∙ rw e in
         record { number = sym number; line = rw (number, e); text-length = rw number; signature-written = rw number; text-written = rw number }
 
     -- either slice is too short
-    six : sheetNumber p sheet signature message ≡ 6
+    six : sheetCode p sheet signature message ≡ 6
         → ReadsSheet p sheet signature message signature message (record { outcome = Refused OutputTooShort; line = 0; length = 0 })
     six number = record { number = sym number; line = rw number; text-length = rw number; signature-written = rw number; text-written = rw number }
 
@@ -127,7 +127,7 @@ module _ (p : Profile) (sheet signature message : List ℕ) where
       signature-short h = six (number-then ∙ rw (w .is-read, lt-ltb (length signature) (20 + 16 * p .shape .chains + 16 * p .height) (omega arith)))
 
       module _ (enough : 20 + 16 * (p .shape .chains + p .height) ≤ length signature) where
-        number-last : sheetNumber p sheet signature message ≡ firstCause ((ltb (length message) (length (w .text)), 6) ∷ [])
+        number-last : sheetCode p sheet signature message ≡ firstCause ((ltb (length message) (length (w .text)), 6) ∷ [])
         unfolding isWrong textIn signatureLength
         number-last = number-then ∙ rw (w .is-read, le-ltb (length signature) (20 + 16 * p .shape .chains + 16 * p .height) (omega arith))
 
@@ -142,7 +142,7 @@ module _ (p : Profile) (sheet signature message : List ℕ) where
         unfolding signatureIn textIn signatureLength
         sheet-granted room signature′ message′ s m =
             let apart = whole-apart p sheet n w in
-            let number : sheetNumber p sheet signature message ≡ 0 = number-last ∙ rw (le-ltb (length message) (length (w .text)) (omega (arith, w .long))) in
+            let number : sheetCode p sheet signature message ≡ 0 = number-last ∙ rw (le-ltb (length message) (length (w .text)) (omega (arith, w .long))) in
             let length-is : 20 + 16 * (p .shape .chains + p .height) ≡ 20 + 16 * p .shape .chains + 16 * p .height = omega arith in
             record {
               number = sym number;

@@ -30,8 +30,8 @@ isWrong (wrongLine n) = true
 isWrong (read signature text) = false
 
 -- "profile checks; 17 …; 6 signature slice; 6 text slice"
-unfoldable pub sheetNumber : Profile → (sheet signature message : List ℕ) → ℕ
-sheetNumber p sheet signature message =
+unfoldable pub sheetCode : Profile → (sheet signature message : List ℕ) → ℕ
+sheetCode p sheet signature message =
     firstCause
     (profileCauses p
     ++ ((isWrong (readSheet p sheet), 17) ∷ (ltb (length signature) (signatureLength p), 6)
@@ -39,10 +39,10 @@ sheetNumber p sheet signature message =
 
 -- what Read sheet answers and leaves: "17 with the number, from 1, of the first line"; "Success writes the signature bytes and the text, and gives the text's length"
 pub record ReadsSheet (p : Profile) (sheet signature message signature′ message′ : List ℕ) (r : SheetRead) : Type 0 where
-  pub number : outcomeCode (r .outcome) ≡ sheetNumber p sheet signature message
-  pub line : r .line ≡ cond (eqb (sheetNumber p sheet signature message) 17) (lineIn (readSheet p sheet)) 0
-  pub text-length : r .length ≡ cond (eqb (sheetNumber p sheet signature message) 0) (length (textIn (readSheet p sheet))) 0
+  pub number : outcomeCode (r .outcome) ≡ sheetCode p sheet signature message
+  pub line : r .line ≡ cond (eqb (sheetCode p sheet signature message) 17) (lineIn (readSheet p sheet)) 0
+  pub text-length : r .length ≡ cond (eqb (sheetCode p sheet signature message) 0) (length (textIn (readSheet p sheet))) 0
   pub signature-written : signature′
-      ≡ cond (eqb (sheetNumber p sheet signature message) 0) (signatureIn (readSheet p sheet) ++ drop (signatureLength p) signature) signature
+      ≡ cond (eqb (sheetCode p sheet signature message) 0) (signatureIn (readSheet p sheet) ++ drop (signatureLength p) signature) signature
   pub text-written : message′
-      ≡ cond (eqb (sheetNumber p sheet signature message) 0) (textIn (readSheet p sheet) ++ drop (length (textIn (readSheet p sheet))) message) message
+      ≡ cond (eqb (sheetCode p sheet signature message) 0) (textIn (readSheet p sheet) ++ drop (length (textIn (readSheet p sheet))) message) message

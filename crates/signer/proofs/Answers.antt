@@ -24,7 +24,7 @@ use Rattle.one_time.proofs.RowLaws.{revealed-row}
 use Rattle.tree.specs.Tree.{rootOf, path}
 use Rattle.message.specs.Message.{messageNumber, outsideText, signatureLength}
 use Rattle.message.proofs.Fits.{short-text}
-use Rattle.signer.specs.Signing.{spent, advanced, keyNumber, signatureOf, signNumber, keyAfter, outputAfter, Signs}
+use Rattle.signer.specs.Signing.{spent, advanced, keyNumber, signatureOf, signCode, keyAfter, outputAfter, Signs}
 use Rattle.signer.specs.declared.SigningKey.{SigningKey}
 
 -- the causes of Issue between 5 and 7
@@ -71,9 +71,9 @@ module _ (key : SigningKey) (r message work out : List ℕ) (o : Outcome)
 
   -- all causes, where n is the message number
   sign-causes : (n : ℕ) → n ≡ keyNumber key r message
-      → signNumber key r message work out
+      → signCode key r message work out
       ≡ firstCause (tableCauses (key .profile) (length work) ++ (signOwn key (length message) (length out) ++ ((leb (count (key .profile .shape)) n, 7) ∷ [])))
-  unfolding signNumber
+  unfolding signCode
   sign-causes n same = rw same
 
   pub sign-refused : (x : Refusal) → o ≡ Refused x → Signs key r message work out work out (record { outcome = o; key = key })
@@ -82,7 +82,7 @@ module _ (key : SigningKey) (r message work out : List ℕ) (o : Outcome)
       let n = keyNumber key r message in
       let refused =
       refused-early (key .profile) work (signOwn key (length message) (length out)) (sign-between key (length message) (length out)) o e n []
-      (signNumber key r message work out) (sign-causes n refl) x q in
+      (signCode key r message work out) (sign-causes n refl) x q in
       record { number = refused .answer; key′ = rw (refused .some); table = refused .table; written = rw (refused .some) }
 
   -- past Spread of the message number, with a row of 40 bytes
@@ -93,7 +93,7 @@ module _ (key : SigningKey) (r message work out : List ℕ) (o : Outcome)
     sign-seven x s =
         let refused =
         refused-seven (key .profile) work (signOwn key (length message) (length out)) (sign-between key (length message) (length out)) o e n []
-        (signNumber key r message work out) (sign-causes n same) q u long x s in
+        (signCode key r message work out) (sign-causes n same) q u long x s in
         record { number = refused .answer; key′ = rw (refused .some); table = refused .table; written = rw (refused .some) }
 
     pub sign-granted : {out′ siblings : List ℕ} {after : SigningKey} → placed ≡ Granted → after ≡ advanced key
@@ -106,7 +106,7 @@ module _ (key : SigningKey) (r message work out : List ℕ) (o : Outcome)
     sign-granted s a way w =
         let passes =
         passed-unrank (key .profile) work (signOwn key (length message) (length out)) (sign-between key (length message) (length out)) o e n []
-        (signNumber key r message work out) (sign-causes n same) q u long s in
+        (signCode key r message work out) (sign-causes n same) q u long s in
         let shown = revealed-row (key .profile .shape) n (drop (key .profile .shape .chains) row) (passes .below) (key .seed) (key .secret) noLayer noTree (key .next) in
         record {
           number = ap outcomeCode s ∙ sym (passes .left);

@@ -42,8 +42,8 @@ signatureOf p seed secret leaf n r =
     ++ path seed secret noLayer noTree (p .shape .width) (p .shape .chains) (p .height) leaf
 
 -- "Issue: profile checks, 5; 16 order text empty or over 200 bytes; 6 (20 + 16 × l + 16 × h); 12 next leaf not below 2^h; 7"
-unfoldable pub signNumber : SigningKey → (r message work out : List ℕ) → ℕ
-signNumber key r message work out =
+unfoldable pub signCode : SigningKey → (r message work out : List ℕ) → ℕ
+signCode key r message work out =
     firstCause
     (tableCauses (key .profile) (length work)
     ++ ((outsideText (length message), 16) ∷ (ltb (length out) (signatureLength (key .profile)), 6) ∷ (spent key, 12)
@@ -51,19 +51,19 @@ signNumber key r message work out =
 
 -- the key that comes back: "Success adds 1 to the next leaf; a refusal uses no leaf"
 unfoldable pub keyAfter : SigningKey → (r message work out : List ℕ) → SigningKey
-keyAfter key r message work out = cond (eqb (signNumber key r message work out) 0) (advanced key) key
+keyAfter key r message work out = cond (eqb (signCode key r message work out) 0) (advanced key) key
 
 -- what the output slice holds afterwards: the signature, and behind it what stood there; refused, what it held
 unfoldable pub outputAfter : SigningKey → (r message work out : List ℕ) → List ℕ
 outputAfter key r message work out =
-    cond (eqb (signNumber key r message work out) 0)
+    cond (eqb (signCode key r message work out) 0)
     (signatureOf (key .profile) (key .seed) (key .secret) (key .next) (keyNumber key r message) r
     ++ drop (signatureLength (key .profile)) out)
     out
 
 -- what Issue answers and leaves
 pub record Signs (key : SigningKey) (r message work out work′ out′ : List ℕ) (answer : Signed) : Type 0 where
-  pub number : outcomeCode (answer .outcome) ≡ signNumber key r message work out
+  pub number : outcomeCode (answer .outcome) ≡ signCode key r message work out
   pub key′ : answer .key ≡ keyAfter key r message work out
-  pub table : work′ ≡ tableAfter (signNumber key r message work out) (key .profile .shape) work
+  pub table : work′ ≡ tableAfter (signCode key r message work out) (key .profile .shape) work
   pub written : out′ ≡ outputAfter key r message work out

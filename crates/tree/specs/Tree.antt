@@ -48,10 +48,10 @@ climbed seed layer tree leaf key siblings (suc k) =
     (children (leaf / 2 ^ k) (climbed seed layer tree leaf key siblings k) (take 16 (drop (16 * k) siblings)))
 
 -- "Leaf key and Root: profile checks"
-unfoldable pub rootNumber : Profile → ℕ
-rootNumber p = firstCause (profileCauses p)
+unfoldable pub rootCode : Profile → ℕ
+rootCode p = firstCause (profileCauses p)
 
 -- what Root answers; refused, the root is zero
 pub record Roots (p : Profile) (seed secret : List ℕ) (r : TreeRoot) : Type 0 where
-  pub number : outcomeCode (r .outcome) ≡ rootNumber p
-  pub root : r .root ≡ cond (eqb (rootNumber p) 0) (rootOf p seed secret) (replicate 16 0)
+  pub number : outcomeCode (r .outcome) ≡ rootCode p
+  pub root : r .root ≡ cond (eqb (rootCode p) 0) (rootOf p seed secret) (replicate 16 0)

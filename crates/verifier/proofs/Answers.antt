@@ -28,7 +28,7 @@ use Rattle.one_time.proofs.RowLaws.{recovered-row, steps-row}
 use Rattle.tree.specs.Tree.{climbed}
 use Rattle.message.specs.Message.{outsideText, signatureLength}
 use Rattle.message.proofs.Fits.{short-text}
-use Rattle.verifier.specs.Verifying.{passed, taken, leafIn, valuesIn, siblingsIn, numberIn, recoveredRoot, same, causesBeforeRoot, verifyNumber, verifierAfter, stepsMade, Verifies}
+use Rattle.verifier.specs.Verifying.{passed, taken, leafIn, valuesIn, siblingsIn, numberIn, recoveredRoot, same, causesBeforeRoot, verifyCode, verifierAfter, stepsMade, Verifies}
 use Rattle.verifier.specs.declared.Verifier.{Verifier}
 
 -- the causes of Check between 5 and 7
@@ -83,9 +83,9 @@ module _ (v : Verifier) (message signature work : List ℕ) (o : Outcome)
 
   -- all causes, where n is the message number
   verify-causes : (n : ℕ) → n ≡ numberIn v message signature
-      → verifyNumber v message signature work
+      → verifyCode v message signature work
       ≡ firstCause (tableCauses (v .profile) (length work) ++ (verifyOwn v (length message) signature ++ ((leb (count (v .profile .shape)) n, 7) ∷ differs)))
-  unfolding verifyNumber causesBeforeRoot
+  unfolding verifyCode causesBeforeRoot
   verify-causes n e-n =
       rw e-n
       (ap firstCause
@@ -97,7 +97,7 @@ module _ (v : Verifier) (message signature work : List ℕ) (o : Outcome)
       let n = numberIn v message signature in
       let refused =
       refused-early (v .profile) work (verifyOwn v (length message) signature) (verify-between v (length message) signature) o e n differs
-      (verifyNumber v message signature work) (verify-causes n refl) x q in
+      (verifyCode v message signature work) (verify-causes n refl) x q in
       record { number = refused .answer; verifier = rw (refused .some); steps = rw (refused .some, refused .not-fifteen); table = refused .table }
 
   -- past Spread of the message number, with a row of 40 bytes
@@ -108,7 +108,7 @@ module _ (v : Verifier) (message signature work : List ℕ) (o : Outcome)
     verify-seven x s =
         let refused =
         refused-seven (v .profile) work (verifyOwn v (length message) signature) (verify-between v (length message) signature) o e n differs
-        (verifyNumber v message signature work) (verify-causes n e-n) q u long x s in
+        (verifyCode v message signature work) (verify-causes n e-n) q u long x s in
         record { number = refused .answer; verifier = rw (refused .some); steps = rw (refused .some, refused .not-fifteen); table = refused .table }
 
     -- the number's codeword in the row, with the root and the steps found over that row
@@ -118,10 +118,10 @@ module _ (v : Verifier) (message signature work : List ℕ) (o : Outcome)
         (recovered (v .seed) noLayer noTree (v .profile .shape .width) (v .profile .shape .chains) leaf row′ (valuesIn signature))
         (siblingsIn (v .profile) signature) (v .profile .height))
         (made : steps ≡ stepsLeft (v .profile .shape .width) (take (v .profile .shape .chains) row′)) where
-      unranked : Passes (verifyNumber v message signature work) (v .profile .shape) n differs work row work′ row′
+      unranked : Passes (verifyCode v message signature work) (v .profile .shape) n differs work row work′ row′
       unranked =
           passed-unrank (v .profile) work (verifyOwn v (length message) signature) (verify-between v (length message) signature) o e n differs
-          (verifyNumber v message signature work) (verify-causes n e-n) q u long s
+          (verifyCode v message signature work) (verify-causes n e-n) q u long s
 
       top-recovered : top ≡ recoveredRoot v message signature
       unfolding recoveredRoot recoveredBy
@@ -135,14 +135,14 @@ module _ (v : Verifier) (message signature work : List ℕ) (o : Outcome)
       steps-full = made ∙ rw (unranked .placed, steps-row (v .profile .shape) n (drop (v .profile .shape .chains) row) (unranked .below), e-n)
 
       -- 15 or granted, as the comparison of the roots answers
-      compared : (b : Bool) → b ≡ same top (v .root) → verifyNumber v message signature work ≡ firstCause ((not b, 15) ∷ [])
+      compared : (b : Bool) → b ≡ same top (v .root) → verifyCode v message signature work ≡ firstCause ((not b, 15) ∷ [])
       compared b c = unranked .left ∙ rw (c, top-recovered)
 
       pub verify-differs : {b : Bool} → b ≡ same top (v .root) → b ≡ false
           → Verifies v message signature work work′ (record { outcome = Refused RootDiffers; verifier = v; steps = steps })
       unfolding verifierAfter stepsMade
       verify-differs {b} c unequal =
-          let fifteen : verifyNumber v message signature work ≡ 15 = compared b c ∙ rw unequal in
+          let fifteen : verifyCode v message signature work ≡ 15 = compared b c ∙ rw unequal in
           record {
             number = sym fifteen;
             verifier = rw fifteen;
@@ -154,7 +154,7 @@ module _ (v : Verifier) (message signature work : List ℕ) (o : Outcome)
           → Verifies v message signature work work′ (record { outcome = placed; verifier = after; steps = steps })
       unfolding verifierAfter stepsMade
       verify-granted {b} c equal a =
-          let zero : verifyNumber v message signature work ≡ 0 = compared b c ∙ rw equal in
+          let zero : verifyCode v message signature work ≡ 0 = compared b c ∙ rw equal in
           record {
             number = ap outcomeCode s ∙ sym zero;
             verifier = rw zero (a ∙ ap (taken v) e-leaf);

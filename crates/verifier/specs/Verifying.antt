@@ -70,25 +70,25 @@ causesBeforeRoot v message signature work =
     ∷ (leb (count (v .profile .shape)) (numberIn v message signature), 7) ∷ [])
 
 -- "… 15 recovered root differs"
-unfoldable pub verifyNumber : Verifier → (message signature work : List ℕ) → ℕ
-verifyNumber v message signature work =
+unfoldable pub verifyCode : Verifier → (message signature work : List ℕ) → ℕ
+verifyCode v message signature work =
     firstCause
     (causesBeforeRoot v message signature work ++ ((not (same (recoveredRoot v message signature) (v .root)), 15) ∷ []))
 
 -- the cabinet that comes back; refused, as it was
 unfoldable pub verifierAfter : Verifier → (message signature work : List ℕ) → Verifier
-verifierAfter v message signature work = cond (eqb (verifyNumber v message signature work) 0) (taken v (leafIn signature)) v
+verifierAfter v message signature work = cond (eqb (verifyCode v message signature work) 0) (taken v (leafIn signature)) v
 
 -- "The answer carries the steps made: 0 before the chains, the full sum for 15 and success"
 unfoldable pub stepsMade : Verifier → (message signature work : List ℕ) → ℕ
 stepsMade v message signature work =
-    cond (eqb (verifyNumber v message signature work) 0 || eqb (verifyNumber v message signature work) 15)
+    cond (eqb (verifyCode v message signature work) 0 || eqb (verifyCode v message signature work) 15)
     (stepsOf (v .profile .shape) (numberIn v message signature))
     0
 
 -- what Check answers and leaves
 pub record Verifies (v : Verifier) (message signature work work′ : List ℕ) (answer : Verdict) : Type 0 where
-  pub number : outcomeCode (answer .outcome) ≡ verifyNumber v message signature work
+  pub number : outcomeCode (answer .outcome) ≡ verifyCode v message signature work
   pub verifier : answer .verifier ≡ verifierAfter v message signature work
   pub steps : answer .steps ≡ stepsMade v message signature work
-  pub table : work′ ≡ tableAfter (verifyNumber v message signature work) (v .profile .shape) work
+  pub table : work′ ≡ tableAfter (verifyCode v message signature work) (v .profile .shape) work

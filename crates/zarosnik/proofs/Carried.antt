@@ -18,10 +18,10 @@ use Rattle.one_time.specs.declared.LeafKey.{LeafKey}
 use Rattle.one_time.specs.declared.Recovered.{Recovered}
 use Rattle.tree.specs.Tree.{Roots}
 use Rattle.tree.specs.declared.TreeRoot.{TreeRoot}
-use Rattle.signer.specs.Signing.{Signs, advanced, signNumber, keyAfter}
+use Rattle.signer.specs.Signing.{Signs, advanced, signCode, keyAfter}
 use Rattle.signer.specs.declared.SigningKey.{SigningKey}
 use Rattle.signer.specs.declared.Signed.{Signed}
-use Rattle.verifier.specs.Verifying.{Verifies, taken, leafIn, verifyNumber, verifierAfter}
+use Rattle.verifier.specs.Verifying.{Verifies, taken, leafIn, verifyCode, verifierAfter}
 use Rattle.verifier.specs.declared.Verifier.{Verifier}
 use Rattle.verifier.specs.declared.Verdict.{Verdict}
 use Rattle.sheet.specs.Operation.{ReadsSheet}
@@ -100,7 +100,7 @@ module _ {p q : Profile} (e : p ≡ q) {r : ℕ} where
         answer = a;
         signs = h;
         returned = n;
-        key-kept = only-next key (a .key) (eqb (signNumber key random message work out) 0) (h .key′);
+        key-kept = only-next key (a .key) (eqb (signCode key random message work out) 0) (h .key′);
       })
 
   pub verify-call : {seed root : List ℕ} {lowest : ℕ} {message signature work work′ : List ℕ} {a : Verdict}
@@ -114,6 +114,6 @@ module _ {p q : Profile} (e : p ≡ q) {r : ℕ} where
         answer = a;
         verifies = h;
         returned = n;
-        verifier-kept = only-lowest v (a .verifier) (leafIn signature) (eqb (verifyNumber v message signature work) 0) (h .verifier);
+        verifier-kept = only-lowest v (a .verifier) (leafIn signature) (eqb (verifyCode v message signature work) 0) (h .verifier);
         steps-written = refl;
       })

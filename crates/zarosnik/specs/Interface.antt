@@ -11,7 +11,7 @@ use Rattle.refusal.specs.Code.{outcomeCode}
 use Rattle.refusal.specs.declared.Outcome.{Outcome}
 use Rattle.words.specs.Number.{value}
 use Rattle.sha256.specs.Digest.{digest}
-use Rattle.sha256.specs.Running.{started, addNumber}
+use Rattle.sha256.specs.Running.{started, addCode}
 use Rattle.profile.specs.declared.Shape.{Shape}
 use Rattle.profile.specs.declared.Profile.{Profile}
 use Rattle.counts.specs.Table.{Counts}
@@ -48,8 +48,8 @@ verifierOf p seed root lowest = record { profile = p; seed = seed; root = root; 
 
 -- "Hash, as start, add and finish", in one call: add's number on a started hash; granted, the digest, else 32 zero bytes
 pub record HashCall (bytes digest′ : List ℕ) (r : ℕ) : Type 0 where
-  pub returned : r ≡ addNumber started bytes
-  pub written : digest′ ≡ cond (eqb (addNumber started bytes) 0) (digest bytes) (replicate 32 0)
+  pub returned : r ≡ addCode started bytes
+  pub written : digest′ ≡ cond (eqb (addCode started bytes) 0) (digest bytes) (replicate 32 0)
 
 -- Count
 pub record CountCall (p : Shape) (work work′ number′ : List ℕ) (r : ℕ) : Type 0 where

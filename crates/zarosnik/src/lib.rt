@@ -9,7 +9,7 @@ ghost use Prim.Native.Nat.{ℕ};
 ghost use lib.ListN.{replicate};
 ghost use Rattle.refusal.specs.Code.{outcomeCode};
 ghost use Rattle.sha256.specs.Digest.{digest as digestOf};
-ghost use Rattle.sha256.specs.Running.{started, addNumber, Adds};
+ghost use Rattle.sha256.specs.Running.{started, addCode, Adds};
 ghost use Rattle.zarosnik.specs.Interface.{shapeOf, profileOf, keyOf, verifierOf, HashCall, CountCall, UnrankCall, RankCall, LeafKeyCall, RootCall, RevealCall, RecoverCall, SignCall, VerifyCall, ReadSheetCall};
 use codewords::ranking::rank;
 use codewords::unrank;
@@ -57,7 +57,7 @@ fn profile(l: u8, w: u8, s: u16, h: u8) -> Profile
 
 // The digest where the bytes were granted, else zero.
 fn digest_of(added: Added) -> [u8; 32]
-    ensures { λ r. ⌜ ((bytes : List ℕ) → Adds started bytes added → r ≡ cond (eqb (addNumber started bytes) 0) (digestOf bytes) (replicate 32 0)) ⌝ }
+    ensures { λ r. ⌜ ((bytes : List ℕ) → Adds started bytes added → r ≡ cond (eqb (addCode started bytes) 0) (digestOf bytes) (replicate 32 0)) ⌝ }
 {
     let outcome = added.outcome;
     match outcome {

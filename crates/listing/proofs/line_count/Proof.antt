@@ -12,15 +12,6 @@ use Rattle.listing.proofs.line_count.Tie as tie
 compared : (q : tie.After-less) → q .less .result ≡ ltb (value (q .before .args .t1)) 256
 compared q = q .less .ensures ∙ ap (ltb (value (q .before .args .t1))) (one-word 256)
 
-less-requires : tie.Need-less-requires
-less-requires c κs = search needs
-
-array-read-result : tie.Need-array-read-result
-array-read-result c = search needs
-
-cast-result : tie.Need-cast-result
-cast-result c = search needs
-
 returns : tie.Need-returns
 returns c =
     let count = c .before .before .args .t1 in
@@ -34,4 +25,4 @@ returns-2 c =
 
 pub line-count-spec : {M : Type 1} → statement M
 line-count-spec =
-    tie.close (tie.spec less-requires array-read-result cast-result returns returns-2)
+    tie.close (tie.spec (λ c κs. search needs) (λ c. search needs) (λ c. search needs) returns returns-2)

@@ -10,17 +10,8 @@ use Rattle.listing.proofs.listing.Tie as tie
 abbrev start : tie.After-read-request → tie.Start
 start q = q .before .before .before .before
 
-read-request-requires : tie.Need-read-request-requires
-read-request-requires c κs = search needs
-
-enum-told : tie.Need-enum-told
-enum-told c = search needs
-
 write-refusal-requires : tie.Need-write-refusal-requires
 write-refusal-requires c κs = omega (arith, start (c .before .before .before) .pre)
-
-enum-known-asked : tie.Need-enum-known-asked
-enum-known-asked c = search needs
 
 write-answer-requires : tie.Need-write-answer-requires
 write-answer-requires c κs = start (c .before .before .before .before .before) .pre
@@ -53,10 +44,10 @@ pub listing-spec : {M : Type 1} → statement M
 listing-spec =
     tie.close
     (tie.spec
-    read-request-requires
-    enum-told
+    (λ c κs. search needs)
+    (λ c. search needs)
     write-refusal-requires
-    enum-known-asked
+    (λ c. search needs)
     write-answer-requires
     same-length
     returns

@@ -11,39 +11,15 @@ use Rattle.listing.proofs.read_request.Tie as tie
 abbrev start : tie.After-read-line → tie.Start
 start q = q .before .before .before
 
-slice-aggregate-read-line : tie.Need-slice-aggregate-read-line
-slice-aggregate-read-line c = search needs
-
-read-line-requires : tie.Need-read-line-requires
-read-line-requires c κs = search needs
-
 returns : tie.Need-returns
 returns c =
     let q = c .before .before in
     sym (not-five (readLine (now (start q .args .input))) (sym (q .read-line .ensures .told) ∙ not-true _ (c .if1 .taken)))
 
-array-read-if2 : tie.Need-array-read-if2
-array-read-if2 c = search needs
-
 returns-2 : tie.Need-returns-2
 returns-2 c =
     let q = c .before .before .before in
     sym (other-kind (q .read-line .last .1 .1 .0) (q .read-line .ensures .bytes (not-false _ (c .before .if1 .left))) (c .if2 .taken) (q .read-line .kept .1 .1 .0))
-
-array-read-shape-of : tie.Need-array-read-shape-of
-array-read-shape-of c = search needs
-
-array-read-shape-of-2 : tie.Need-array-read-shape-of-2
-array-read-shape-of-2 c = search needs
-
-array-read-shape-of-3 : tie.Need-array-read-shape-of-3
-array-read-shape-of-3 c = search needs
-
-array-read-shape-of-4 : tie.Need-array-read-shape-of-4
-array-read-shape-of-4 c = search needs
-
-shape-of-requires : tie.Need-shape-of-requires
-shape-of-requires c κs = search needs
 
 returns-3 : tie.Need-returns-3
 returns-3 c =
@@ -56,14 +32,14 @@ pub read-request-spec : {M : Type 1} → statement M
 read-request-spec =
     tie.close
     (tie.spec
-    slice-aggregate-read-line
-    read-line-requires
+    (λ c. search needs)
+    (λ c κs. search needs)
     returns
-    array-read-if2
+    (λ c. search needs)
     returns-2
-    array-read-shape-of
-    array-read-shape-of-2
-    array-read-shape-of-3
-    array-read-shape-of-4
-    shape-of-requires
+    (λ c. search needs)
+    (λ c. search needs)
+    (λ c. search needs)
+    (λ c. search needs)
+    (λ c κs. search needs)
     returns-3)

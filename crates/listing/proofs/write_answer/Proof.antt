@@ -12,23 +12,8 @@ use Rattle.listing.proofs.write_answer.Tie as tie
 abbrev start : tie.After-codeword-count → tie.Start
 start q = q .before .before .before .before
 
-codeword-count-requires : tie.Need-codeword-count-requires
-codeword-count-requires c κs = search needs
-
-enum-known-outcome : tie.Need-enum-known-outcome
-enum-known-outcome c = search needs
-
-number-requires : tie.Need-number-requires
-number-requires c κs = search needs
-
 write-refusal-requires : tie.Need-write-refusal-requires
 write-refusal-requires c κs = omega (arith, start (c .before .before .before .before .before .before .before .before) .pre)
-
-enum-told : tie.Need-enum-told
-enum-told c = search needs
-
-line-count-requires : tie.Need-line-count-requires
-line-count-requires c κs = search needs
 
 write-rows-requires : tie.Need-write-rows-requires
 write-rows-requires c κs =
@@ -73,12 +58,12 @@ pub write-answer-spec : {M : Type 1} → statement M
 write-answer-spec =
     tie.close
     (tie.spec
-    codeword-count-requires
-    enum-known-outcome
-    number-requires
+    (λ c κs. search needs)
+    (λ c. search needs)
+    (λ c κs. search needs)
     write-refusal-requires
-    enum-told
-    line-count-requires
+    (λ c. search needs)
+    (λ c κs. search needs)
     write-rows-requires
     same-length
     same-length-2

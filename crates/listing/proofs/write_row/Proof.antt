@@ -29,42 +29,6 @@ printed q =
     let pre = start q .pre in
     row-printed (start q .args .p) (start q .args .n) (one-word (start q .args .n)) (pre .0) (pre .1) (pre .2) (q .unrank .ensures)
 
-array-write-row : tie.Need-array-write-row
-array-write-row c = search needs
-
-cast-row : tie.Need-cast-row
-cast-row c = search needs
-
-array-write-row-2 : tie.Need-array-write-row-2
-array-write-row-2 c = search needs
-
-cast-row-2 : tie.Need-cast-row-2
-cast-row-2 c = search needs
-
-array-write-row-3 : tie.Need-array-write-row-3
-array-write-row-3 c = search needs
-
-cast-t17 : tie.Need-cast-t17
-cast-t17 c = search needs
-
-sub-unrank : tie.Need-sub-unrank
-sub-unrank c = search needs
-
-part-row-start : tie.Need-part-row-start
-part-row-start c = search needs
-
-part-row-end : tie.Need-part-row-end
-part-row-end c = search needs
-
-unrank-requires : tie.Need-unrank-requires
-unrank-requires c κs = search needs
-
-cast-end : tie.Need-cast-end
-cast-end c = search needs
-
-add-end : tie.Need-add-end
-add-end c = search needs
-
 array-share-prefix-row : tie.Need-array-share-prefix-row
 array-share-prefix-row c = let q = c .before .before .before .before .before in omega (arith, taken q, length-take (start q .args .p .chains + 3) (17 ∷ start q .args .n / 256 ∷ start q .args .n % 256 ∷ (q .unrank .last .1 .1 .1 .0 ++ [])))
 
@@ -90,18 +54,18 @@ pub write-row-spec : {M : Type 1} → statement M
 write-row-spec =
     tie.close
     (tie.spec
-    array-write-row
-    cast-row
-    array-write-row-2
-    cast-row-2
-    array-write-row-3
-    cast-t17
-    sub-unrank
-    part-row-start
-    part-row-end
-    unrank-requires
-    cast-end
-    add-end
+    (λ c. search needs)
+    (λ c. search needs)
+    (λ c. search needs)
+    (λ c. search needs)
+    (λ c. search needs)
+    (λ c. search needs)
+    (λ c. search needs)
+    (λ c. search needs)
+    (λ c. search needs)
+    (λ c κs. search needs)
+    (λ c. search needs)
+    (λ c. search needs)
     array-share-prefix-row
     slice-aggregate-write-line
     write-line-requires

@@ -9,36 +9,6 @@ use borrow.Author.Needs.{needs}
 use Rattle.message.proofs.message_digest.Statement.{statement}
 use Rattle.message.proofs.message_digest.Tie as tie
 
-start-requires : tie.Need-start-requires
-start-requires c κs = search needs
-
-slice-aggregate-add : tie.Need-slice-aggregate-add
-slice-aggregate-add c = search needs
-
-add-requires : tie.Need-add-requires
-add-requires c κs = search needs
-
-slice-aggregate-add-2 : tie.Need-slice-aggregate-add-2
-slice-aggregate-add-2 c = search needs
-
-add-requires-2 : tie.Need-add-requires-2
-add-requires-2 c κs = search needs
-
-slice-aggregate-add-3 : tie.Need-slice-aggregate-add-3
-slice-aggregate-add-3 c = search needs
-
-add-requires-3 : tie.Need-add-requires-3
-add-requires-3 c κs = search needs
-
-add-requires-4 : tie.Need-add-requires-4
-add-requires-4 c κs = search needs
-
-finish-requires : tie.Need-finish-requires
-finish-requires c κs = search needs
-
-digest-requires : tie.Need-digest-requires
-digest-requires c κs = search needs
-
 longs : (s : tie.Start) → (length (s .args .t1) ≡ 16) × (length (s .args .t2) ≡ 16) × (length (s .args .t3) ≡ 16)
 longs s = search needs
 
@@ -62,14 +32,14 @@ pub message-digest-spec : {M : Type 1} → statement M
 message-digest-spec =
     tie.close
     (tie.spec
-    start-requires
-    slice-aggregate-add
-    add-requires
-    slice-aggregate-add-2
-    add-requires-2
-    slice-aggregate-add-3
-    add-requires-3
-    add-requires-4
-    finish-requires
-    digest-requires
+    (λ c κs. search needs)
+    (λ c. search needs)
+    (λ c κs. search needs)
+    (λ c. search needs)
+    (λ c κs. search needs)
+    (λ c. search needs)
+    (λ c κs. search needs)
+    (λ c κs. search needs)
+    (λ c κs. search needs)
+    (λ c κs. search needs)
     returns)

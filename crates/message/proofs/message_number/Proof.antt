@@ -5,16 +5,10 @@ use borrow.Author.Needs.{needs}
 use Rattle.message.proofs.message_number.Statement.{statement}
 use Rattle.message.proofs.message_number.Tie as tie
 
-message-digest-requires : tie.Need-message-digest-requires
-message-digest-requires c κs = search needs
-
-number-of-digest-requires : tie.Need-number-of-digest-requires
-number-of-digest-requires c κs = search needs
-
 returns : tie.Need-returns
 unfolding messageNumber
 returns c = c .number-of-digest .ensures ∙ ap numberOfDigest (c .before .message-digest .ensures)
 
 pub message-number-spec : {M : Type 1} → statement M
 message-number-spec =
-    tie.close (tie.spec message-digest-requires number-of-digest-requires returns)
+    tie.close (tie.spec (λ c κs. search needs) (λ c κs. search needs) returns)

@@ -7,30 +7,6 @@ use borrow.Author.Needs.{needs}
 use Rattle.message.proofs.number_of_digest.Statement.{statement}
 use Rattle.message.proofs.number_of_digest.Tie as tie
 
-slice-aggregate-word-at : tie.Need-slice-aggregate-word-at
-slice-aggregate-word-at c = search needs
-
-word-at-requires : tie.Need-word-at-requires
-word-at-requires c κs = search needs
-
-slice-aggregate-word-at-2 : tie.Need-slice-aggregate-word-at-2
-slice-aggregate-word-at-2 c = search needs
-
-word-at-requires-2 : tie.Need-word-at-requires-2
-word-at-requires-2 c κs = search needs
-
-slice-aggregate-word-at-3 : tie.Need-slice-aggregate-word-at-3
-slice-aggregate-word-at-3 c = search needs
-
-word-at-requires-3 : tie.Need-word-at-requires-3
-word-at-requires-3 c κs = search needs
-
-slice-aggregate-word-at-4 : tie.Need-slice-aggregate-word-at-4
-slice-aggregate-word-at-4 c = search needs
-
-word-at-requires-4 : tie.Need-word-at-requires-4
-word-at-requires-4 c κs = search needs
-
 returns : tie.Need-returns
 returns c =
     let fourth = c in
@@ -45,12 +21,12 @@ pub number-of-digest-spec : {M : Type 1} → statement M
 number-of-digest-spec =
     tie.close
     (tie.spec
-    slice-aggregate-word-at
-    word-at-requires
-    slice-aggregate-word-at-2
-    word-at-requires-2
-    slice-aggregate-word-at-3
-    word-at-requires-3
-    slice-aggregate-word-at-4
-    word-at-requires-4
+    (λ c. search needs)
+    (λ c κs. search needs)
+    (λ c. search needs)
+    (λ c κs. search needs)
+    (λ c. search needs)
+    (λ c κs. search needs)
+    (λ c. search needs)
+    (λ c κs. search needs)
     returns)

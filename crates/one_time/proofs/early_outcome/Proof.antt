@@ -10,15 +10,6 @@ use Rattle.one_time.proofs.PlaceLaws.{early-wrong, early-sized}
 use Rattle.one_time.proofs.early_outcome.Statement.{statement}
 use Rattle.one_time.proofs.early_outcome.Tie as tie
 
-table-outcome-requires : tie.Need-table-outcome-requires
-table-outcome-requires c κs = search needs
-
-enum-told : tie.Need-enum-told
-enum-told c = search needs
-
-enum-told-2 : tie.Need-enum-told-2
-enum-told-2 c = search needs
-
 leaf-outcome-requires : tie.Need-leaf-outcome-requires
 leaf-outcome-requires c κs =
     let told = c .before in
@@ -50,9 +41,9 @@ pub early-outcome-spec : {M : Type 1} → statement M
 early-outcome-spec =
     tie.close
     (tie.spec
-    table-outcome-requires
-    enum-told
-    enum-told-2
+    (λ c κs. search needs)
+    (λ c. search needs)
+    (λ c. search needs)
     leaf-outcome-requires
     returns
     returns-2

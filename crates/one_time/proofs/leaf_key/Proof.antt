@@ -7,18 +7,6 @@ use Rattle.one_time.proofs.Answers.{leaf-key-limits, leaf-key-refused, 
 use Rattle.one_time.proofs.leaf_key.Statement.{statement}
 use Rattle.one_time.proofs.leaf_key.Tie as tie
 
-leaf-key-outcome-requires : tie.Need-leaf-key-outcome-requires
-leaf-key-outcome-requires c κs = search needs
-
-enum-told : tie.Need-enum-told
-enum-told c = search needs
-
-enum-told-2 : tie.Need-enum-told-2
-enum-told-2 c = search needs
-
-seeded-requires : tie.Need-seeded-requires
-seeded-requires c κs = search needs
-
 key-of-leaf-requires : tie.Need-key-of-leaf-requires
 key-of-leaf-requires c κs =
     let g = c .before .before in
@@ -42,10 +30,10 @@ pub leaf-key-spec : {M : Type 1} → statement M
 leaf-key-spec =
     tie.close
     (tie.spec
-    leaf-key-outcome-requires
-    enum-told
-    enum-told-2
-    seeded-requires
+    (λ c κs. search needs)
+    (λ c. search needs)
+    (λ c. search needs)
+    (λ c κs. search needs)
     key-of-leaf-requires
     returns
     returns-2)

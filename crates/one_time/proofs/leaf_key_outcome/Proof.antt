@@ -5,18 +5,9 @@ use borrow.Author.Needs.{needs}
 use Rattle.refusal.proofs.Causes.{refused-then, granted-none, granted-then}
 use Rattle.profile.specs.Checks.{profileCauses}
 use Rattle.profile.proofs.Limits.{profile-numbered, profile-passed}
-use Rattle.one_time.specs.Operations.{leafKeyNumber}
+use Rattle.one_time.specs.Operations.{leafKeyCode}
 use Rattle.one_time.proofs.leaf_key_outcome.Statement.{statement}
 use Rattle.one_time.proofs.leaf_key_outcome.Tie as tie
-
-check-profile-requires : tie.Need-check-profile-requires
-check-profile-requires c κs = search needs
-
-enum-told : tie.Need-enum-told
-enum-told c = search needs
-
-enum-told-2 : tie.Need-enum-told-2
-enum-told-2 c = search needs
 
 leaf-outcome-requires : tie.Need-leaf-outcome-requires
 leaf-outcome-requires c κs =
@@ -25,13 +16,13 @@ leaf-outcome-requires c κs =
     profile-passed p (granted-none (profileCauses p) [] _ (checked .check-profile .ensures) (c .enum-told2 .given .1)) .1
 
 returns : tie.Need-returns
-unfolding leafKeyNumber
+unfolding leafKeyCode
 returns c =
     let checked = c .before .before in
     refused-then (profileCauses (checked .before .args .p)) _ _ (checked .check-profile .ensures) _ (c .enum-told .given .1)
 
 returns-2 : tie.Need-returns-2
-unfolding leafKeyNumber
+unfolding leafKeyCode
 returns-2 c =
     let checked = c .before .before .before in
     let p = checked .before .args .p in
@@ -40,4 +31,4 @@ returns-2 c =
 pub leaf-key-outcome-spec : {M : Type 1} → statement M
 leaf-key-outcome-spec =
     tie.close
-    (tie.spec check-profile-requires enum-told enum-told-2 leaf-outcome-requires returns returns-2)
+    (tie.spec (λ c κs. search needs) (λ c. search needs) (λ c. search needs) leaf-outcome-requires returns returns-2)

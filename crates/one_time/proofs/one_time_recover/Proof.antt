@@ -12,26 +12,8 @@ use Rattle.one_time.proofs.Answers.{recover-refused, recover-granted}
 use Rattle.one_time.proofs.one_time_recover.Statement.{statement}
 use Rattle.one_time.proofs.one_time_recover.Tie as tie
 
-cast-chains : tie.Need-cast-chains
-cast-chains c = search needs
-
-mul-other : tie.Need-mul-other
-mul-other c = search needs
-
-slice-aggregate-place-row : tie.Need-slice-aggregate-place-row
-slice-aggregate-place-row c = search needs
-
 place-row-requires : tie.Need-place-row-requires
 place-row-requires c κs = (inr refl, refl)
-
-enum-told : tie.Need-enum-told
-enum-told c = search needs
-
-enum-told-2 : tie.Need-enum-told-2
-enum-told-2 c = search needs
-
-seeded-requires : tie.Need-seeded-requires
-seeded-requires c κs = search needs
 
 seed-long : (c : tie.Start) → length (c .args .seed) ≡ 16
 seed-long c = search needs
@@ -48,17 +30,11 @@ recover-key-requires c κs =
     let long : length (now (a .values)) ≡ 16 * a .p .shape .chains = eqb-true _ _ (not-false _ (there .sized)) in
     (omega (arith, there .limits .wide), there .limits .narrow, there .limits .few-chains, omega arith)
 
-same-length : tie.Need-same-length
-same-length c = search needs
-
 returns : tie.Need-returns
 returns c =
     let placed = c .before .before .before .before .before in
     let a = start placed .args in
     recover-refused (a .p) (a .seed) (a .leaf) (value (a .number)) (placed .place-row .ensures) _ (c .enum-told .given .1)
-
-same-length-2 : tie.Need-same-length-2
-same-length-2 c = search needs
 
 returns-2 : tie.Need-returns-2
 returns-2 c =
@@ -72,15 +48,15 @@ pub one-time-recover-spec : {M : Type 1} → statement M
 one-time-recover-spec =
     tie.close
     (tie.spec
-    cast-chains
-    mul-other
-    slice-aggregate-place-row
+    (λ c. search needs)
+    (λ c. search needs)
+    (λ c. search needs)
     place-row-requires
-    enum-told
-    enum-told-2
-    seeded-requires
+    (λ c. search needs)
+    (λ c. search needs)
+    (λ c κs. search needs)
     recover-key-requires
-    same-length
+    (λ c. search needs)
     returns
-    same-length-2
+    (λ c. search needs)
     returns-2)

@@ -12,26 +12,8 @@ use Rattle.one_time.proofs.Answers.{reveal-refused, reveal-granted}
 use Rattle.one_time.proofs.one_time_sign.Statement.{statement}
 use Rattle.one_time.proofs.one_time_sign.Tie as tie
 
-cast-chains : tie.Need-cast-chains
-cast-chains c = search needs
-
-mul-short : tie.Need-mul-short
-mul-short c = search needs
-
-slice-aggregate-place-row : tie.Need-slice-aggregate-place-row
-slice-aggregate-place-row c = search needs
-
 place-row-requires : tie.Need-place-row-requires
 place-row-requires c κs = (inl refl, refl)
-
-enum-told : tie.Need-enum-told
-enum-told c = search needs
-
-enum-told-2 : tie.Need-enum-told-2
-enum-told-2 c = search needs
-
-seeded-requires : tie.Need-seeded-requires
-seeded-requires c κs = search needs
 
 seed-long : (c : tie.Start) → length (c .args .seed) ≡ 16
 seed-long c = search needs
@@ -47,20 +29,11 @@ write-values-requires c κs =
     let there = placed .place-row .ensures .granted (told .enum-told2 .given .1) in
     (there .limits .few-chains, omega (arith, ltb-false (length (now (a .values))) (16 * a .p .shape .chains) (there .sized)))
 
-same-length : tie.Need-same-length
-same-length c = search needs
-
 returns : tie.Need-returns
 returns c =
     let placed = c .before .before .before .before .before in
     let a = start placed .args in
     reveal-refused (a .p) (a .seed) (a .secret) (a .leaf) (value (a .number)) (placed .place-row .ensures) _ (c .enum-told .given .1)
-
-same-length-2 : tie.Need-same-length-2
-same-length-2 c = search needs
-
-same-length-3 : tie.Need-same-length-3
-same-length-3 c = search needs
 
 returns-2 : tie.Need-returns-2
 returns-2 c =
@@ -74,16 +47,16 @@ pub one-time-sign-spec : {M : Type 1} → statement M
 one-time-sign-spec =
     tie.close
     (tie.spec
-    cast-chains
-    mul-short
-    slice-aggregate-place-row
+    (λ c. search needs)
+    (λ c. search needs)
+    (λ c. search needs)
     place-row-requires
-    enum-told
-    enum-told-2
-    seeded-requires
+    (λ c. search needs)
+    (λ c. search needs)
+    (λ c κs. search needs)
     write-values-requires
-    same-length
+    (λ c. search needs)
     returns
-    same-length-2
-    same-length-3
+    (λ c. search needs)
+    (λ c. search needs)
     returns-2)

@@ -6,30 +6,12 @@ use Rattle.one_time.proofs.PlaceLaws.{place-refused, place-unrank}
 use Rattle.one_time.proofs.place_row.Statement.{statement}
 use Rattle.one_time.proofs.place_row.Tie as tie
 
-early-outcome-requires : tie.Need-early-outcome-requires
-early-outcome-requires c κs = search needs
-
-enum-told : tie.Need-enum-told
-enum-told c = search needs
-
-enum-told-2 : tie.Need-enum-told-2
-enum-told-2 c = search needs
-
-unrank-requires : tie.Need-unrank-requires
-unrank-requires c κs = search needs
-
 returns : tie.Need-returns
 returns c =
     let early = c .before .before in
     let start = early .before .before .before in
     let a = start .args in
     place-refused (a .p) (a .leaf) (value (a .number)) (a .wrong) (start .pre .0) (now (a .table)) _ (early .early-outcome .ensures) (now (a .row)) _ (c .enum-told .given .1)
-
-same-length : tie.Need-same-length
-same-length c = search needs
-
-same-length-2 : tie.Need-same-length-2
-same-length-2 c = search needs
 
 returns-2 : tie.Need-returns-2
 returns-2 c =
@@ -44,11 +26,11 @@ pub place-row-spec : {M : Type 1} → statement M
 place-row-spec =
     tie.close
     (tie.spec
-    early-outcome-requires
-    enum-told
-    enum-told-2
-    unrank-requires
+    (λ c κs. search needs)
+    (λ c. search needs)
+    (λ c. search needs)
+    (λ c κs. search needs)
     returns
-    same-length
-    same-length-2
+    (λ c. search needs)
+    (λ c. search needs)
     returns-2)

@@ -8,11 +8,8 @@ use lib.Pow.{shl-exact}
 use Rattle.profile.proofs.capacity.Statement.{statement}
 use Rattle.profile.proofs.capacity.Tie as tie
 
-shl-result : tie.Need-shl-result
-shl-result c = search needs
-
 returns : tie.Need-returns
 returns c = shl-exact 1 (c .args .height) 32 (lit< tt) (omega arith) ∙ one-mul _
 
 pub capacity-spec : {M : Type 1} → statement M
-capacity-spec = tie.close (tie.spec shl-result returns)
+capacity-spec = tie.close (tie.spec (λ c. search needs) returns)

@@ -8,15 +8,6 @@ use Rattle.profile.proofs.Limits.{outside-high, inside, shape-numbered}
 use Rattle.profile.proofs.check_profile.Statement.{statement}
 use Rattle.profile.proofs.check_profile.Tie as tie
 
-check-shape-requires : tie.Need-check-shape-requires
-check-shape-requires c κs = search needs
-
-enum-told : tie.Need-enum-told
-enum-told c = search needs
-
-enum-told-2 : tie.Need-enum-told-2
-enum-told-2 c = search needs
-
 returns : tie.Need-returns
 unfolding profileCauses
 returns c =
@@ -39,4 +30,4 @@ returns-3 c =
 
 pub check-profile-spec : {M : Type 1} → statement M
 check-profile-spec =
-    tie.close (tie.spec check-shape-requires enum-told enum-told-2 returns returns-2 returns-3)
+    tie.close (tie.spec (λ c κs. search needs) (λ c. search needs) (λ c. search needs) returns returns-2 returns-3)

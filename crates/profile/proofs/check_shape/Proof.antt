@@ -24,9 +24,6 @@ returns-4 : tie.Need-returns-4
 unfolding shapeCauses
 returns-4 c = let p = c .before .before .before .before .args .p in rw (inside 1 40 (p .chains) (omega arith) (omega arith), outside-high 2 16 (p .width) (omega arith) (omega arith))
 
-sub-if5 : tie.Need-sub-if5
-sub-if5 c = search needs
-
 mul-if5 : tie.Need-mul-if5
 mul-if5 c =
     let p = c .before .before .before .before .args .p in
@@ -43,4 +40,4 @@ returns-6 c = let p = c .before .before .before .before .before .args .p in rw (
 
 pub check-shape-spec : {M : Type 1} → statement M
 check-shape-spec =
-    tie.close (tie.spec returns returns-2 returns-3 returns-4 sub-if5 mul-if5 returns-5 returns-6)
+    tie.close (tie.spec returns returns-2 returns-3 returns-4 (λ c. search needs) mul-if5 returns-5 returns-6)

@@ -5,20 +5,8 @@ use Rattle.refusal.specs.Code.{outcomeCode}
 use Rattle.refusal.proofs.outcome_number.Statement.{statement}
 use Rattle.refusal.proofs.outcome_number.Tie as tie
 
-enum-told : tie.Need-enum-told
-enum-told c = search needs
-
-enum-known-o : tie.Need-enum-known-o
-enum-known-o c = search needs
-
-number-requires : tie.Need-number-requires
-number-requires c κs = search needs
-
-returns : tie.Need-returns
-returns c = search needs
-
 returns-2 : tie.Need-returns-2
 returns-2 c = c .number .ensures ∙ sym (ap outcomeCode (c .before .before .o .given .1))
 
 pub outcome-number-spec : {M : Type 1} → statement M
-outcome-number-spec = tie.close (tie.spec enum-told enum-known-o number-requires returns returns-2)
+outcome-number-spec = tie.close (tie.spec (λ c. search needs) (λ c. search needs) (λ c κs. search needs) (λ c. search needs) returns-2)

@@ -29,33 +29,12 @@ whole c =
 judge-requires : tie.Need-judge-requires
 judge-requires c κs = let s = c .before .before .before in profile-limits (s .args .p) (s .pre)
 
-enum-known-judged : tie.Need-enum-known-judged
-enum-known-judged c = search needs
-
 cast-t13 : tie.Need-cast-t13
 cast-t13 c =
     let w = c .before in
     let s = w .before .before .before .before .before .before in
     let a = s .args in
     omega (arith, wrong-few (a .p) (now (a .sheet)) (now (a .signature)) (now (a .message)) (s .pre) (w .judged .given .0 .0) (wrong-at w))
-
-enum-known-judged-2 : tie.Need-enum-known-judged-2
-enum-known-judged-2 c = search needs
-
-cast-count : tie.Need-cast-count
-cast-count c = search needs
-
-cast-count-2 : tie.Need-cast-count-2
-cast-count-2 c = search needs
-
-add-count : tie.Need-add-count
-add-count c = search needs
-
-mul-if1 : tie.Need-mul-if1
-mul-if1 c = search needs
-
-add-if1 : tie.Need-add-if1
-add-if1 c = search needs
 
 returns : tie.Need-returns
 returns c =
@@ -85,9 +64,6 @@ sub-copy c =
     let w = whole r in
     omega (arith, text-room (a .p) (now (a .sheet)) (w .signature) (w .text) (whole-apart (a .p) (now (a .sheet)) n w), w .long)
 
-mul-copy : tie.Need-mul-copy
-mul-copy c = search needs
-
 sub-copy-2 : tie.Need-sub-copy-2
 sub-copy-2 c =
     let r = c .before .before .before .before .before .before .before .before .before .before in
@@ -95,9 +71,6 @@ sub-copy-2 c =
     let n = r .judged2 .given .0 .0 in
     let w = whole r in
     omega (arith, text-room (a .p) (now (a .sheet)) (w .signature) (w .text) (whole-apart (a .p) (now (a .sheet)) n w), w .long)
-
-copy-requires : tie.Need-copy-requires
-copy-requires c κs = search needs
 
 cast-t29 : tie.Need-cast-t29
 cast-t29 c =
@@ -114,12 +87,6 @@ returns-3 c =
     let a = s .args in
     wrong-line (a .p) (now (a .sheet)) (now (a .signature)) (now (a .message)) (s .pre) (w .judged .given .0 .0) (wrong-at w)
 
-same-length : tie.Need-same-length
-same-length c = search needs
-
-same-length-2 : tie.Need-same-length-2
-same-length-2 c = search needs
-
 returns-4 : tie.Need-returns-4
 returns-4 c =
     let copied = c .before .before in
@@ -135,23 +102,23 @@ read-checked-spec =
     tie.close
     (tie.spec
     judge-requires
-    enum-known-judged
+    (λ c. search needs)
     cast-t13
-    enum-known-judged-2
-    cast-count
-    cast-count-2
-    add-count
-    mul-if1
-    add-if1
+    (λ c. search needs)
+    (λ c. search needs)
+    (λ c. search needs)
+    (λ c. search needs)
+    (λ c. search needs)
+    (λ c. search needs)
     returns
     returns-2
     copy-signature-requires
     sub-copy
-    mul-copy
+    (λ c. search needs)
     sub-copy-2
-    copy-requires
+    (λ c κs. search needs)
     cast-t29
     returns-3
-    same-length
-    same-length-2
+    (λ c. search needs)
+    (λ c. search needs)
     returns-4)

@@ -8,15 +8,6 @@ use Rattle.sheet.proofs.SheetAnswer.{profile-refused}
 use Rattle.sheet.proofs.read_sheet.Statement.{statement}
 use Rattle.sheet.proofs.read_sheet.Tie as tie
 
-check-profile-requires : tie.Need-check-profile-requires
-check-profile-requires c κs = search needs
-
-enum-told : tie.Need-enum-told
-enum-told c = search needs
-
-enum-told-2 : tie.Need-enum-told-2
-enum-told-2 c = search needs
-
 read-checked-requires : tie.Need-read-checked-requires
 read-checked-requires c κs =
     let told = c .before .before in
@@ -30,12 +21,6 @@ returns c =
     let a = checked .before .before .before .before .args in
     profile-refused (a .p) (now (a .sheet)) (now (a .signature)) (now (a .message)) (checked .check-profile .result) (checked .check-profile .ensures) _ (c .enum-told .given .1)
 
-same-length : tie.Need-same-length
-same-length c = search needs
-
-same-length-2 : tie.Need-same-length-2
-same-length-2 c = search needs
-
 returns-2 : tie.Need-returns-2
 returns-2 c = c .before .before .before .before .read-checked .ensures
 
@@ -43,11 +28,11 @@ pub read-sheet-spec : {M : Type 1} → statement M
 read-sheet-spec =
     tie.close
     (tie.spec
-    check-profile-requires
-    enum-told
-    enum-told-2
+    (λ c κs. search needs)
+    (λ c. search needs)
+    (λ c. search needs)
     read-checked-requires
     returns
-    same-length
-    same-length-2
+    (λ c. search needs)
+    (λ c. search needs)
     returns-2)

@@ -5,12 +5,9 @@ use Rattle.signer.specs.Signing.{advanced}
 use Rattle.signer.proofs.advance.Statement.{statement}
 use Rattle.signer.proofs.advance.Tie as tie
 
-add-t5 : tie.Need-add-t5
-add-t5 c = search needs
-
 returns : tie.Need-returns
 unfolding advanced
 returns c = refl
 
 pub advance-spec : {M : Type 1} → statement M
-advance-spec = tie.close (tie.spec add-t5 returns)
+advance-spec = tie.close (tie.spec (λ c. search needs) returns)

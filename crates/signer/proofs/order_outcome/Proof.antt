@@ -8,14 +8,8 @@ use Rattle.message.specs.Message.{outsideText, signatureLength}
 use Rattle.signer.proofs.order_outcome.Statement.{statement}
 use Rattle.signer.proofs.order_outcome.Tie as tie
 
-outside-text-requires : tie.Need-outside-text-requires
-outside-text-requires c κs = search needs
-
 returns : tie.Need-returns
 returns c = rw (sym (c .before .outside-text .ensures) ∙ c .if1 .taken)
-
-signature-length-requires : tie.Need-signature-length-requires
-signature-length-requires c κs = search needs
 
 text-within : (c : tie.Else1) → outsideText (c .before .before .before .args .text) ≡ false
 text-within c = sym (c .before .outside-text .ensures) ∙ c .if1 .left
@@ -27,9 +21,6 @@ returns-2 : tie.Need-returns-2
 returns-2 c =
     let a = c .before .before .before .before .before .args in
     rw (text-within (c .before .before), lt-ltb (a .bytes) (signatureLength (a .key .profile)) (rw (c .before .signature-length .ensures) at (c .if2 .taken)))
-
-spent-requires : tie.Need-spent-requires
-spent-requires c κs = search needs
 
 returns-3 : tie.Need-returns-3
 returns-3 c =
@@ -45,10 +36,10 @@ pub order-outcome-spec : {M : Type 1} → statement M
 order-outcome-spec =
     tie.close
     (tie.spec
-    outside-text-requires
+    (λ c κs. search needs)
     returns
-    signature-length-requires
+    (λ c κs. search needs)
     returns-2
-    spent-requires
+    (λ c κs. search needs)
     returns-3
     returns-4)

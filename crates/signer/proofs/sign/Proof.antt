@@ -10,15 +10,6 @@ use Rattle.signer.proofs.Answers.{SignFits, number-is, sign-fits, sign-
 use Rattle.signer.proofs.sign.Statement.{statement}
 use Rattle.signer.proofs.sign.Tie as tie
 
-sign-outcome-requires : tie.Need-sign-outcome-requires
-sign-outcome-requires c κs = search needs
-
-enum-told : tie.Need-enum-told
-enum-told c = search needs
-
-enum-told-2 : tie.Need-enum-told-2
-enum-told-2 c = search needs
-
 -- the way on which nothing is refused before the table
 abbrev start : tie.After-enum-told2 → tie.Start
 start g = g .before .before .before .before .before .before
@@ -50,18 +41,6 @@ way-up-requires c κs = let known = fits (c .before .before .before .before) in 
 message-number-requires : tie.Need-message-number-requires
 message-number-requires c κs = fits (c .before .before .before .before .before .before) .short
 
-slice-aggregate-unrank : tie.Need-slice-aggregate-unrank
-slice-aggregate-unrank c = search needs
-
-unrank-requires : tie.Need-unrank-requires
-unrank-requires c κs = search needs
-
-enum-told-3 : tie.Need-enum-told-3
-enum-told-3 c = search needs
-
-enum-told-4 : tie.Need-enum-told-4
-enum-told-4 c = search needs
-
 write-signature-requires : tie.Need-write-signature-requires
 write-signature-requires c κs =
     let unranked = c .before .before .before .before .before .before .before in
@@ -73,9 +52,6 @@ returns c =
     let a = c .before .before .before .before .before .before .args in
     sign-refused (a .key) (a .r) (now (a .message)) (now (a .table)) (now (a .signature)) _ (c .before .before .sign-outcome .ensures) _ (c .enum-told .given .1)
 
-same-length : tie.Need-same-length
-same-length c = search needs
-
 returns-2 : tie.Need-returns-2
 returns-2 c =
     let unranked = c .before .before .before .before .before in
@@ -84,12 +60,6 @@ returns-2 c =
     let a = start g .args in
     sign-seven (a .key) (a .r) (now (a .message)) (now (a .table)) (now (a .signature)) _ (g .before .before .sign-outcome .ensures) (g .enum-told2 .given .1)
     (number numbered) (unranked .unrank .ensures) refl _ (c .enum-told3 .given .1)
-
-same-length-2 : tie.Need-same-length-2
-same-length-2 c = search needs
-
-same-length-3 : tie.Need-same-length-3
-same-length-3 c = search needs
 
 returns-3 : tie.Need-returns-3
 returns-3 c =
@@ -107,20 +77,20 @@ pub sign-spec : {M : Type 1} → statement M
 sign-spec =
     tie.close
     (tie.spec
-    sign-outcome-requires
-    enum-told
-    enum-told-2
+    (λ c κs. search needs)
+    (λ c. search needs)
+    (λ c. search needs)
     advance-requires
     way-up-requires
     message-number-requires
-    slice-aggregate-unrank
-    unrank-requires
-    enum-told-3
-    enum-told-4
+    (λ c. search needs)
+    (λ c κs. search needs)
+    (λ c. search needs)
+    (λ c. search needs)
     write-signature-requires
     returns
-    same-length
+    (λ c. search needs)
     returns-2
-    same-length-2
-    same-length-3
+    (λ c. search needs)
+    (λ c. search needs)
     returns-3)

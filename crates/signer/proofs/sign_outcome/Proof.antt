@@ -8,15 +8,6 @@ use Rattle.signer.proofs.Answers.{signOwn}
 use Rattle.signer.proofs.sign_outcome.Statement.{statement}
 use Rattle.signer.proofs.sign_outcome.Tie as tie
 
-table-outcome-requires : tie.Need-table-outcome-requires
-table-outcome-requires c κs = search needs
-
-enum-told : tie.Need-enum-told
-enum-told c = search needs
-
-enum-told-2 : tie.Need-enum-told-2
-enum-told-2 c = search needs
-
 order-outcome-requires : tie.Need-order-outcome-requires
 order-outcome-requires c κs =
     let a = c .before .before .before .before .args in
@@ -41,9 +32,9 @@ pub sign-outcome-spec : {M : Type 1} → statement M
 sign-outcome-spec =
     tie.close
     (tie.spec
-    table-outcome-requires
-    enum-told
-    enum-told-2
+    (λ c κs. search needs)
+    (λ c. search needs)
+    (λ c. search needs)
     order-outcome-requires
     returns
     returns-2)

@@ -4,12 +4,9 @@ use Rattle.signer.specs.Signing.{spent}
 use Rattle.signer.proofs.spent.Statement.{statement}
 use Rattle.signer.proofs.spent.Tie as tie
 
-capacity-requires : tie.Need-capacity-requires
-capacity-requires c κs = search needs
-
 returns : tie.Need-returns
 unfolding spent
 returns c = rw (c .capacity .ensures)
 
 pub spent-spec : {M : Type 1} → statement M
-spent-spec = tie.close (tie.spec capacity-requires returns)
+spent-spec = tie.close (tie.spec (λ c κs. search needs) returns)

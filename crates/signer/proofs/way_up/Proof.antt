@@ -6,24 +6,6 @@ use Rattle.signer.proofs.WayLaws.{way-siblings, way-root}
 use Rattle.signer.proofs.way_up.Statement.{statement}
 use Rattle.signer.proofs.way_up.Tie as tie
 
-seeded-requires : tie.Need-seeded-requires
-seeded-requires c κs = search needs
-
-slice-aggregate-write-path : tie.Need-slice-aggregate-write-path
-slice-aggregate-write-path c = search needs
-
-write-path-requires : tie.Need-write-path-requires
-write-path-requires c κs = search needs
-
-key-of-leaf-requires : tie.Need-key-of-leaf-requires
-key-of-leaf-requires c κs = search needs
-
-slice-aggregate-climb-path : tie.Need-slice-aggregate-climb-path
-slice-aggregate-climb-path c = search needs
-
-climb-path-requires : tie.Need-climb-path-requires
-climb-path-requires c κs = search needs
-
 seed-long : (s : tie.Start) → length (s .args .key .seed) ≡ 16
 seed-long s = search needs
 
@@ -44,10 +26,10 @@ pub way-up-spec : {M : Type 1} → statement M
 way-up-spec =
     tie.close
     (tie.spec
-    seeded-requires
-    slice-aggregate-write-path
-    write-path-requires
-    key-of-leaf-requires
-    slice-aggregate-climb-path
-    climb-path-requires
+    (λ c κs. search needs)
+    (λ c. search needs)
+    (λ c κs. search needs)
+    (λ c κs. search needs)
+    (λ c. search needs)
+    (λ c κs. search needs)
     returns)

@@ -15,9 +15,6 @@ use Rattle.signer.proofs.Written.{signature-written}
 use Rattle.signer.proofs.write_signature.Statement.{statement}
 use Rattle.signer.proofs.write_signature.Tie as tie
 
-seeded-requires : tie.Need-seeded-requires
-seeded-requires c κs = search needs
-
 abbrev start : tie.After-seeded → tie.Start
 start g = g .before .before .before .before .before .before
 
@@ -50,21 +47,6 @@ slice-aggregate-copy-bytes c =
     let first = second .before .before .before .before in
     sym (longs (start (first .before .before)) .2)
 
-cast-copy-bytes : tie.Need-cast-copy-bytes
-cast-copy-bytes c = search needs
-
-mul-copy-bytes : tie.Need-mul-copy-bytes
-mul-copy-bytes c = search needs
-
-cast-copy-bytes-2 : tie.Need-cast-copy-bytes-2
-cast-copy-bytes-2 c = search needs
-
-mul-copy-bytes-2 : tie.Need-mul-copy-bytes-2
-mul-copy-bytes-2 c = search needs
-
-add-copy-bytes : tie.Need-add-copy-bytes
-add-copy-bytes c = search needs
-
 copy-bytes-requires : tie.Need-copy-bytes-requires
 copy-bytes-requires c κs =
     let third = c .before .before .before .before in
@@ -74,9 +56,6 @@ copy-bytes-requires c κs =
       omega (arith, begin .pre, longs begin .2),
       omega (arith, room begin, first .write-leaf .kept .0, second .write-16 .kept .0, third .write-values .kept .1 .1 .1 .1 .1 .1 .1 .0),
     )
-
-same-length : tie.Need-same-length
-same-length c = search needs
 
 returns : tie.Need-returns
 unfolding signatureLength
@@ -100,16 +79,16 @@ pub write-signature-spec : {M : Type 1} → statement M
 write-signature-spec =
     tie.close
     (tie.spec
-    seeded-requires
+    (λ c κs. search needs)
     write-leaf-requires
     write-16-requires
     write-values-requires
     slice-aggregate-copy-bytes
-    cast-copy-bytes
-    mul-copy-bytes
-    cast-copy-bytes-2
-    mul-copy-bytes-2
-    add-copy-bytes
+    (λ c. search needs)
+    (λ c. search needs)
+    (λ c. search needs)
+    (λ c. search needs)
+    (λ c. search needs)
     copy-bytes-requires
-    same-length
+    (λ c. search needs)
     returns)

@@ -4,12 +4,6 @@ use Rattle.tree.proofs.NodeLaws.{left-taken, right-taken}
 use Rattle.tree.proofs.climb_once.Statement.{statement}
 use Rattle.tree.proofs.climb_once.Tie as tie
 
-parent-requires : tie.Need-parent-requires
-parent-requires c κs = search needs
-
-parent-requires-2 : tie.Need-parent-requires-2
-parent-requires-2 c κs = search needs
-
 returns : tie.Need-returns
 returns c =
     let a = c .before .before .args in
@@ -21,4 +15,4 @@ returns-2 c =
     λ seed long e. right-taken seed _ (a .own) (a .other) (a .index) (c .before .if1 .left) (c .parent2 .ensures seed long e)
 
 pub climb-once-spec : {M : Type 1} → statement M
-climb-once-spec = tie.close (tie.spec parent-requires parent-requires-2 returns returns-2)
+climb-once-spec = tie.close (tie.spec (λ c κs. search needs) (λ c κs. search needs) returns returns-2)

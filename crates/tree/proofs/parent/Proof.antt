@@ -11,21 +11,6 @@ use Rattle.tree.proofs.NodeLaws.{children-taken}
 use Rattle.tree.proofs.parent.Statement.{statement}
 use Rattle.tree.proofs.parent.Tie as tie
 
-node-address-requires : tie.Need-node-address-requires
-node-address-requires c κs = search needs
-
-begin-requires : tie.Need-begin-requires
-begin-requires c κs = search needs
-
-absorb-requires : tie.Need-absorb-requires
-absorb-requires c κs = search needs
-
-absorb-requires-2 : tie.Need-absorb-requires-2
-absorb-requires-2 c κs = search needs
-
-end-requires : tie.Need-end-requires
-end-requires c κs = search needs
-
 left-length : (c : tie.Start) → length (c .args .left) ≡ 16
 left-length c = search needs
 
@@ -51,9 +36,9 @@ pub parent-spec : {M : Type 1} → statement M
 parent-spec =
     tie.close
     (tie.spec
-    node-address-requires
-    begin-requires
-    absorb-requires
-    absorb-requires-2
-    end-requires
+    (λ c κs. search needs)
+    (λ c κs. search needs)
+    (λ c κs. search needs)
+    (λ c κs. search needs)
+    (λ c κs. search needs)
     returns)

@@ -13,18 +13,6 @@ use Rattle.tree.proofs.Answer.{root-refused, root-granted}
 use Rattle.tree.proofs.root.Statement.{statement}
 use Rattle.tree.proofs.root.Tie as tie
 
-check-profile-requires : tie.Need-check-profile-requires
-check-profile-requires c κs = search needs
-
-enum-told : tie.Need-enum-told
-enum-told c = search needs
-
-enum-told-2 : tie.Need-enum-told-2
-enum-told-2 c = search needs
-
-seeded-requires : tie.Need-seeded-requires
-seeded-requires c κs = search needs
-
 node-requires : tie.Need-node-requires
 node-requires c κs =
     let granted = c .before .before in
@@ -56,10 +44,10 @@ pub root-spec : {M : Type 1} → statement M
 root-spec =
     tie.close
     (tie.spec
-    check-profile-requires
-    enum-told
-    enum-told-2
-    seeded-requires
+    (λ c κs. search needs)
+    (λ c. search needs)
+    (λ c. search needs)
+    (λ c κs. search needs)
     node-requires
     returns
     returns-2)

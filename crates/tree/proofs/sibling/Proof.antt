@@ -5,12 +5,6 @@ use Rattle.tree.proofs.Indices.{left-even, right-odd}
 use Rattle.tree.proofs.sibling.Statement.{statement}
 use Rattle.tree.proofs.sibling.Tie as tie
 
-add-result : tie.Need-add-result
-add-result c = search needs
-
-sub-result : tie.Need-sub-result
-sub-result c = search needs
-
 returns : tie.Need-returns
 unfolding sibling
 returns c = rw (left-even (c .before .args .index) (c .if1 .taken))
@@ -20,4 +14,4 @@ unfolding sibling
 returns-2 c = rw (right-odd (c .before .args .index) (c .if1 .left))
 
 pub sibling-spec : {M : Type 1} → statement M
-sibling-spec = tie.close (tie.spec add-result sub-result returns returns-2)
+sibling-spec = tie.close (tie.spec (λ c. search needs) (λ c. search needs) returns returns-2)

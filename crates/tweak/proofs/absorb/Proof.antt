@@ -7,12 +7,6 @@ use Rattle.tweak.proofs.TweakLaws.{more-taken}
 use Rattle.tweak.proofs.absorb.Statement.{statement}
 use Rattle.tweak.proofs.absorb.Tie as tie
 
-slice-aggregate-add : tie.Need-slice-aggregate-add
-slice-aggregate-add c = search needs
-
-add-requires : tie.Need-add-requires
-add-requires c κs = search needs
-
 returns : tie.Need-returns
 returns c =
     let added = c .before in
@@ -21,4 +15,4 @@ returns c =
     λ bytes fits e. more-taken bytes value (omega arith) e (added .add .ensures .state)
 
 pub absorb-spec : {M : Type 1} → statement M
-absorb-spec = tie.close (tie.spec slice-aggregate-add add-requires returns)
+absorb-spec = tie.close (tie.spec (λ c. search needs) (λ c κs. search needs) returns)

@@ -8,12 +8,6 @@ use Rattle.tweak.proofs.TweakLaws.{length-seed-block, more-taken}
 use Rattle.tweak.proofs.begin.Statement.{statement}
 use Rattle.tweak.proofs.begin.Tie as tie
 
-slice-aggregate-add : tie.Need-slice-aggregate-add
-slice-aggregate-add c = search needs
-
-add-requires : tie.Need-add-requires
-add-requires c κs = search needs
-
 returns : tie.Need-returns
 returns c =
     let added = c .before in
@@ -22,4 +16,4 @@ returns c =
     λ seed short e. more-taken (seedBlock seed) address (omega (arith, length-seed-block seed short)) e (added .add .ensures .state)
 
 pub begin-spec : {M : Type 1} → statement M
-begin-spec = tie.close (tie.spec slice-aggregate-add add-requires returns)
+begin-spec = tie.close (tie.spec (λ c. search needs) (λ c κs. search needs) returns)

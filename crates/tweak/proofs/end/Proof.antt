@@ -8,15 +8,9 @@ use Rattle.tweak.proofs.TweakLaws.{front-taken}
 use Rattle.tweak.proofs.end.Statement.{statement}
 use Rattle.tweak.proofs.end.Tie as tie
 
-finish-requires : tie.Need-finish-requires
-finish-requires c κs = search needs
-
-front-requires : tie.Need-front-requires
-front-requires c κs = search needs
-
 returns : tie.Need-returns
 returns c =
     λ bytes e. front-taken bytes e (c .front .ensures ∙ ap (λ (h : Hash). take 16 (wordBytes (h .words))) (c .before .finish .ensures))
 
 pub end-spec : {M : Type 1} → statement M
-end-spec = tie.close (tie.spec finish-requires front-requires returns)
+end-spec = tie.close (tie.spec (λ c κs. search needs) (λ c κs. search needs) returns)

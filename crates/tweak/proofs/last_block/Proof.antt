@@ -6,27 +6,6 @@ use Rattle.tweak.proofs.TweakLaws.{block-made}
 use Rattle.tweak.proofs.last_block.Statement.{statement}
 use Rattle.tweak.proofs.last_block.Tie as tie
 
-array-write-padded : tie.Need-array-write-padded
-array-write-padded c = search needs
-
-array-write-padded-2 : tie.Need-array-write-padded-2
-array-write-padded-2 c = search needs
-
-array-write-padded-3 : tie.Need-array-write-padded-3
-array-write-padded-3 c = search needs
-
-slice-aggregate-put : tie.Need-slice-aggregate-put
-slice-aggregate-put c = search needs
-
-put-requires : tie.Need-put-requires
-put-requires c κs = search needs
-
-slice-aggregate-put-2 : tie.Need-slice-aggregate-put-2
-slice-aggregate-put-2 c = search needs
-
-put-requires-2 : tie.Need-put-requires-2
-put-requires-2 c κs = search needs
-
 returns : tie.Need-returns
 returns c =
     let a = c .before .before .before .before .args in
@@ -37,11 +16,11 @@ pub last-block-spec : {M : Type 1} → statement M
 last-block-spec =
     tie.close
     (tie.spec
-    array-write-padded
-    array-write-padded-2
-    array-write-padded-3
-    slice-aggregate-put
-    put-requires
-    slice-aggregate-put-2
-    put-requires-2
+    (λ c. search needs)
+    (λ c. search needs)
+    (λ c. search needs)
+    (λ c. search needs)
+    (λ c κs. search needs)
+    (λ c. search needs)
+    (λ c κs. search needs)
     returns)

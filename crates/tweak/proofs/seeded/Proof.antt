@@ -7,20 +7,8 @@ use Rattle.tweak.proofs.TweakLaws.{seed-taken}
 use Rattle.tweak.proofs.seeded.Statement.{statement}
 use Rattle.tweak.proofs.seeded.Tie as tie
 
-slice-aggregate-write-16 : tie.Need-slice-aggregate-write-16
-slice-aggregate-write-16 c = search needs
-
-write-16-requires : tie.Need-write-16-requires
-write-16-requires c κs = search needs
-
-start-requires : tie.Need-start-requires
-start-requires c κs = search needs
-
 slice-aggregate-add : tie.Need-slice-aggregate-add
 slice-aggregate-add c = sym (c .before .before .before .write-16 .kept .0)
-
-add-requires : tie.Need-add-requires
-add-requires c κs = search needs
 
 returns : tie.Need-returns
 unfolding seedBlock
@@ -36,9 +24,9 @@ pub seeded-spec : {M : Type 1} → statement M
 seeded-spec =
     tie.close
     (tie.spec
-    slice-aggregate-write-16
-    write-16-requires
-    start-requires
+    (λ c. search needs)
+    (λ c κs. search needs)
+    (λ c κs. search needs)
     slice-aggregate-add
-    add-requires
+    (λ c κs. search needs)
     returns)

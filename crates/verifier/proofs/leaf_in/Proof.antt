@@ -4,12 +4,9 @@ use Rattle.verifier.specs.Verifying.{leafIn}
 use Rattle.verifier.proofs.leaf_in.Statement.{statement}
 use Rattle.verifier.proofs.leaf_in.Tie as tie
 
-word-at-requires : tie.Need-word-at-requires
-word-at-requires c κs = search needs
-
 returns : tie.Need-returns
 unfolding leafIn
 returns c = c .word-at .ensures
 
 pub leaf-in-spec : {M : Type 1} → statement M
-leaf-in-spec = tie.close (tie.spec word-at-requires returns)
+leaf-in-spec = tie.close (tie.spec (λ c κs. search needs) returns)

@@ -9,16 +9,10 @@ use lib.Dec.{leb}
 use Rattle.verifier.proofs.leaf_outcome.Statement.{statement}
 use Rattle.verifier.proofs.leaf_outcome.Tie as tie
 
-capacity-requires : tie.Need-capacity-requires
-capacity-requires c κs = search needs
-
 returns : tie.Need-returns
 returns c =
     let a = c .before .before .before .args in
     rw (le-leb (2 ^ a .v .profile .height) (a .leaf) (omega (arith, c .before .capacity .ensures)))
-
-passed-requires : tie.Need-passed-requires
-passed-requires c κs = search needs
 
 in-tree : (c : tie.Else1) → leb (2 ^ c .before .before .before .args .v .profile .height) (c .before .before .before .args .leaf) ≡ false
 in-tree c =
@@ -32,4 +26,4 @@ returns-3 : tie.Need-returns-3
 returns-3 c = rw (in-tree (c .before .before), sym (c .before .passed .ensures) ∙ c .if2 .left)
 
 pub leaf-outcome-spec : {M : Type 1} → statement M
-leaf-outcome-spec = tie.close (tie.spec capacity-requires returns passed-requires returns-2 returns-3)
+leaf-outcome-spec = tie.close (tie.spec (λ c κs. search needs) returns (λ c κs. search needs) returns-2 returns-3)

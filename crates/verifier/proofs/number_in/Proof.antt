@@ -7,12 +7,6 @@ use Rattle.verifier.specs.Verifying.{randomIn, numberIn}
 use Rattle.verifier.proofs.number_in.Statement.{statement}
 use Rattle.verifier.proofs.number_in.Tie as tie
 
-read-16-requires : tie.Need-read-16-requires
-read-16-requires c κs = search needs
-
-message-number-requires : tie.Need-message-number-requires
-message-number-requires c κs = search needs
-
 returns : tie.Need-returns
 unfolding randomIn numberIn
 returns c =
@@ -21,4 +15,4 @@ returns c =
     c .message-number .ensures ∙ ap (λ r. messageNumber r (a .v .seed) (a .v .root) (now (a .message))) (read .read-16 .ensures)
 
 pub number-in-spec : {M : Type 1} → statement M
-number-in-spec = tie.close (tie.spec read-16-requires message-number-requires returns)
+number-in-spec = tie.close (tie.spec (λ c κs. search needs) (λ c κs. search needs) returns)

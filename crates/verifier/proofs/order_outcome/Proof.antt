@@ -10,14 +10,8 @@ use Rattle.message.specs.Message.{outsideText, signatureLength}
 use Rattle.verifier.proofs.order_outcome.Statement.{statement}
 use Rattle.verifier.proofs.order_outcome.Tie as tie
 
-outside-text-requires : tie.Need-outside-text-requires
-outside-text-requires c κs = search needs
-
 returns : tie.Need-returns
 returns c = rw (sym (c .before .outside-text .ensures) ∙ c .if1 .taken)
-
-signature-length-requires : tie.Need-signature-length-requires
-signature-length-requires c κs = search needs
 
 text-within : (c : tie.Else1) → outsideText (c .before .before .before .before .args .text) ≡ false
 text-within c = sym (c .before .outside-text .ensures) ∙ c .if1 .left
@@ -32,9 +26,6 @@ leaf-in-requires : tie.Need-leaf-in-requires
 unfolding signatureLength
 leaf-in-requires c κs = omega (arith, c .before .signature-length .ensures)
 
-leaf-outcome-requires : tie.Need-leaf-outcome-requires
-leaf-outcome-requires c κs = search needs
-
 returns-3 : tie.Need-returns-3
 returns-3 c =
     let leafed = c .before in
@@ -48,10 +39,10 @@ pub order-outcome-spec : {M : Type 1} → statement M
 order-outcome-spec =
     tie.close
     (tie.spec
-    outside-text-requires
+    (λ c κs. search needs)
     returns
-    signature-length-requires
+    (λ c κs. search needs)
     returns-2
     leaf-in-requires
-    leaf-outcome-requires
+    (λ c κs. search needs)
     returns-3)

@@ -8,23 +8,11 @@ use Rattle.verifier.specs.Verifying.{valuesIn, siblingsIn}
 use Rattle.verifier.proofs.recover_root.Statement.{statement}
 use Rattle.verifier.proofs.recover_root.Tie as tie
 
-seeded-requires : tie.Need-seeded-requires
-seeded-requires c κs = search needs
-
 recover-key-requires : tie.Need-recover-key-requires
 unfolding signatureLength
 recover-key-requires c κs =
     let pre = c .before .before .before .before .before .pre in
     (omega (arith, pre .0 .wide), pre .0 .narrow, pre .0 .few-chains, omega (arith, pre .2))
-
-cast-siblings : tie.Need-cast-siblings
-cast-siblings c = search needs
-
-mul-siblings : tie.Need-mul-siblings
-mul-siblings c = search needs
-
-add-siblings : tie.Need-add-siblings
-add-siblings c = search needs
 
 climb-path-requires : tie.Need-climb-path-requires
 unfolding signatureLength
@@ -50,10 +38,10 @@ pub recover-root-spec : {M : Type 1} → statement M
 recover-root-spec =
     tie.close
     (tie.spec
-    seeded-requires
+    (λ c κs. search needs)
     recover-key-requires
-    cast-siblings
-    mul-siblings
-    add-siblings
+    (λ c. search needs)
+    (λ c. search needs)
+    (λ c. search needs)
     climb-path-requires
     returns)

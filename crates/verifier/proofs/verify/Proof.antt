@@ -8,15 +8,6 @@ use Rattle.verifier.proofs.Answers.{VerifyFits, verify-fits, verify-ref
 use Rattle.verifier.proofs.verify.Statement.{statement}
 use Rattle.verifier.proofs.verify.Tie as tie
 
-verify-outcome-requires : tie.Need-verify-outcome-requires
-verify-outcome-requires c κs = search needs
-
-enum-told : tie.Need-enum-told
-enum-told c = search needs
-
-enum-told-2 : tie.Need-enum-told-2
-enum-told-2 c = search needs
-
 -- the way on which nothing is refused before the table
 abbrev start : tie.After-enum-told2 → tie.Start
 start g = g .before .before .before .before .before .before
@@ -28,18 +19,6 @@ fits g =
 
 number-in-requires : tie.Need-number-in-requires
 number-in-requires c κs = let h = fits (c .before .before) in (h .short, h .front)
-
-slice-aggregate-unrank : tie.Need-slice-aggregate-unrank
-slice-aggregate-unrank c = search needs
-
-unrank-requires : tie.Need-unrank-requires
-unrank-requires c κs = search needs
-
-enum-told-3 : tie.Need-enum-told-3
-enum-told-3 c = search needs
-
-enum-told-4 : tie.Need-enum-told-4
-enum-told-4 c = search needs
 
 -- the place after Spread, and the way to it
 abbrev way : tie.After-unrank → tie.After-enum-told2
@@ -57,17 +36,11 @@ take-leaf-requires c κs = omega (arith, fits (way (unranked (c .before))) .smal
 recover-root-requires : tie.Need-recover-root-requires
 recover-root-requires c κs = let h = fits (way (unranked (c .before .before))) in (h .limits, h .low, h .long)
 
-same-root-requires : tie.Need-same-root-requires
-same-root-requires c κs = search needs
-
 returns : tie.Need-returns
 returns c =
     let checked = c .before .before in
     let a = checked .before .before .before .before .args in
     verify-refused (a .v) (now (a .message)) (now (a .signature)) (now (a .table)) _ (checked .verify-outcome .ensures) _ (c .enum-told .given .1)
-
-same-length : tie.Need-same-length
-same-length c = search needs
 
 returns-2 : tie.Need-returns-2
 returns-2 c =
@@ -75,9 +48,6 @@ returns-2 c =
     let g = way placed in
     let a = start g .args in
     verify-seven (a .v) (now (a .message)) (now (a .signature)) (now (a .table)) _ (g .before .before .verify-outcome .ensures) (g .enum-told2 .given .1) (placed .before .before .before .number-in .ensures) (placed .unrank .ensures) refl _ (c .enum-told3 .given .1)
-
-same-length-2 : tie.Need-same-length-2
-same-length-2 c = search needs
 
 returns-3 : tie.Need-returns-3
 returns-3 c =
@@ -90,9 +60,6 @@ returns-3 c =
     let g = way placed in
     let a = start g .args in
     verify-granted (a .v) (now (a .message)) (now (a .signature)) (now (a .table)) _ (g .before .before .verify-outcome .ensures) (g .enum-told2 .given .1) (placed .before .before .before .number-in .ensures) (placed .unrank .ensures) refl (told .enum-told4 .given .1) (leafed .leaf-in .ensures) (found .recover-root .ensures .0) (found .recover-root .ensures .1) (compared .same-root .ensures) (c .if1 .taken) (advanced .take-leaf .ensures)
-
-same-length-3 : tie.Need-same-length-3
-same-length-3 c = search needs
 
 returns-4 : tie.Need-returns-4
 returns-4 c =
@@ -109,22 +76,22 @@ pub verify-spec : {M : Type 1} → statement M
 verify-spec =
     tie.close
     (tie.spec
-    verify-outcome-requires
-    enum-told
-    enum-told-2
+    (λ c κs. search needs)
+    (λ c. search needs)
+    (λ c. search needs)
     number-in-requires
-    slice-aggregate-unrank
-    unrank-requires
-    enum-told-3
-    enum-told-4
+    (λ c. search needs)
+    (λ c κs. search needs)
+    (λ c. search needs)
+    (λ c. search needs)
     leaf-in-requires
     take-leaf-requires
     recover-root-requires
-    same-root-requires
+    (λ c κs. search needs)
     returns
-    same-length
+    (λ c. search needs)
     returns-2
-    same-length-2
+    (λ c. search needs)
     returns-3
-    same-length-3
+    (λ c. search needs)
     returns-4)

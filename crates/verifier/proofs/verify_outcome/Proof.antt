@@ -9,15 +9,6 @@ use Rattle.verifier.proofs.Answers.{verifyOwn}
 use Rattle.verifier.proofs.verify_outcome.Statement.{statement}
 use Rattle.verifier.proofs.verify_outcome.Tie as tie
 
-table-outcome-requires : tie.Need-table-outcome-requires
-table-outcome-requires c κs = search needs
-
-enum-told : tie.Need-enum-told
-enum-told c = search needs
-
-enum-told-2 : tie.Need-enum-told-2
-enum-told-2 c = search needs
-
 order-outcome-requires : tie.Need-order-outcome-requires
 order-outcome-requires c κs =
     let a = c .before .before .before .before .before .args in
@@ -42,9 +33,9 @@ pub verify-outcome-spec : {M : Type 1} → statement M
 verify-outcome-spec =
     tie.close
     (tie.spec
-    table-outcome-requires
-    enum-told
-    enum-told-2
+    (λ c κs. search needs)
+    (λ c. search needs)
+    (λ c. search needs)
     order-outcome-requires
     returns
     returns-2)

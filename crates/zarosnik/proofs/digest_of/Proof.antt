@@ -7,18 +7,6 @@ use Rattle.zarosnik.proofs.OneShot.{refused-digest, granted-digest}
 use Rattle.zarosnik.proofs.digest_of.Statement.{statement}
 use Rattle.zarosnik.proofs.digest_of.Tie as tie
 
-enum-told : tie.Need-enum-told
-enum-told c = search needs
-
-enum-told-2 : tie.Need-enum-told-2
-enum-told-2 c = search needs
-
-finish-requires : tie.Need-finish-requires
-finish-requires c κs = search needs
-
-digest-requires : tie.Need-digest-requires
-digest-requires c κs = search needs
-
 returns : tie.Need-returns
 returns c = λ bytes adds. refused-digest bytes (c .before .before .args .added) adds _ (c .enum-told .given .1)
 
@@ -29,4 +17,4 @@ returns-2 c = λ bytes adds.
 
 pub digest-of-spec : {M : Type 1} → statement M
 digest-of-spec =
-    tie.close (tie.spec enum-told enum-told-2 finish-requires digest-requires returns returns-2)
+    tie.close (tie.spec (λ c. search needs) (λ c. search needs) (λ c κs. search needs) (λ c κs. search needs) returns returns-2)

@@ -5,11 +5,8 @@ use Rattle.profile.specs.declared.Shape.{Shape}
 use Rattle.zarosnik.proofs.profile.Statement.{statement}
 use Rattle.zarosnik.proofs.profile.Tie as tie
 
-shape-requires : tie.Need-shape-requires
-shape-requires c κs = search needs
-
 returns : tie.Need-returns
 returns c = ap (λ (p : Shape). record { shape = p; height = c .before .args .h }) (c .shape .ensures)
 
 pub profile-spec : {M : Type 1} → statement M
-profile-spec = tie.close (tie.spec shape-requires returns)
+profile-spec = tie.close (tie.spec (λ c κs. search needs) returns)

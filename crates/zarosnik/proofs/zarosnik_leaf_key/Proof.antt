@@ -4,15 +4,6 @@ use Rattle.zarosnik.proofs.Carried.{leaf-key-call}
 use Rattle.zarosnik.proofs.zarosnik_leaf_key.Statement.{statement}
 use Rattle.zarosnik.proofs.zarosnik_leaf_key.Tie as tie
 
-profile-requires : tie.Need-profile-requires
-profile-requires c κs = search needs
-
-leaf-key-requires : tie.Need-leaf-key-requires
-leaf-key-requires c κs = search needs
-
-returned-requires : tie.Need-returned-requires
-returned-requires c κs = search needs
-
 returns : tie.Need-returns
 returns c =
     let operation = c .before .before in
@@ -20,4 +11,4 @@ returns c =
 
 pub zarosnik-leaf-key-spec : {M : Type 1} → statement M
 zarosnik-leaf-key-spec =
-    tie.close (tie.spec profile-requires leaf-key-requires returned-requires returns)
+    tie.close (tie.spec (λ c κs. search needs) (λ c κs. search needs) (λ c κs. search needs) returns)

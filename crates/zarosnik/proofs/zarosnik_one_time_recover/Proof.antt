@@ -4,18 +4,6 @@ use Rattle.zarosnik.proofs.Carried.{recover-call}
 use Rattle.zarosnik.proofs.zarosnik_one_time_recover.Statement.{statement}
 use Rattle.zarosnik.proofs.zarosnik_one_time_recover.Tie as tie
 
-profile-requires : tie.Need-profile-requires
-profile-requires c κs = search needs
-
-one-time-recover-requires : tie.Need-one-time-recover-requires
-one-time-recover-requires c κs = search needs
-
-returned-requires : tie.Need-returned-requires
-returned-requires c κs = search needs
-
-same-length : tie.Need-same-length
-same-length c = search needs
-
 returns : tie.Need-returns
 returns c =
     let operation = c .before .before .before .before in
@@ -24,4 +12,4 @@ returns c =
 pub zarosnik-one-time-recover-spec : {M : Type 1} → statement M
 zarosnik-one-time-recover-spec =
     tie.close
-    (tie.spec profile-requires one-time-recover-requires returned-requires same-length returns)
+    (tie.spec (λ c κs. search needs) (λ c κs. search needs) (λ c κs. search needs) (λ c. search needs) returns)

@@ -4,18 +4,6 @@ use Rattle.zarosnik.proofs.Carried.{rank-call}
 use Rattle.zarosnik.proofs.zarosnik_rank.Statement.{statement}
 use Rattle.zarosnik.proofs.zarosnik_rank.Tie as tie
 
-shape-requires : tie.Need-shape-requires
-shape-requires c κs = search needs
-
-rank-requires : tie.Need-rank-requires
-rank-requires c κs = search needs
-
-returned-requires : tie.Need-returned-requires
-returned-requires c κs = search needs
-
-same-length : tie.Need-same-length
-same-length c = search needs
-
 returns : tie.Need-returns
 returns c =
     let operation = c .before .before .before .before in
@@ -23,4 +11,4 @@ returns c =
 
 pub zarosnik-rank-spec : {M : Type 1} → statement M
 zarosnik-rank-spec =
-    tie.close (tie.spec shape-requires rank-requires returned-requires same-length returns)
+    tie.close (tie.spec (λ c κs. search needs) (λ c κs. search needs) (λ c κs. search needs) (λ c. search needs) returns)

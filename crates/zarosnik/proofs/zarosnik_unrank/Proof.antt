@@ -4,21 +4,6 @@ use Rattle.zarosnik.proofs.Carried.{unrank-call}
 use Rattle.zarosnik.proofs.zarosnik_unrank.Statement.{statement}
 use Rattle.zarosnik.proofs.zarosnik_unrank.Tie as tie
 
-shape-requires : tie.Need-shape-requires
-shape-requires c κs = search needs
-
-unrank-requires : tie.Need-unrank-requires
-unrank-requires c κs = search needs
-
-returned-requires : tie.Need-returned-requires
-returned-requires c κs = search needs
-
-same-length : tie.Need-same-length
-same-length c = search needs
-
-same-length-2 : tie.Need-same-length-2
-same-length-2 c = search needs
-
 returns : tie.Need-returns
 returns c =
     let operation = c .before .before .before .before .before in
@@ -27,4 +12,4 @@ returns c =
 pub zarosnik-unrank-spec : {M : Type 1} → statement M
 zarosnik-unrank-spec =
     tie.close
-    (tie.spec shape-requires unrank-requires returned-requires same-length same-length-2 returns)
+    (tie.spec (λ c κs. search needs) (λ c κs. search needs) (λ c κs. search needs) (λ c. search needs) (λ c. search needs) returns)

@@ -4,18 +4,6 @@ use Rattle.zarosnik.proofs.Carried.{verify-call}
 use Rattle.zarosnik.proofs.zarosnik_verify.Statement.{statement}
 use Rattle.zarosnik.proofs.zarosnik_verify.Tie as tie
 
-profile-requires : tie.Need-profile-requires
-profile-requires c κs = search needs
-
-verify-requires : tie.Need-verify-requires
-verify-requires c κs = search needs
-
-returned-requires : tie.Need-returned-requires
-returned-requires c κs = search needs
-
-same-length : tie.Need-same-length
-same-length c = search needs
-
 returns : tie.Need-returns
 returns c =
     let operation = c .before .before .before .before in
@@ -23,4 +11,4 @@ returns c =
 
 pub zarosnik-verify-spec : {M : Type 1} → statement M
 zarosnik-verify-spec =
-    tie.close (tie.spec profile-requires verify-requires returned-requires same-length returns)
+    tie.close (tie.spec (λ c κs. search needs) (λ c κs. search needs) (λ c κs. search needs) (λ c. search needs) returns)

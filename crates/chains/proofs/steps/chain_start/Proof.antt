@@ -8,12 +8,6 @@ use Rattle.chains.specs.Chains.{chainHead}
 use Rattle.chains.proofs.steps.chain_start.Statement.{statement}
 use Rattle.chains.proofs.steps.chain_start.Tie as tie
 
-chain-start-address-requires : tie.Need-chain-start-address-requires
-chain-start-address-requires c κs = search needs
-
-tweaked-hash-requires : tie.Need-tweaked-hash-requires
-tweaked-hash-requires c κs = search needs
-
 returns : tie.Need-returns
 unfolding chainHead
 returns c =
@@ -24,6 +18,6 @@ pub chain-start-spec : {M : Type 1} → statement M
 chain-start-spec =
     tie.close
     (tie.spec
-    chain-start-address-requires
-    tweaked-hash-requires
+    (λ c κs. search needs)
+    (λ c κs. search needs)
     returns)

@@ -7,12 +7,6 @@ use Rattle.tweak.specs.Tweak.{tweakedHash}
 use Rattle.chains.proofs.steps.chain_step.Statement.{statement}
 use Rattle.chains.proofs.steps.chain_step.Tie as tie
 
-chain-step-address-requires : tie.Need-chain-step-address-requires
-chain-step-address-requires c κs = search needs
-
-tweaked-hash-requires : tie.Need-tweaked-hash-requires
-tweaked-hash-requires c κs = search needs
-
 returns : tie.Need-returns
 returns c =
     λ seed long e.
@@ -22,6 +16,6 @@ pub chain-step-spec : {M : Type 1} → statement M
 chain-step-spec =
     tie.close
     (tie.spec
-    chain-step-address-requires
-    tweaked-hash-requires
+    (λ c κs. search needs)
+    (λ c κs. search needs)
     returns)

@@ -4,12 +4,6 @@ use Rattle.chains.proofs.LeafLaws.{value-at}
 use Rattle.chains.proofs.steps.chain_value.Statement.{statement}
 use Rattle.chains.proofs.steps.chain_value.Tie as tie
 
-chain-start-requires : tie.Need-chain-start-requires
-chain-start-requires c κs = search needs
-
-walk-requires : tie.Need-walk-requires
-walk-requires c κs = search needs
-
 returns : tie.Need-returns
 returns c =
     let walked = c .before in
@@ -18,4 +12,4 @@ returns c =
     λ seed long e. value-at seed (a .secret) (a .layer) (a .tree) (a .leaf .0) (a .chain .0) (a .height) (started .chain-start .ensures seed long e) (walked .walk .ensures .0 seed long e)
 
 pub chain-value-spec : {M : Type 1} → statement M
-chain-value-spec = tie.close (tie.spec chain-start-requires walk-requires returns)
+chain-value-spec = tie.close (tie.spec (λ c κs. search needs) (λ c κs. search needs) returns)

@@ -18,15 +18,6 @@ use Rattle.codewords.proofs.RankLaws.{rowCauses, row-codeword, rank-non
 use Rattle.codewords.proofs.ranking.rank.Statement.{statement}
 use Rattle.codewords.proofs.ranking.rank.Tie as tie
 
-rank-outcome-requires : tie.Need-rank-outcome-requires
-rank-outcome-requires c κs = search needs
-
-enum-told : tie.Need-enum-told
-enum-told c = search needs
-
-enum-told-2 : tie.Need-enum-told-2
-enum-told-2 c = search needs
-
 -- the way on which nothing is refused
 abbrev shape : tie.After-enum-told2 → Shape
 shape c = c .before .before .before .before .before .args .p
@@ -45,15 +36,6 @@ limits c = count-limits (shape c) _ (none c .0)
 
 is-codeword : (c : tie.After-enum-told2) → IsCodeword (shape c .width) (shape c .chains) (shape c .sum) (lengths c)
 is-codeword c = row-codeword (shape c) (lengths c) (none c .1)
-
-cast-chains : tie.Need-cast-chains
-cast-chains c = search needs
-
-cast-width : tie.Need-cast-width
-cast-width c = search needs
-
-cast-sum : tie.Need-cast-sum
-cast-sum c = search needs
 
 fill-requires : tie.Need-fill-requires
 fill-requires c κs =
@@ -77,9 +59,6 @@ returns c =
     let start = c .before .before .before .before .before in
     rank-refused (start .args .p) (now (start .args .table)) (now (start .args .row)) _ (c .before .before .rank-outcome .ensures) _ (c .enum-told .given .1)
 
-same-length : tie.Need-same-length
-same-length c = search needs
-
 returns-2 : tie.Need-returns-2
 returns-2 c =
     let filled = c .before .before .before .before in
@@ -90,14 +69,14 @@ pub rank-spec : {M : Type 1} → statement M
 rank-spec =
     tie.close
     (tie.spec
-    rank-outcome-requires
-    enum-told
-    enum-told-2
-    cast-chains
-    cast-width
-    cast-sum
+    (λ c κs. search needs)
+    (λ c. search needs)
+    (λ c. search needs)
+    (λ c. search needs)
+    (λ c. search needs)
+    (λ c. search needs)
     fill-requires
     number-of-requires
     returns
-    same-length
+    (λ c. search needs)
     returns-2)

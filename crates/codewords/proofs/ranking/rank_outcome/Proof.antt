@@ -17,15 +17,6 @@ use Rattle.codewords.proofs.RankLaws.{sumCause, digitCauses, rowCauses}
 use Rattle.codewords.proofs.ranking.rank_outcome.Statement.{statement}
 use Rattle.codewords.proofs.ranking.rank_outcome.Tie as tie
 
-count-outcome-requires : tie.Need-count-outcome-requires
-count-outcome-requires c κs = search needs
-
-enum-told : tie.Need-enum-told
-enum-told c = search needs
-
-enum-told-2 : tie.Need-enum-told-2
-enum-told-2 c = search needs
-
 -- the way on which Count refuses nothing
 abbrev shape : tie.After-enum-told2 → Shape
 shape c = c .before .before .before .before .args .p
@@ -43,15 +34,6 @@ row-only : (c : tie.After-enum-told2) → firstCause (countCauses (shape c) (wor
 row-only c =
     granted-then (countCauses (shape c) (words c)) (rowCauses (shape c) (lengths c)) _ (c .before .before .count-outcome .ensures) (count-numbered (shape c) (words c)) (c .enum-told2 .given .1)
 
-cast-chains : tie.Need-cast-chains
-cast-chains c = search needs
-
-cast-width : tie.Need-cast-width
-cast-width c = search needs
-
-cast-sum : tie.Need-cast-sum
-cast-sum c = search needs
-
 returns : tie.Need-returns
 returns c =
     let way = c .before .before .before .before in
@@ -63,9 +45,6 @@ granted c = c .before .before .before .before
 
 counted : (c : tie.Else1) → firstCause (rowCauses (shape (granted c)) (lengths (granted c))) ≡ firstCause (digitCauses (shape (granted c)) (lengths (granted c)))
 counted c = rw (eq-eqb (length (lengths (granted c))) (shape (granted c) .chains) (omega arith))
-
-some-above-requires : tie.Need-some-above-requires
-some-above-requires c κs = search needs
 
 returns-2 : tie.Need-returns-2
 returns-2 c =
@@ -103,14 +82,14 @@ pub rank-outcome-spec : {M : Type 1} → statement M
 rank-outcome-spec =
     tie.close
     (tie.spec
-    count-outcome-requires
-    enum-told
-    enum-told-2
-    cast-chains
-    cast-width
-    cast-sum
+    (λ c κs. search needs)
+    (λ c. search needs)
+    (λ c. search needs)
+    (λ c. search needs)
+    (λ c. search needs)
+    (λ c. search needs)
     returns
-    some-above-requires
+    (λ c κs. search needs)
     returns-2
     sum-of-requires
     returns-3

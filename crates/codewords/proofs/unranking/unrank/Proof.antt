@@ -24,15 +24,6 @@ use Rattle.codewords.proofs.UnrankAnswer.{unrankCauses, unrank-none, un
 use Rattle.codewords.proofs.unranking.unrank.Statement.{statement}
 use Rattle.codewords.proofs.unranking.unrank.Tie as tie
 
-unrank-outcome-requires : tie.Need-unrank-outcome-requires
-unrank-outcome-requires c κs = search needs
-
-enum-told : tie.Need-enum-told
-enum-told c = search needs
-
-enum-told-2 : tie.Need-enum-told-2
-enum-told-2 c = search needs
-
 -- the way on which nothing is refused before the table
 abbrev start : tie.After-enum-told2 → tie.Start
 start g = g .before .before .before .before .before
@@ -67,23 +58,11 @@ compared-is c =
     let number = ap value loaded ∙ value-toWords-5 (count p) (D-small (p .width) (p .chains) (p .sum) (omega (arith, h .wide)) (h .narrow) (h .few-chains)) in
     c .less .ensures ∙ ap (ltb (value (start g .args .number))) number
 
-cast-chains : tie.Need-cast-chains
-cast-chains c = search needs
-
-cast-width : tie.Need-cast-width
-cast-width c = search needs
-
-cast-sum : tie.Need-cast-sum
-cast-sum c = search needs
-
 fill-requires : tie.Need-fill-requires
 fill-requires c κs =
     let g = c .before .before .before .before in
     let h = limits g in
     ((omega (arith, h .wide), h .narrow, h .few-chains, sum-small (shape g) h), count-room (shape g) _ (none g))
-
-add-load : tie.Need-add-load
-add-load c = search needs
 
 mul-load : tie.Need-mul-load
 mul-load c = let g = c .before .before .before .before .before .before .before .before in omega (arith, table-small (shape g) (limits g), row-end (shape g .chains) (shape g .sum))
@@ -96,9 +75,6 @@ load-requires c κs =
     let filled = c .before .before .before in
     let g = filled .before .before .before .before .before in
     omega (arith, filled .fill .kept .0, count-room (shape g) _ (none g), row-end (shape g .chains) (shape g .sum))
-
-less-requires : tie.Need-less-requires
-less-requires c κs = search needs
 
 write-codeword-requires : tie.Need-write-codeword-requires
 unfolding count
@@ -146,18 +122,18 @@ pub unrank-spec : {M : Type 1} → statement M
 unrank-spec =
     tie.close
     (tie.spec
-    unrank-outcome-requires
-    enum-told
-    enum-told-2
-    cast-chains
-    cast-width
-    cast-sum
+    (λ c κs. search needs)
+    (λ c. search needs)
+    (λ c. search needs)
+    (λ c. search needs)
+    (λ c. search needs)
+    (λ c. search needs)
     fill-requires
-    add-load
+    (λ c. search needs)
     mul-load
     add-load-2
     load-requires
-    less-requires
+    (λ c κs. search needs)
     write-codeword-requires
     returns
     same-length

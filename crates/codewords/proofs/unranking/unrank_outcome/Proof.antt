@@ -9,18 +9,6 @@ use Rattle.counts.proofs.Room.{count-numbered}
 use Rattle.codewords.proofs.unranking.unrank_outcome.Statement.{statement}
 use Rattle.codewords.proofs.unranking.unrank_outcome.Tie as tie
 
-count-outcome-requires : tie.Need-count-outcome-requires
-count-outcome-requires c κs = search needs
-
-enum-told : tie.Need-enum-told
-enum-told c = search needs
-
-enum-told-2 : tie.Need-enum-told-2
-enum-told-2 c = search needs
-
-cast-chains : tie.Need-cast-chains
-cast-chains c = search needs
-
 returns : tie.Need-returns
 returns c =
     let counted = c .before .before in
@@ -47,4 +35,4 @@ returns-3 c =
 pub unrank-outcome-spec : {M : Type 1} → statement M
 unrank-outcome-spec =
     tie.close
-    (tie.spec count-outcome-requires enum-told enum-told-2 cast-chains returns returns-2 returns-3)
+    (tie.spec (λ c κs. search needs) (λ c. search needs) (λ c. search needs) (λ c. search needs) returns returns-2 returns-3)

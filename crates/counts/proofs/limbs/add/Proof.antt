@@ -13,12 +13,6 @@ high c =
     let start = c .before .before in
     high-sum (start .args .a) (start .args .b) _ _ _ _ (c .before .add-limb .ensures .0) (c .add-with-carry .ensures .0) (start .pre)
 
-add-limb-requires : tie.Need-add-limb-requires
-add-limb-requires c κs = search needs
-
-add-with-carry-requires : tie.Need-add-with-carry-requires
-add-with-carry-requires c κs = search needs
-
 add-t5 : tie.Need-add-t5
 add-t5 c = record { fits = high (c .before .before) .0 }
 
@@ -35,4 +29,4 @@ returns c =
     number-sum (start .args .a) (start .args .b) _ _ _ _ (second .before .add-limb .ensures .0) (second .add-with-carry .ensures .0)
 
 pub add-spec : {M : Type 1} → statement M
-add-spec = tie.close (tie.spec add-limb-requires add-with-carry-requires add-t5 cast-t6 add-t7 returns)
+add-spec = tie.close (tie.spec (λ c κs. search needs) (λ c κs. search needs) add-t5 cast-t6 add-t7 returns)

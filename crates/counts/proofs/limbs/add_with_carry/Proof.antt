@@ -4,12 +4,6 @@ use Rattle.counts.proofs.LimbLaws.{both-small, over-one, carried}
 use Rattle.counts.proofs.limbs.add_with_carry.Statement.{statement}
 use Rattle.counts.proofs.limbs.add_with_carry.Tie as tie
 
-add-limb-requires : tie.Need-add-limb-requires
-add-limb-requires c κs = search needs
-
-add-limb-requires-2 : tie.Need-add-limb-requires-2
-add-limb-requires-2 c κs = search needs
-
 add-t6 : tie.Need-add-t6
 add-t6 c = record { fits = both-small (c .before .before .before .add-limb .ensures .1) (c .before .before .add-limb2 .ensures .1) }
 
@@ -22,4 +16,4 @@ returns c =
     (whole, over-one (start .args .a) (start .args .b) (start .args .carry) _ _ (start .fits .a .fits) (start .fits .b .fits) (start .pre) whole)
 
 pub add-with-carry-spec : {M : Type 1} → statement M
-add-with-carry-spec = tie.close (tie.spec add-limb-requires add-limb-requires-2 add-t6 returns)
+add-with-carry-spec = tie.close (tie.spec (λ c κs. search needs) (λ c κs. search needs) add-t6 returns)

@@ -8,27 +8,6 @@ use Rattle.counts.proofs.LimbLaws.{number-words}
 use Rattle.counts.proofs.limbs.from_words.Statement.{statement}
 use Rattle.counts.proofs.limbs.from_words.Tie as tie
 
-array-read-limb-of : tie.Need-array-read-limb-of
-array-read-limb-of c = search needs
-
-array-read-limb-of-2 : tie.Need-array-read-limb-of-2
-array-read-limb-of-2 c = search needs
-
-limb-of-requires : tie.Need-limb-of-requires
-limb-of-requires c κs = search needs
-
-array-read-limb-of-3 : tie.Need-array-read-limb-of-3
-array-read-limb-of-3 c = search needs
-
-array-read-limb-of-4 : tie.Need-array-read-limb-of-4
-array-read-limb-of-4 c = search needs
-
-limb-of-requires-2 : tie.Need-limb-of-requires-2
-limb-of-requires-2 c κs = search needs
-
-array-read-t19 : tie.Need-array-read-t19
-array-read-t19 c = search needs
-
 returns : tie.Need-returns
 returns c =
     let n : List ℕ = c .before .before .args .t1 in
@@ -39,11 +18,11 @@ pub from-words-spec : {M : Type 1} → statement M
 from-words-spec =
     tie.close
     (tie.spec
-    array-read-limb-of
-    array-read-limb-of-2
-    limb-of-requires
-    array-read-limb-of-3
-    array-read-limb-of-4
-    limb-of-requires-2
-    array-read-t19
+    (λ c. search needs)
+    (λ c. search needs)
+    (λ c κs. search needs)
+    (λ c. search needs)
+    (λ c. search needs)
+    (λ c κs. search needs)
+    (λ c. search needs)
     returns)

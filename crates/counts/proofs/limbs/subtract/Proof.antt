@@ -16,12 +16,6 @@ high c =
     let start = c .before .before in
     high-difference (start .args .a) (start .args .b) _ _ _ _ (c .before .subtract-limb .ensures .0) (c .subtract-with-borrow .ensures .0) (search needs) (search needs) (start .pre)
 
-subtract-limb-requires : tie.Need-subtract-limb-requires
-subtract-limb-requires c κs = search needs
-
-subtract-with-borrow-requires : tie.Need-subtract-with-borrow-requires
-subtract-with-borrow-requires c κs = search needs
-
 sub-t5 : tie.Need-sub-t5
 sub-t5 c = high (c .before .before) .0
 
@@ -38,4 +32,4 @@ returns c =
     number-difference (start .args .a) (start .args .b) _ _ _ _ (second .before .subtract-limb .ensures .0) (second .subtract-with-borrow .ensures .0) _ (high second .2)
 
 pub subtract-spec : {M : Type 1} → statement M
-subtract-spec = tie.close (tie.spec subtract-limb-requires subtract-with-borrow-requires sub-t5 cast-t6 sub-t7 returns)
+subtract-spec = tie.close (tie.spec (λ c κs. search needs) (λ c κs. search needs) sub-t5 cast-t6 sub-t7 returns)

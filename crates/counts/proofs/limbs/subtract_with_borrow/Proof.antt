@@ -5,12 +5,6 @@ use Rattle.counts.proofs.LimbLaws.{both-small, over-one, lent}
 use Rattle.counts.proofs.limbs.subtract_with_borrow.Statement.{statement}
 use Rattle.counts.proofs.limbs.subtract_with_borrow.Tie as tie
 
-subtract-limb-requires : tie.Need-subtract-limb-requires
-subtract-limb-requires c κs = search needs
-
-subtract-limb-requires-2 : tie.Need-subtract-limb-requires-2
-subtract-limb-requires-2 c κs = search needs
-
 add-t6 : tie.Need-add-t6
 add-t6 c = record { fits = both-small (c .before .before .before .subtract-limb .ensures .1) (c .before .before .subtract-limb2 .ensures .1) }
 
@@ -23,4 +17,4 @@ returns c =
     (whole, over-one _ (start .args .b) (start .args .borrow) (start .args .a) _ (search needs) (start .fits .b .fits) (start .pre) (sym whole))
 
 pub subtract-with-borrow-spec : {M : Type 1} → statement M
-subtract-with-borrow-spec = tie.close (tie.spec subtract-limb-requires subtract-limb-requires-2 add-t6 returns)
+subtract-with-borrow-spec = tie.close (tie.spec (λ c κs. search needs) (λ c κs. search needs) add-t6 returns)

@@ -41,12 +41,6 @@ up-is c =
     let at-row = c .before .before in
     c .from-words2 .ensures ∙ ap value (c .before .load .ensures) ∙ above-is at-row (start at-row .args .t) (start at-row .pre .0 .3)
 
-first-cell-requires : tie.Need-first-cell-requires
-first-cell-requires c κs = search needs
-
-from-words-requires : tie.Need-from-words-requires
-from-words-requires c κs = search needs
-
 returns : tie.Need-returns
 returns c =
     let first = c .before .before in
@@ -54,12 +48,6 @@ returns c =
     let limits = first .before .before .pre .0 in
     let exact = value-toWords-5 (D (a .width) 0 (a .t)) (D-small (a .width) 0 (a .t) (limits .0) (limits .1) zero-le) in
     rw (first .if1 .taken) (c .from-words .ensures ∙ ap value (c .before .first-cell .ensures (a .width)) ∙ exact)
-
-sub-above : tie.Need-sub-above
-sub-above c = search needs
-
-add-above : tie.Need-add-above
-add-above c = search needs
 
 mul-above : tie.Need-mul-above
 mul-above c = omega (arith, small c)
@@ -69,9 +57,6 @@ add-above-2 c = omega (arith, small c)
 
 load-requires : tie.Need-load-requires
 load-requires c κs = omega (arith, step c)
-
-from-words-requires-2 : tie.Need-from-words-requires-2
-from-words-requires-2 c κs = search needs
 
 add-requires : tie.Need-add-requires
 add-requires c κs =
@@ -88,14 +73,8 @@ returns-2 c =
     let limits = start at-row .pre .0 in
     grown (a .width) (a .i) (a .t) (limits .0) (limits .1) (some at-row) (limits .2) _ _ (start at-row .pre .1 .1 .1) (up-is (added .before)) _ (c .if2 .taken) (added .add .ensures)
 
-sub-load : tie.Need-sub-load
-sub-load c = search needs
-
 load-requires-2 : tie.Need-load-requires-2
 load-requires-2 c κs = omega (arith, step (c .before .before .before .before))
-
-from-words-requires-3 : tie.Need-from-words-requires-3
-from-words-requires-3 c κs = search needs
 
 -- the number that falls out of the window
 out-is : (c : tie.After-from-words3)
@@ -128,19 +107,19 @@ pub cell-spec : {M : Type 1} → statement M
 cell-spec =
     tie.close
     (tie.spec
-    first-cell-requires
-    from-words-requires
+    (λ c κs. search needs)
+    (λ c κs. search needs)
     returns
-    sub-above
-    add-above
+    (λ c. search needs)
+    (λ c. search needs)
     mul-above
     add-above-2
     load-requires
-    from-words-requires-2
+    (λ c κs. search needs)
     add-requires
     returns-2
-    sub-load
+    (λ c. search needs)
     load-requires-2
-    from-words-requires-3
+    (λ c κs. search needs)
     subtract-requires
     returns-3)

@@ -17,15 +17,6 @@ use Rattle.counts.proofs.TableLaws.{row-end}
 use Rattle.counts.proofs.table.codeword_count.Statement.{statement}
 use Rattle.counts.proofs.table.codeword_count.Tie as tie
 
-count-outcome-requires : tie.Need-count-outcome-requires
-count-outcome-requires c κs = search needs
-
-enum-told : tie.Need-enum-told
-enum-told c = search needs
-
-enum-told-2 : tie.Need-enum-told-2
-enum-told-2 c = search needs
-
 -- the way on which nothing is refused
 abbrev shape : tie.After-enum-told2 → Shape
 shape c = c .before .before .before .before .args .p
@@ -36,23 +27,11 @@ none c = granted-none (countCauses (shape c) _) [] _ (c .before .before .count-o
 limits : (c : tie.After-enum-told2) → InLimits (shape c)
 limits c = count-limits (shape c) _ (none c)
 
-cast-chains : tie.Need-cast-chains
-cast-chains c = search needs
-
-cast-width : tie.Need-cast-width
-cast-width c = search needs
-
-cast-sum : tie.Need-cast-sum
-cast-sum c = search needs
-
 fill-requires : tie.Need-fill-requires
 fill-requires c κs =
     let granted = c .before .before .before .before in
     let h = limits granted in
     ((omega (arith, h .wide), h .narrow, h .few-chains, sum-small (shape granted) h), count-room (shape granted) _ (none granted))
-
-add-load : tie.Need-add-load
-add-load c = search needs
 
 mul-load : tie.Need-mul-load
 mul-load c = let granted = c .before .before .before .before .before .before .before .before in omega (arith, table-small (shape granted) (limits granted), row-end (shape granted .chains) (shape granted .sum))
@@ -85,14 +64,14 @@ pub codeword-count-spec : {M : Type 1} → statement M
 codeword-count-spec =
     tie.close
     (tie.spec
-    count-outcome-requires
-    enum-told
-    enum-told-2
-    cast-chains
-    cast-width
-    cast-sum
+    (λ c κs. search needs)
+    (λ c. search needs)
+    (λ c. search needs)
+    (λ c. search needs)
+    (λ c. search needs)
+    (λ c. search needs)
     fill-requires
-    add-load
+    (λ c. search needs)
     mul-load
     add-load-2
     load-requires

@@ -8,9 +8,6 @@ use Rattle.counts.specs.Table.{countCauses}
 use Rattle.counts.proofs.table.count_outcome.Statement.{statement}
 use Rattle.counts.proofs.table.count_outcome.Tie as tie
 
-check-shape-requires : tie.Need-check-shape-requires
-check-shape-requires c κs = search needs
-
 then-room-requires : tie.Need-then-room-requires
 then-room-requires c κs = λ none. in-limits (c .before .args .p) (sym (c .check-shape .ensures) ∙ none)
 
@@ -22,4 +19,4 @@ returns c =
     c .then-room .ensures ∙ outcome-then (shapeCauses p) _ (checked .check-shape .result) (checked .check-shape .ensures) (shape-numbered p)
 
 pub count-outcome-spec : {M : Type 1} → statement M
-count-outcome-spec = tie.close (tie.spec check-shape-requires then-room-requires returns)
+count-outcome-spec = tie.close (tie.spec (λ c κs. search needs) then-room-requires returns)

@@ -8,9 +8,6 @@ use Rattle.counts.specs.Table.{tableCauses}
 use Rattle.counts.proofs.table.table_outcome.Statement.{statement}
 use Rattle.counts.proofs.table.table_outcome.Tie as tie
 
-check-profile-requires : tie.Need-check-profile-requires
-check-profile-requires c κs = search needs
-
 then-room-requires : tie.Need-then-room-requires
 then-room-requires c κs = λ none. profile-limits (c .before .before .args .p) (sym (c .check-profile .ensures) ∙ none) .0
 
@@ -22,4 +19,4 @@ returns c =
     c .then-room .ensures ∙ outcome-then (profileCauses p) _ (checked .check-profile .result) (checked .check-profile .ensures) (profile-numbered p)
 
 pub table-outcome-spec : {M : Type 1} → statement M
-table-outcome-spec = tie.close (tie.spec check-profile-requires then-room-requires returns)
+table-outcome-spec = tie.close (tie.spec (λ c κs. search needs) then-room-requires returns)

@@ -11,29 +11,11 @@ use Rattle.counts.proofs.Room.{table-small}
 use Rattle.counts.proofs.table.then_room.Statement.{statement}
 use Rattle.counts.proofs.table.then_room.Tie as tie
 
-enum-told : tie.Need-enum-told
-enum-told c = search needs
-
-enum-told-2 : tie.Need-enum-told-2
-enum-told-2 c = search needs
-
 -- the table that is asked for is small
 small : (c : tie.After-struct-known2) → (c .before .before .before .before .args .p .chains + 1) * (c .before .before .before .before .args .p .sum + 1) ≤ 24641
 small c =
     let start = c .before .before .before .before in
     table-small (start .args .p) (start .pre (ap outcomeCode (c .before .before .enum-told2 .given .1)))
-
-cast-chains : tie.Need-cast-chains
-cast-chains c = search needs
-
-cast-sum : tie.Need-cast-sum
-cast-sum c = search needs
-
-add-if1 : tie.Need-add-if1
-add-if1 c = search needs
-
-add-if1-2 : tie.Need-add-if1-2
-add-if1-2 c = search needs
 
 mul-if1 : tie.Need-mul-if1
 mul-if1 c = omega (arith, small c)
@@ -62,12 +44,12 @@ pub then-room-spec : {M : Type 1} → statement M
 then-room-spec =
     tie.close
     (tie.spec
-    enum-told
-    enum-told-2
-    cast-chains
-    cast-sum
-    add-if1
-    add-if1-2
+    (λ c. search needs)
+    (λ c. search needs)
+    (λ c. search needs)
+    (λ c. search needs)
+    (λ c. search needs)
+    (λ c. search needs)
     mul-if1
     mul-if1-2
     returns

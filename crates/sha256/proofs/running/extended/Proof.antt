@@ -14,24 +14,6 @@ use Rattle.sha256.proofs.Extension.{within-block, past-block}
 use Rattle.sha256.proofs.running.extended.Statement.{statement}
 use Rattle.sha256.proofs.running.extended.Tie as tie
 
-cast-total : tie.Need-cast-total
-cast-total c = search needs
-
-sub-room : tie.Need-sub-room
-sub-room c = search needs
-
-kept-requires : tie.Need-kept-requires
-kept-requires c κs = search needs
-
-add-n : tie.Need-add-n
-add-n c = search needs
-
-cast-n : tie.Need-cast-n
-cast-n c = search needs
-
-put-requires : tie.Need-put-requires
-put-requires c κs = search needs
-
 -- the state that came in, the new bytes and the room in the block
 abbrev state : tie.After-kept → Hash
 state c = c .before .before .before .before .before .args .s
@@ -63,27 +45,6 @@ slice-aggregate-put c = let at-kept = c .before .before in sym (length-take-le (
 put-requires-2 : tie.Need-put-requires-2
 put-requires-2 c κs = let at-kept = c .before .before in omega (arith, length-take-le (room at-kept) (added at-kept) (c .before .if1 .left))
 
-sub-more : tie.Need-sub-more
-sub-more c = search needs
-
-part-more-start : tie.Need-part-more-start
-part-more-start c = search needs
-
-part-more-end : tie.Need-part-more-end
-part-more-end c = search needs
-
-slice-aggregate-compress : tie.Need-slice-aggregate-compress
-slice-aggregate-compress c = search needs
-
-compress-requires : tie.Need-compress-requires
-compress-requires c κs = search needs
-
-absorb-requires : tie.Need-absorb-requires
-absorb-requires c κs = search needs
-
-rest-requires : tie.Need-rest-requires
-rest-requires c κs = search needs
-
 returns-2 : tie.Need-returns-2
 unfolding pending
 returns-2 c =
@@ -104,20 +65,20 @@ pub extended-spec : {M : Type 1} → statement M
 extended-spec =
     tie.close
     (tie.spec
-    cast-total
-    sub-room
-    kept-requires
-    add-n
-    cast-n
-    put-requires
+    (λ c. search needs)
+    (λ c. search needs)
+    (λ c κs. search needs)
+    (λ c. search needs)
+    (λ c. search needs)
+    (λ c κs. search needs)
     returns
     slice-aggregate-put
     put-requires-2
-    sub-more
-    part-more-start
-    part-more-end
-    slice-aggregate-compress
-    compress-requires
-    absorb-requires
-    rest-requires
+    (λ c. search needs)
+    (λ c. search needs)
+    (λ c. search needs)
+    (λ c. search needs)
+    (λ c κs. search needs)
+    (λ c κs. search needs)
+    (λ c κs. search needs)
     returns-2)

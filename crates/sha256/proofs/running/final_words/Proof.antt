@@ -13,27 +13,6 @@ use Rattle.sha256.proofs.Padding.{marked, one-block, two-blocks}
 use Rattle.sha256.proofs.running.final_words.Statement.{statement}
 use Rattle.sha256.proofs.running.final_words.Tie as tie
 
-cast-pending : tie.Need-cast-pending
-cast-pending c = search needs
-
-kept-requires : tie.Need-kept-requires
-kept-requires c κs = search needs
-
-slice-aggregate-put : tie.Need-slice-aggregate-put
-slice-aggregate-put c = search needs
-
-put-requires : tie.Need-put-requires
-put-requires c κs = search needs
-
-with-length-requires : tie.Need-with-length-requires
-with-length-requires c κs = search needs
-
-slice-aggregate-compress : tie.Need-slice-aggregate-compress
-slice-aggregate-compress c = search needs
-
-compress-requires : tie.Need-compress-requires
-compress-requires c κs = search needs
-
 -- the state that came in
 abbrev state : tie.After-put → Hash
 state c = c .before .before .before .before .before .args .s
@@ -56,21 +35,6 @@ returns c =
     let s = state (at-put1 c) in
     c .compress .ensures ∙ rw (c .before .before .with-length .ensures, put-marks (at-put1 c)) (one-block (s .words) (take (s .total % 64) (s .block)) (s .total) (long (at-put1 c)) (c .before .before .before .if1 .taken))
 
-with-length-requires-2 : tie.Need-with-length-requires-2
-with-length-requires-2 c κs = search needs
-
-slice-aggregate-compress-2 : tie.Need-slice-aggregate-compress-2
-slice-aggregate-compress-2 c = search needs
-
-compress-requires-2 : tie.Need-compress-requires-2
-compress-requires-2 c κs = search needs
-
-slice-aggregate-compress-3 : tie.Need-slice-aggregate-compress-3
-slice-aggregate-compress-3 c = search needs
-
-compress-requires-3 : tie.Need-compress-requires-3
-compress-requires-3 c κs = search needs
-
 returns-2 : tie.Need-returns-2
 unfolding finished pending
 returns-2 c =
@@ -82,17 +46,17 @@ pub final-words-spec : {M : Type 1} → statement M
 final-words-spec =
     tie.close
     (tie.spec
-    cast-pending
-    kept-requires
-    slice-aggregate-put
-    put-requires
-    with-length-requires
-    slice-aggregate-compress
-    compress-requires
+    (λ c. search needs)
+    (λ c κs. search needs)
+    (λ c. search needs)
+    (λ c κs. search needs)
+    (λ c κs. search needs)
+    (λ c. search needs)
+    (λ c κs. search needs)
     returns
-    with-length-requires-2
-    slice-aggregate-compress-2
-    compress-requires-2
-    slice-aggregate-compress-3
-    compress-requires-3
+    (λ c κs. search needs)
+    (λ c. search needs)
+    (λ c κs. search needs)
+    (λ c. search needs)
+    (λ c κs. search needs)
     returns-2)

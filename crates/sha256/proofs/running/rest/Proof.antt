@@ -11,21 +11,6 @@ use Rattle.sha256.specs.Running.{rest}
 use Rattle.sha256.proofs.running.rest.Statement.{statement}
 use Rattle.sha256.proofs.running.rest.Tie as tie
 
-mul-at : tie.Need-mul-at
-mul-at c = search needs
-
-sub-put : tie.Need-sub-put
-sub-put c = search needs
-
-part-put-start : tie.Need-part-put-start
-part-put-start c = search needs
-
-part-put-end : tie.Need-part-put-end
-part-put-end c = search needs
-
-put-requires : tie.Need-put-requires
-put-requires c κs = search needs
-
 returns : tie.Need-returns
 unfolding rest
 returns c =
@@ -36,4 +21,4 @@ returns c =
     rw left (e ∙ paste-next [] 0 (drop at bytes) 0 64 refl (omega (arith, length-drop at bytes)))
 
 pub rest-spec : {M : Type 1} → statement M
-rest-spec = tie.close (tie.spec mul-at sub-put part-put-start part-put-end put-requires returns)
+rest-spec = tie.close (tie.spec (λ c. search needs) (λ c. search needs) (λ c. search needs) (λ c. search needs) (λ c κs. search needs) returns)

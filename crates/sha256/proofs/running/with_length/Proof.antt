@@ -27,42 +27,6 @@ length-bytes n h =
     let e₀ : n * 8 % 256 ≡ 8 * n / 256 ^ 0 % 256 = omega arith in
     λ i. e₇ i ∷ e₆ i ∷ e₅ i ∷ e₄ i ∷ e₃ i ∷ e₂ i ∷ e₁ i ∷ e₀ i ∷ []
 
-array-write-out : tie.Need-array-write-out
-array-write-out c = search needs
-
-array-write-out-2 : tie.Need-array-write-out-2
-array-write-out-2 c = search needs
-
-array-write-out-3 : tie.Need-array-write-out-3
-array-write-out-3 c = search needs
-
-array-write-out-4 : tie.Need-array-write-out-4
-array-write-out-4 c = search needs
-
-array-write-out-5 : tie.Need-array-write-out-5
-array-write-out-5 c = search needs
-
-cast-out : tie.Need-cast-out
-cast-out c = search needs
-
-array-write-out-6 : tie.Need-array-write-out-6
-array-write-out-6 c = search needs
-
-cast-out-2 : tie.Need-cast-out-2
-cast-out-2 c = search needs
-
-array-write-out-7 : tie.Need-array-write-out-7
-array-write-out-7 c = search needs
-
-mul-out : tie.Need-mul-out
-mul-out c = search needs
-
-cast-out-3 : tie.Need-cast-out-3
-cast-out-3 c = search needs
-
-array-write-out-8 : tie.Need-array-write-out-8
-array-write-out-8 c = search needs
-
 returns : tie.Need-returns
 returns c =
     let block = c .args .block in
@@ -75,16 +39,16 @@ pub with-length-spec : {M : Type 1} → statement M
 with-length-spec =
     tie.close
     (tie.spec
-    array-write-out
-    array-write-out-2
-    array-write-out-3
-    array-write-out-4
-    array-write-out-5
-    cast-out
-    array-write-out-6
-    cast-out-2
-    array-write-out-7
-    mul-out
-    cast-out-3
-    array-write-out-8
+    (λ c. search needs)
+    (λ c. search needs)
+    (λ c. search needs)
+    (λ c. search needs)
+    (λ c. search needs)
+    (λ c. search needs)
+    (λ c. search needs)
+    (λ c. search needs)
+    (λ c. search needs)
+    (λ c. search needs)
+    (λ c. search needs)
+    (λ c. search needs)
     returns)

@@ -4,15 +4,9 @@ use Rattle.sha256_block.specs.Compression.{compress}
 use Rattle.sha256_block.proofs.compression.compress.Statement.{statement}
 use Rattle.sha256_block.proofs.compression.compress.Tie as tie
 
-rounds-requires : tie.Need-rounds-requires
-rounds-requires c κs = search needs
-
-add-words-requires : tie.Need-add-words-requires
-add-words-requires c κs = search needs
-
 returns : tie.Need-returns
 unfolding compress
 returns c = cc
 
 pub compress-spec : {M : Type 1} → statement M
-compress-spec = tie.close (tie.spec rounds-requires add-words-requires returns)
+compress-spec = tie.close (tie.spec (λ c κs. search needs) (λ c κs. search needs) returns)

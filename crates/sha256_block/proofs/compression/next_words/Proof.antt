@@ -10,54 +10,6 @@ use Rattle.sha256_block.proofs.Window.{replaced, replace-next, replaced
 use Rattle.sha256_block.proofs.compression.next_words.Statement.{statement}
 use Rattle.sha256_block.proofs.compression.next_words.Tie as tie
 
-replace-word-requires : tie.Need-replace-word-requires
-replace-word-requires c κs = search needs
-
-replace-word-requires-2 : tie.Need-replace-word-requires-2
-replace-word-requires-2 c κs = search needs
-
-replace-word-requires-3 : tie.Need-replace-word-requires-3
-replace-word-requires-3 c κs = search needs
-
-replace-word-requires-4 : tie.Need-replace-word-requires-4
-replace-word-requires-4 c κs = search needs
-
-replace-word-requires-5 : tie.Need-replace-word-requires-5
-replace-word-requires-5 c κs = search needs
-
-replace-word-requires-6 : tie.Need-replace-word-requires-6
-replace-word-requires-6 c κs = search needs
-
-replace-word-requires-7 : tie.Need-replace-word-requires-7
-replace-word-requires-7 c κs = search needs
-
-replace-word-requires-8 : tie.Need-replace-word-requires-8
-replace-word-requires-8 c κs = search needs
-
-replace-word-requires-9 : tie.Need-replace-word-requires-9
-replace-word-requires-9 c κs = search needs
-
-replace-word-requires-10 : tie.Need-replace-word-requires-10
-replace-word-requires-10 c κs = search needs
-
-replace-word-requires-11 : tie.Need-replace-word-requires-11
-replace-word-requires-11 c κs = search needs
-
-replace-word-requires-12 : tie.Need-replace-word-requires-12
-replace-word-requires-12 c κs = search needs
-
-replace-word-requires-13 : tie.Need-replace-word-requires-13
-replace-word-requires-13 c κs = search needs
-
-replace-word-requires-14 : tie.Need-replace-word-requires-14
-replace-word-requires-14 c κs = search needs
-
-replace-word-requires-15 : tie.Need-replace-word-requires-15
-replace-word-requires-15 c κs = search needs
-
-replace-word-requires-16 : tie.Need-replace-word-requires-16
-replace-word-requires-16 c κs = search needs
-
 long : (start : tie.Start) → length (start .args .ws) ≡ 16
 long start = search needs
 
@@ -108,20 +60,20 @@ pub next-words-spec : {M : Type 1} → statement M
 next-words-spec =
     tie.close
     (tie.spec
-    replace-word-requires
-    replace-word-requires-2
-    replace-word-requires-3
-    replace-word-requires-4
-    replace-word-requires-5
-    replace-word-requires-6
-    replace-word-requires-7
-    replace-word-requires-8
-    replace-word-requires-9
-    replace-word-requires-10
-    replace-word-requires-11
-    replace-word-requires-12
-    replace-word-requires-13
-    replace-word-requires-14
-    replace-word-requires-15
-    replace-word-requires-16
+    (λ c κs. search needs)
+    (λ c κs. search needs)
+    (λ c κs. search needs)
+    (λ c κs. search needs)
+    (λ c κs. search needs)
+    (λ c κs. search needs)
+    (λ c κs. search needs)
+    (λ c κs. search needs)
+    (λ c κs. search needs)
+    (λ c κs. search needs)
+    (λ c κs. search needs)
+    (λ c κs. search needs)
+    (λ c κs. search needs)
+    (λ c κs. search needs)
+    (λ c κs. search needs)
+    (λ c κs. search needs)
     returns)

@@ -5,9 +5,6 @@ use borrow.Author.Needs.{needs}
 use Rattle.sha256_block.proofs.compression.turn_words.Statement.{statement}
 use Rattle.sha256_block.proofs.compression.turn_words.Tie as tie
 
-next-words-requires : tie.Need-next-words-requires
-next-words-requires c κs = search needs
-
 returns : tie.Need-returns
 returns c = (λ e. absurd (omega arith), λ h. c .next-words .ensures)
 
@@ -15,4 +12,4 @@ returns-2 : tie.Need-returns-2
 returns-2 c = (λ e. refl, λ h. absurd (omega arith))
 
 pub turn-words-spec : {M : Type 1} → statement M
-turn-words-spec = tie.close (tie.spec next-words-requires returns returns-2)
+turn-words-spec = tie.close (tie.spec (λ c κs. search needs) returns returns-2)

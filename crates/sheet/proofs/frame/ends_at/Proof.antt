@@ -5,14 +5,8 @@ use denote.Ref.{now}
 use Rattle.sheet.proofs.frame.ends_at.Statement.{statement}
 use Rattle.sheet.proofs.frame.ends_at.Tie as tie
 
-shared-slice-read-result : tie.Need-shared-slice-read-result
-shared-slice-read-result c = search needs
-
-returns : tie.Need-returns
-returns c = search needs
-
 returns-2 : tie.Need-returns-2
 returns-2 c = rw (List·getD-eq-default (now (c .before .args .sheet)) 0 (c .if1 .left))
 
 pub ends-at-spec : {M : Type 1} → statement M
-ends-at-spec = tie.close (tie.spec shared-slice-read-result returns returns-2)
+ends-at-spec = tie.close (tie.spec (λ c. search needs) (λ c. search needs) returns-2)

@@ -17,24 +17,6 @@ few c =
     let a = q .before .before .before .before .args in
     found-few (a .high) (c .n .given .0 .0) (readLine (drop (a .at + 2 * a .fixed) (now (a .sheet)))) (sym (q .line-bytes .ensures) ∙ c .n .given .1)
 
-head-stands-requires : tie.Need-head-stands-requires
-head-stands-requires c κs = search needs
-
-mul-line-bytes : tie.Need-mul-line-bytes
-mul-line-bytes c = search needs
-
-add-line-bytes : tie.Need-add-line-bytes
-add-line-bytes c = search needs
-
-line-bytes-requires : tie.Need-line-bytes-requires
-line-bytes-requires c κs = search needs
-
-enum-told : tie.Need-enum-told
-enum-told c = search needs
-
-enum-known-n : tie.Need-enum-known-n
-enum-known-n c = search needs
-
 add-t16 : tie.Need-add-t16
 add-t16 c = omega (arith, few (c .before .before))
 
@@ -87,12 +69,12 @@ pub frame-spec : {M : Type 1} → statement M
 frame-spec =
     tie.close
     (tie.spec
-    head-stands-requires
-    mul-line-bytes
-    add-line-bytes
-    line-bytes-requires
-    enum-told
-    enum-known-n
+    (λ c κs. search needs)
+    (λ c. search needs)
+    (λ c. search needs)
+    (λ c κs. search needs)
+    (λ c. search needs)
+    (λ c. search needs)
     add-t16
     mul-t17
     add-t18

@@ -5,15 +5,6 @@ use Rattle.sheet.specs.Payload.{byteOr}
 use Rattle.sheet.proofs.payload.byte_or_zero.Statement.{statement}
 use Rattle.sheet.proofs.payload.byte_or_zero.Tie as tie
 
-byte-at-requires : tie.Need-byte-at-requires
-byte-at-requires c κs = search needs
-
-enum-told : tie.Need-enum-told
-enum-told c = search needs
-
-enum-known-b : tie.Need-enum-known-b
-enum-known-b c = search needs
-
 returns : tie.Need-returns
 unfolding byteOr
 returns c = ap byteOr (sym (c .enum-told .given .1) ∙ c .before .before .byte-at .ensures)
@@ -23,4 +14,4 @@ unfolding byteOr
 returns-2 c = ap byteOr (sym (c .before .b .given .1) ∙ c .before .before .before .byte-at .ensures)
 
 pub byte-or-zero-spec : {M : Type 1} → statement M
-byte-or-zero-spec = tie.close (tie.spec byte-at-requires enum-told enum-known-b returns returns-2)
+byte-or-zero-spec = tie.close (tie.spec (λ c κs. search needs) (λ c. search needs) (λ c. search needs) returns returns-2)

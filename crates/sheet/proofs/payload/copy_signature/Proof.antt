@@ -5,18 +5,6 @@ use Rattle.sheet.proofs.PayloadLaws.{signature-copied}
 use Rattle.sheet.proofs.payload.copy_signature.Statement.{statement}
 use Rattle.sheet.proofs.payload.copy_signature.Tie as tie
 
-copy-requires : tie.Need-copy-requires
-copy-requires c κs = search needs
-
-copy-requires-2 : tie.Need-copy-requires-2
-copy-requires-2 c κs = search needs
-
-copy-values-requires : tie.Need-copy-values-requires
-copy-values-requires c κs = search needs
-
-same-length : tie.Need-same-length
-same-length c = search needs
-
 returns : tie.Need-returns
 returns c =
     let third = c .before .before in
@@ -27,4 +15,4 @@ returns c =
 
 pub copy-signature-spec : {M : Type 1} → statement M
 copy-signature-spec =
-    tie.close (tie.spec copy-requires copy-requires-2 copy-values-requires same-length returns)
+    tie.close (tie.spec (λ c κs. search needs) (λ c κs. search needs) (λ c κs. search needs) (λ c. search needs) returns)

@@ -7,21 +7,6 @@ use Rattle.sheet.proofs.PlaceLaws.{finish-kept, finish-wrong, finish-ro
 use Rattle.sheet.proofs.place.finish.Statement.{statement}
 use Rattle.sheet.proofs.place.finish.Tie as tie
 
-frame-requires : tie.Need-frame-requires
-frame-requires c κs = search needs
-
-enum-told : tie.Need-enum-told
-enum-told c = search needs
-
-enum-known-next : tie.Need-enum-known-next
-enum-known-next c = search needs
-
-add-t15 : tie.Need-add-t15
-add-t15 c = search needs
-
-sub-t16 : tie.Need-sub-t16
-sub-t16 c = search needs
-
 sub-t17 : tie.Need-sub-t17
 sub-t17 c =
     let n = c .before .before .next .given in
@@ -56,11 +41,11 @@ pub finish-spec : {M : Type 1} → statement M
 finish-spec =
     tie.close
     (tie.spec
-    frame-requires
-    enum-told
-    enum-known-next
-    add-t15
-    sub-t16
+    (λ c κs. search needs)
+    (λ c. search needs)
+    (λ c. search needs)
+    (λ c. search needs)
+    (λ c. search needs)
     sub-t17
     returns
     returns-2

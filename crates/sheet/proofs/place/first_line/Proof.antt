@@ -7,15 +7,6 @@ use Rattle.sheet.proofs.PlaceLaws.{first-right, first-wrong}
 use Rattle.sheet.proofs.place.first_line.Statement.{statement}
 use Rattle.sheet.proofs.place.first_line.Tie as tie
 
-first-characters-requires : tie.Need-first-characters-requires
-first-characters-requires c κs = search needs
-
-begins-requires : tie.Need-begins-requires
-begins-requires c κs = search needs
-
-ends-at-requires : tie.Need-ends-at-requires
-ends-at-requires c κs = search needs
-
 returns : tie.Need-returns
 returns c =
     let b = c .before .before .before in
@@ -36,9 +27,9 @@ pub first-line-spec : {M : Type 1} → statement M
 first-line-spec =
     tie.close
     (tie.spec
-    first-characters-requires
-    begins-requires
-    ends-at-requires
+    (λ c κs. search needs)
+    (λ c κs. search needs)
+    (λ c κs. search needs)
     returns
     returns-2
     returns-3)

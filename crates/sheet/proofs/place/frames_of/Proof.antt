@@ -7,12 +7,6 @@ use Rattle.sheet.proofs.PlaceLaws.{of-kind, of-head, last-kind}
 use Rattle.sheet.proofs.place.frames_of.Statement.{statement}
 use Rattle.sheet.proofs.place.frames_of.Tie as tie
 
-cast-chains : tie.Need-cast-chains
-cast-chains c = search needs
-
-cast-height : tie.Need-cast-height
-cast-height c = search needs
-
 profile-head-requires : tie.Need-profile-head-requires
 profile-head-requires c κs = let a = c .before .before .before .before .before in (a .pre .1, a .pre .2)
 
@@ -57,8 +51,8 @@ pub frames-of-spec : {M : Type 1} → statement M
 frames-of-spec =
     tie.close
     (tie.spec
-    cast-chains
-    cast-height
+    (λ c. search needs)
+    (λ c. search needs)
     profile-head-requires
     take-frame-requires
     take-frame-requires-2

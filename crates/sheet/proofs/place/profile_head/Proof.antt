@@ -6,23 +6,11 @@ use Rattle.sheet.proofs.PlaceLaws.{two-bytes}
 use Rattle.sheet.proofs.place.profile_head.Statement.{statement}
 use Rattle.sheet.proofs.place.profile_head.Tie as tie
 
-cast-t4 : tie.Need-cast-t4
-cast-t4 c = search needs
-
-cast-t5 : tie.Need-cast-t5
-cast-t5 c = search needs
-
-cast-t6 : tie.Need-cast-t6
-cast-t6 c = search needs
-
 cast-t8 : tie.Need-cast-t8
 cast-t8 c = let p = c .before .before .before .before in omega (arith, sum-small (p .args .p .shape) (p .pre .0))
-
-cast-t10 : tie.Need-cast-t10
-cast-t10 c = search needs
 
 returns : tie.Need-returns
 returns c = let p = c .before .before .before .before in two-bytes (p .args .p .shape .sum) _ _ _ _ (sum-small (p .args .p .shape) (p .pre .0))
 
 pub profile-head-spec : {M : Type 1} → statement M
-profile-head-spec = tie.close (tie.spec cast-t4 cast-t5 cast-t6 cast-t8 cast-t10 returns)
+profile-head-spec = tie.close (tie.spec (λ c. search needs) (λ c. search needs) (λ c. search needs) cast-t8 (λ c. search needs) returns)

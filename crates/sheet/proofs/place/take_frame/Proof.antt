@@ -11,18 +11,6 @@ use Rattle.sheet.proofs.PlaceLaws.{passed-wrong, frame-wrong, frame-nex
 use Rattle.sheet.proofs.place.take_frame.Statement.{statement}
 use Rattle.sheet.proofs.place.take_frame.Tie as tie
 
-frame-requires : tie.Need-frame-requires
-frame-requires c κs = search needs
-
-enum-told : tie.Need-enum-told
-enum-told c = search needs
-
-enum-known-next : tie.Need-enum-known-next
-enum-known-next c = search needs
-
-add-t14 : tie.Need-add-t14
-add-t14 c = search needs
-
 returns : tie.Need-returns
 returns c =
     let f = c .before .before in
@@ -49,4 +37,4 @@ returns-3 c =
 pub take-frame-spec : {M : Type 1} → statement M
 take-frame-spec =
     tie.close
-    (tie.spec frame-requires enum-told enum-known-next add-t14 returns returns-2 returns-3)
+    (tie.spec (λ c κs. search needs) (λ c. search needs) (λ c. search needs) (λ c. search needs) returns returns-2 returns-3)

@@ -15,14 +15,8 @@ mul-t c = omega (arith, product-bound (c .args .x) (c .args .m) (omega arith) (o
 add-t : tie.Need-add-t
 add-t c = omega (arith, product-bound (c .args .x) (c .args .m) (omega arith) (omega arith))
 
-cast-t9 : tie.Need-cast-t9
-cast-t9 c = search needs
-
 cast-t10 : tie.Need-cast-t10
 cast-t10 c = omega (arith, product-bound (c .args .x) (c .args .m) (omega arith) (omega arith))
 
-returns : tie.Need-returns
-returns c = search needs
-
 pub multiply-spec : {M : Type 1} → statement M
-multiply-spec = tie.close (tie.spec mul-t add-t cast-t9 cast-t10 returns)
+multiply-spec = tie.close (tie.spec mul-t add-t (λ c. search needs) cast-t10 (λ c. search needs))

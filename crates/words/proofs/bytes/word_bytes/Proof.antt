@@ -5,21 +5,9 @@ use Rattle.words.specs.Bytes.{toBytes}
 use Rattle.words.proofs.bytes.word_bytes.Statement.{statement}
 use Rattle.words.proofs.bytes.word_bytes.Tie as tie
 
-cast-t4 : tie.Need-cast-t4
-cast-t4 c = search needs
-
-cast-t7 : tie.Need-cast-t7
-cast-t7 c = search needs
-
-cast-t10 : tie.Need-cast-t10
-cast-t10 c = search needs
-
-cast-t12 : tie.Need-cast-t12
-cast-t12 c = search needs
-
 returns : tie.Need-returns
 unfolding toBytes
 returns c = simp div-one
 
 pub word-bytes-spec : {M : Type 1} → statement M
-word-bytes-spec = tie.close (tie.spec cast-t4 cast-t7 cast-t10 cast-t12 returns)
+word-bytes-spec = tie.close (tie.spec (λ c. search needs) (λ c. search needs) (λ c. search needs) (λ c. search needs) returns)

@@ -5,29 +5,20 @@ use borrow.Author.Needs.{needs}
 use borrow.Author.Tests.{lt-ltb, le-ltb}
 use denote.Ref.{now}
 use lib.ListN.{length}
-use Rattle.sha256.specs.Running.{addNumber, addState}
+use Rattle.sha256.specs.Running.{addCode, addState}
 use Rattle.sha256.proofs.running.Hash.add.Statement.{statement}
 use Rattle.sha256.proofs.running.Hash.add.Tie as tie
 
-cast-total : tie.Need-cast-total
-cast-total c = search needs
-
-sub-if1 : tie.Need-sub-if1
-sub-if1 c = search needs
-
 returns : tie.Need-returns
-unfolding addNumber addState
+unfolding addCode addState
 returns c =
     let args = c .before .before .before .args in
     let over : 65535 < args .self .total + length (now (args .bytes)) = omega arith in
     let test = lt-ltb 65535 (args .self .total + length (now (args .bytes))) over in
     record { number = rw test; state = rw test }
 
-extended-requires : tie.Need-extended-requires
-extended-requires c κs = search needs
-
 returns-2 : tie.Need-returns-2
-unfolding addNumber addState
+unfolding addCode addState
 returns-2 c =
     let args = c .before .before .before .before .args in
     let fits : args .self .total + length (now (args .bytes)) ≤ 65535 = omega arith in
@@ -35,4 +26,4 @@ returns-2 c =
     record { number = rw test; state = rw test (c .extended .ensures) }
 
 pub add-spec : {M : Type 1} → statement M
-add-spec = tie.close (tie.spec cast-total sub-if1 returns extended-requires returns-2)
+add-spec = tie.close (tie.spec (λ c. search needs) (λ c. search needs) returns (λ c κs. search needs) returns-2)

@@ -4,15 +4,9 @@ use Rattle.sha256.specs.Running.{finished}
 use Rattle.sha256.proofs.running.Hash.finish.Statement.{statement}
 use Rattle.sha256.proofs.running.Hash.finish.Tie as tie
 
-final-words-requires : tie.Need-final-words-requires
-final-words-requires c κs = search needs
-
-fresh-requires : tie.Need-fresh-requires
-fresh-requires c κs = search needs
-
 returns : tie.Need-returns
 unfolding finished
 returns c = cc
 
 pub finish-spec : {M : Type 1} → statement M
-finish-spec = tie.close (tie.spec final-words-requires fresh-requires returns)
+finish-spec = tie.close (tie.spec (λ c κs. search needs) (λ c κs. search needs) returns)
