@@ -1,14 +1,13 @@
 -- A number below the count names a codeword, whose number it is; the number of a codeword is below the count.
 use mathlib.Core.Path.{_≡_, refl, sym, ap, _∙_}
-use mathlib.Core.Bool.{Bool, true, false}
 use mathlib.Core.Logic.{_⊎_, inl, inr, ⊎-elim}
 use mathlib.Core.List.{List, [], _∷_}
 use Prim.Native.Nat.{ℕ, zero, suc, _+_, _-_, _<_, _≤_}
 use native.Mathlib.Nat.{zero-add, add-zero, not-suc-le-zero, le-of-suc-le-suc, le-refl, eq-or-lt-of-le}
 use native.Mathlib.Omega.{arith}
-use borrow.Author.Tests.{ltb-true, ltb-false, lt-ltb, le-ltb}
-use lib.Dec.{ltb}
+use borrow.Author.Tests.{lt-ltb, le-ltb}
 use lib.ListN.{length, getD}
+use Rattle.words.proofs.Numbers.{lt-or-le}
 use Rattle.counts.specs.Counts.{sumTo, share, D}
 use Rattle.counts.proofs.CountLaws.{share-low, share-high}
 use Rattle.codewords.specs.Codeword.{Placed, place, codeword, rank, total, IsCodeword}
@@ -31,16 +30,8 @@ pub record Found (f : ℕ → ℕ) (first limit n : ℕ) (p : Placed) : Type 0 w
   pub split : n ≡ sumTo f (p .digit) + p .number
   pub holds : p .number < f (p .digit)
 
--- two numbers, compared
-pub lt-or-le : (a b : ℕ) → (a < b) ⊎ (b ≤ a)
-lt-or-le a b = by (ltb a b) refl
-  where
-    by : (t : Bool) → ltb a b ≡ t → (a < b) ⊎ (b ≤ a)
-    by true test = inl (ltb-true a b test)
-    by false test = inr (ltb-false a b test)
-
 -- a search that has taken off the shares before j
-pub place-finds : (f : ℕ → ℕ) (tries j n : ℕ) → sumTo f j + n < sumTo f (j + tries) → Found f j (j + tries) (sumTo f j + n) (place f tries j n)
+place-finds : (f : ℕ → ℕ) (tries j n : ℕ) → sumTo f j + n < sumTo f (j + tries) → Found f j (j + tries) (sumTo f j + n) (place f tries j n)
 unfolding sumTo
 place-finds f zero j n within = absurd (omega (arith, rw add-zero at within))
 place-finds f (suc tries) j n within = by (lt-or-le n (f j)) (place-finds f tries (suc j) (n - f j))
@@ -60,7 +51,7 @@ place-finds f (suc tries) j n within = by (lt-or-le n (f j)) (place-finds f trie
         (record { from = omega arith; below = omega arith; split = sym taken ∙ found .split; holds = found .holds })
 
 -- a search from the start
-pub place-found : (f : ℕ → ℕ) (w n : ℕ) → n < sumTo f w → Found f 0 w n (place f w 0 n)
+place-found : (f : ℕ → ℕ) (w n : ℕ) → n < sumTo f w → Found f 0 w n (place f w 0 n)
 unfolding sumTo
 place-found f w n within = simp zero-add at (place-finds f w 0 n (simp zero-add within))
 
@@ -130,7 +121,7 @@ front is =
     }
 
 -- a sum has each of its terms above the terms before it
-pub sum-term : (f : ℕ → ℕ) (a b : ℕ) → a < b → sumTo f a + f a ≤ sumTo f b
+sum-term : (f : ℕ → ℕ) (a b : ℕ) → a < b → sumTo f a + f a ≤ sumTo f b
 unfolding sumTo
 sum-term f a zero h = absurd (not-suc-le-zero h)
 sum-term f a (suc b) h =

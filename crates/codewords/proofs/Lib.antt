@@ -1,8 +1,8 @@
 -- The laws that belong to no one function.
-pub mod AfterChecks
 pub mod CodewordLaws
 pub mod OrderLaws
 pub mod RankLaws
+pub mod RowLaws
 pub mod SearchLaws
 pub mod Steps
 pub mod TableOperation

@@ -6,15 +6,17 @@ use Prim.Native.Nat.{ℕ, suc, _-_, _<_, _≤_}
 use native.Mathlib.Nat.{eq-or-lt-of-le, le-refl}
 use native.Mathlib.Omega.{arith}
 use lib.ListN.{length, getD}
-use Rattle.counts.specs.Counts.{sumTo, share, D}
+use Rattle.words.proofs.Numbers.{lt-or-le}
+use Rattle.counts.specs.Counts.{sumTo, share, D, count}
 use Rattle.codewords.specs.Codeword.{Before, codeword, rank, total, IsCodeword}
-use Rattle.codewords.proofs.CodewordLaws.{codeword-valid, rank-codeword, lt-or-le, front, rank-below, rank-lt}
+use Rattle.codewords.specs.Operations.{RankUnrank}
+use Rattle.codewords.proofs.CodewordLaws.{codeword-valid, rank-codeword, front, rank-below, rank-lt}
 
 -- one row is before the other, or they are the same
-abbrev pub Compared : List ℕ → List ℕ → Type 0
+abbrev Compared : List ℕ → List ℕ → Type 0
 Compared xs ys = Before xs ys ⊎ (xs ≡ ys) ⊎ Before ys xs
 
-pub compared : (xs ys : List ℕ) → length xs ≡ length ys → Compared xs ys
+compared : (xs ys : List ℕ) → length xs ≡ length ys → Compared xs ys
 compared [] [] long = inr (inl refl)
 compared [] (b ∷ ys) long = absurd (omega arith)
 compared (a ∷ xs) [] long = absurd (omega arith)
@@ -31,7 +33,7 @@ compared (a ∷ xs) (b ∷ ys) long = by (lt-or-le a b) (compared xs ys (omega a
     by (inr over) others = at-most (eq-or-lt-of-le over) others
 
 -- the earlier codeword has the smaller number
-pub before-rank : (w i t : ℕ) (xs ys : List ℕ) → IsCodeword w i t xs → IsCodeword w i t ys → Before xs ys → rank w t xs < rank w t ys
+before-rank : (w i t : ℕ) (xs ys : List ℕ) → IsCodeword w i t xs → IsCodeword w i t ys → Before xs ys → rank w t xs < rank w t ys
 unfolding rank
 before-rank w i t [] ys is-x is-y before = absurd before
 before-rank w i t (a ∷ xs) [] is-x is-y before = absurd before
@@ -47,17 +49,25 @@ before-rank w i t (a ∷ xs) (b ∷ ys) is-x is-y (inr later) =
     rw (later .0, long) (omega (arith, before-rank w (length xs) (t - b) xs ys rest-x rest-y (later .1)))
 
 -- two codewords with one number are the same
-pub rank-injective : (w i t : ℕ) (xs ys : List ℕ) → IsCodeword w i t xs → IsCodeword w i t ys → rank w t xs ≡ rank w t ys → xs ≡ ys
+rank-injective : (w i t : ℕ) (xs ys : List ℕ) → IsCodeword w i t xs → IsCodeword w i t ys → rank w t xs ≡ rank w t ys → xs ≡ ys
 rank-injective w i t xs ys is-x is-y same =
     ⊎-elim (λ before. absurd (omega (arith, before-rank w i t xs ys is-x is-y before)))
     (⊎-elim (λ e. e) (λ after. absurd (omega (arith, before-rank w i t ys xs is-y is-x after))))
     (compared xs ys (omega arith))
 
 -- the codeword with the number of a codeword
-pub codeword-rank : (w i t : ℕ) (row : List ℕ) → IsCodeword w i t row → codeword w i t (rank w t row) ≡ row
+codeword-rank : (w i t : ℕ) (row : List ℕ) → IsCodeword w i t row → codeword w i t (rank w t row) ≡ row
 codeword-rank w i t row is =
     let below = rank-lt w i t row is in
     rank-injective w i t (codeword w i t (rank w t row)) row (codeword-valid w i t _ below) is (rank-codeword w i t _ below)
+
+pub rank-unrank : RankUnrank
+unfolding count
+rank-unrank =
+    record {
+      ranked = λ p n below. rank-codeword (p .width) (p .chains) (p .sum) n below;
+      unranked = λ p row is. (rank-lt (p .width) (p .chains) (p .sum) row is, codeword-rank (p .width) (p .chains) (p .sum) row is);
+    }
 
 -- the sum of a row that is at most another at each place
 total-le : (xs ys : List ℕ) → length xs ≡ length ys → ((c : ℕ) → c < length xs → getD xs c 0 ≤ getD ys c 0) → total xs ≤ total ys
@@ -67,7 +77,7 @@ total-le (a ∷ xs) [] long most = absurd (omega arith)
 total-le (a ∷ xs) (b ∷ ys) long most = omega (arith, most 0 (omega arith), total-le xs ys (omega arith) (λ c h. most (suc c) (omega arith)))
 
 -- it is the same, where the sums are
-pub same-total : (xs ys : List ℕ) → length xs ≡ length ys → ((c : ℕ) → c < length xs → getD xs c 0 ≤ getD ys c 0) → total xs ≡ total ys → xs ≡ ys
+same-total : (xs ys : List ℕ) → length xs ≡ length ys → ((c : ℕ) → c < length xs → getD xs c 0 ≤ getD ys c 0) → total xs ≡ total ys → xs ≡ ys
 unfolding total
 same-total [] [] long most same = refl
 same-total [] (b ∷ ys) long most same = absurd (omega arith)

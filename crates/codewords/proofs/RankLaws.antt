@@ -3,28 +3,29 @@ use mathlib.Core.Path.{_≡_, refl, sym, ap, _∙_}
 use mathlib.Core.Bool.{Bool, true, false, not, _||_, true≢false}
 use mathlib.Core.List.{List, [], _∷_, _++_}
 use Prim.Native.Nat.{ℕ, zero, suc, _+_, _-_, _*_, _^_, _<_, _≤_}
-use native.Mathlib.Nat.{le-of-suc-le-suc, lt-of-le-of-lt, lt-trans, le-refl, mul-le-mul-right, suc-mul}
+use native.Mathlib.Nat.{le-of-suc-le-suc, lt-of-le-of-lt, lt-trans, le-refl}
 use native.Mathlib.Numerals.{add-one}
 use native.Mathlib.Omega.{arith}
-use borrow.Author.Tests.{le-leb, lt-leb, leb-false, eqb-true, eq-eqb, not-false}
+use borrow.Author.Tests.{le-leb, lt-leb, leb-false, eqb-true, eqb-false, eq-eqb, ne-eqb, not-false}
 use lib.Dec.{leb, eqb}
-use lib.ListN.{length, getD, take, drop, length-take, length-drop, drop-of-length-le}
+use lib.ListN.{length, getD, take, drop, length-drop, drop-of-length-le}
 use lib.Seq.{drop-cons}
 use Rattle.refusal.specs.Code.{outcomeCode, firstCause}
 use Rattle.refusal.specs.declared.Refusal.{Refusal}
 use Rattle.refusal.specs.declared.Outcome.{Outcome}
 use Rattle.refusal.specs.declared.Outcome.the-variants.{Granted, Refused}
-use Rattle.refusal.proofs.Causes.{none-here, none-of-append, granted-none, refused-number}
+use Rattle.refusal.proofs.Causes.{Avoids, avoids-append, none-here, none-of-append, granted-none, refused-number}
 use Rattle.words.specs.Number.{value, toWords}
 use Rattle.words.proofs.NumberLaws.{value-toWords-5}
 use Rattle.profile.specs.declared.Shape.{Shape}
 use Rattle.counts.specs.Counts.{sumTo, share, D}
-use Rattle.counts.specs.Table.{rows, tableLength, withTable, countCauses}
+use Rattle.counts.specs.Table.{rows, withTable, countCauses, leavesTable}
 use Rattle.counts.proofs.CountLaws.{sumTo-cong, sumTo-mono, share-low, D-small}
-use Rattle.counts.proofs.Room.{count-numbered}
-use Rattle.counts.proofs.TableLaws.{length-rows, cell-of}
+use Rattle.counts.proofs.Answer.{table-kept, table-left}
+use Rattle.counts.proofs.Room.{count-early, count-numbered}
+use Rattle.counts.proofs.TableLaws.{cell-of}
 use Rattle.codewords.specs.Codeword.{rank, total, IsCodeword}
-use Rattle.codewords.specs.Operations.{someAbove, rankCode, Ranks}
+use Rattle.codewords.specs.Operations.{numberOf, someAbove, rowCauses, rankCode, Ranks}
 use Rattle.codewords.proofs.CodewordLaws.{Front, front, rank-lt}
 
 -- the lengths from a place on, the first of them apart
@@ -55,6 +56,20 @@ module _ (row : List ℕ) (i : ℕ) (past : length row ≤ i) where
   unfolding rank
   rank-end w t = rw (drop-of-length-le row past)
 
+-- the lengths before a place taken off a sum: what is left of it, and what the lengths from there on add up to, tell whether the sum is the row's
+module _ (row : List ℕ) (sum left rest : ℕ) (e : left + total row ≡ sum + rest) where
+  -- more than is left
+  pub sum-other : left < rest → true ≡ not (eqb (total row) sum)
+  sum-other h = rw (ne-eqb (total row) sum (λ same. omega arith))
+
+  -- nothing more
+  pub sum-ends : rest ≡ 0 → not (eqb left 0) ≡ not (eqb (total row) sum)
+  sum-ends h = ap not (by (eqb left 0) refl)
+    where
+      by : (none : Bool) → eqb left 0 ≡ none → none ≡ eqb (total row) sum
+      by true z = sym (eq-eqb (total row) sum (omega (arith, eqb-true left 0 z)))
+      by false z = sym (ne-eqb (total row) sum (λ same. eqb-false left 0 z (omega arith)))
+
 -- a row with no length above w − 1
 none-above : (w : ℕ) (row : List ℕ) → someAbove w row ≡ false → (c : ℕ) → c < length row → getD row c 0 < w
 unfolding someAbove
@@ -72,27 +87,27 @@ pub skip-begins : {number : List ℕ} (f : ℕ → ℕ) → number ≡ toWords 5
 unfolding sumTo
 skip-begins f e = e ∙ ap (toWords 5) (omega arith)
 
-pub skip-next : (number : List ℕ) (f : ℕ → ℕ) {j digit : ℕ} → j < digit → value number + sumTo f digit < 2 ^ 160
-    → {n r : List ℕ} (share : List ℕ) → n ≡ toWords 5 (value number + sumTo f j) → value share ≡ f j → r ≡ toWords 5 (value n + value share)
-    → r ≡ toWords 5 (value number + sumTo f (j + 1))
-unfolding sumTo
-skip-next number f {j} {digit} more small {n} share so-far next added =
-    let below : value number + sumTo f j ≤ value number + sumTo f digit = omega (arith, sumTo-mono f j digit (omega arith)) in
-    let before : value n ≡ value number + sumTo f j = ap value so-far ∙ value-toWords-5 _ (lt-of-le-of-lt below small) in
-    added ∙ ap (toWords 5) (rw add-one (omega arith))
+-- the next of them is added
+module _ (number : List ℕ) (f : ℕ → ℕ) {j digit : ℕ} (more : j < digit) (small : value number + sumTo f digit < 2 ^ 160)
+    {n : List ℕ} (share : List ℕ) (so-far : n ≡ toWords 5 (value number + sumTo f j)) (next : value share ≡ f j) where
+  sum-next : value n + value share ≡ value number + sumTo f (j + 1)
+  unfolding sumTo
+  sum-next =
+      let below : value number + sumTo f j ≤ value number + sumTo f digit = omega (arith, sumTo-mono f j digit (omega arith)) in
+      let before : value n ≡ value number + sumTo f j = ap value so-far ∙ value-toWords-5 _ (lt-of-le-of-lt below small) in
+      rw add-one (omega arith)
+
+  pub skip-fits : value n + value share < 2 ^ 160
+  skip-fits =
+      let within : value n + value share ≤ value number + sumTo f digit = omega (arith, sum-next, sumTo-mono f (j + 1) digit (omega arith)) in
+      lt-of-le-of-lt within small
+
+  pub skip-next : {r : List ℕ} → r ≡ toWords 5 (value n + value share) → r ≡ toWords 5 (value number + sumTo f (j + 1))
+  skip-next added = added ∙ ap (toWords 5) sum-next
 
 -- the numbers of a table from a place down
 abbrev pub downFrom : List ℕ → ℕ → ℕ → ℕ
 downFrom table above j = value (take 5 (drop (5 * (above - j)) table))
-
--- a table that holds n rows
-module _ (w s n : ℕ) (table : List ℕ) (holds : take (5 * (n * (s + 1))) table ≡ rows w s n) where
-  table-long : 5 * (n * (s + 1)) ≤ length table
-  table-long = omega (arith, length-take (5 * (n * (s + 1))) table, ap length holds, length-rows w s n)
-
-  -- there is room for each number of its rows
-  pub cell-within : (i t : ℕ) → i < n → t ≤ s → 5 * (i * (s + 1) + t) + 5 ≤ length table
-  cell-within i t above within = omega (arith, table-long, suc-mul i (s + 1), mul-le-mul-right (s + 1) above)
 
 -- Gather at a place of a codeword: the lengths from there on, with their sum, are a codeword, and n is what its number lacks of that of the row
 pub record Left (w s : ℕ) (row : List ℕ) (place left : ℕ) (n : List ℕ) : Type 0 where
@@ -174,22 +189,14 @@ unfolding someAbove
 all-below w [] h = refl
 all-below w (a ∷ row) h = rw (lt-leb w a (h 0 (omega arith)), all-below w row (λ c l. h (suc c) (omega arith)))
 
--- the causes of Gather behind those of Count, from the last on
+-- the causes of Gather that look at the row
 module _ (p : Shape) (row : List ℕ) where
-  abbrev pub sumCause : List (Bool × ℕ)
-  sumCause = (not (eqb (total row) (p .sum)), 10) ∷ []
-
-  abbrev pub digitCauses : List (Bool × ℕ)
-  digitCauses = (someAbove (p .width) row, 9) ∷ sumCause
-
-  abbrev pub rowCauses : List (Bool × ℕ)
-  rowCauses = (not (eqb (length row) (p .chains)), 8) ∷ digitCauses
-
   -- where none holds, the row is a codeword
-  pub row-codeword : firstCause rowCauses ≡ 0 → IsCodeword (p .width) (p .chains) (p .sum) row
+  pub row-codeword : firstCause (rowCauses p row) ≡ 0 → IsCodeword (p .width) (p .chains) (p .sum) row
   row-codeword none =
-      let long = none-here (not (eqb (length row) (p .chains))) 8 digitCauses refl none in
-      let above = none-here (someAbove (p .width) row) 9 sumCause refl (long .1) in
+      let last : List (Bool × ℕ) = (not (eqb (total row) (p .sum)), 10) ∷ [] in
+      let long = none-here (not (eqb (length row) (p .chains))) 8 ((someAbove (p .width) row, 9) ∷ last) refl none in
+      let above = none-here (someAbove (p .width) row) 9 last refl (long .1) in
       let summed = none-here (not (eqb (total row) (p .sum))) 10 [] refl (above .1) in
       let chains : length row ≡ p .chains = eqb-true (length row) (p .chains) (not-false _ (long .0)) in
       record {
@@ -199,18 +206,24 @@ module _ (p : Shape) (row : List ℕ) where
       }
 
   -- a codeword meets none of them
-  pub codeword-passes : IsCodeword (p .width) (p .chains) (p .sum) row → firstCause rowCauses ≡ 0
+  pub codeword-passes : IsCodeword (p .width) (p .chains) (p .sum) row → firstCause (rowCauses p row) ≡ 0
   codeword-passes h =
       let below = all-below (p .width) row (λ c l. h .digits c (rw (h .chains) at l)) in
       rw (eq-eqb (length row) (p .chains) (h .chains), below, eq-eqb (total row) (p .sum) (h .sum))
 
 -- what Gather answers, refused and granted
-module _ (p : Shape) (work row : List ℕ) (o : Outcome) (e : outcomeCode o ≡ firstCause (countCauses p (length work) ++ rowCauses p row)) where
-  pub rank-refused : (r : Refusal) → o ≡ Refused r → Ranks p work row work (record { outcome = o; number = 0 ∷ 0 ∷ 0 ∷ 0 ∷ 0 ∷ [] })
+module _ (p : Shape) (row work : List ℕ) (o : Outcome) (e : outcomeCode o ≡ firstCause (countCauses p (length work) ++ rowCauses p row)) where
+  rank-early : Avoids leavesTable (countCauses p (length work) ++ rowCauses p row)
+  rank-early = avoids-append leavesTable (countCauses p (length work)) (rowCauses p row) (count-early p (length work)) (refl, (refl, (refl, tt)))
+
+  pub rank-refused : (r : Refusal) → o ≡ Refused r → Ranks p row work work (record { outcome = o; number = 0 ∷ 0 ∷ 0 ∷ 0 ∷ 0 ∷ [] })
   unfolding rankCode toWords
   rank-refused r q =
-      let test = refused-number o (firstCause (countCauses p (length work) ++ rowCauses p row)) r e q in
-      record { number = e; ranked = rw test; table = rw test }
+      record {
+        code = e;
+        ranked = rw (refused-number o (rankCode p row work) r e q);
+        table = table-kept p work (countCauses p (length work) ++ rowCauses p row) o rank-early e e r q;
+      }
 
   -- nothing is refused: neither the table nor the row
   pub rank-none : o ≡ Granted → (firstCause (countCauses p (length work)) ≡ 0) × (firstCause (rowCauses p row) ≡ 0)
@@ -218,9 +231,8 @@ module _ (p : Shape) (work row : List ℕ) (o : Outcome) (e : outcomeCode o ≡ 
       none-of-append (countCauses p (length work)) (rowCauses p row) (count-numbered p (length work))
       (granted-none (countCauses p (length work) ++ rowCauses p row) [] o e q)
 
-  pub rank-granted : (left n : List ℕ) → o ≡ Granted → left ≡ rows (p .width) (p .sum) (p .chains + 1) ++ drop (5 * ((p .chains + 1) * (p .sum + 1))) work
-      → n ≡ toWords 5 (rank (p .width) (p .sum) row) → Ranks p work row left (record { outcome = o; number = n })
-  unfolding rankCode withTable tableLength
+  pub rank-granted : (left n : List ℕ) → o ≡ Granted → left ≡ withTable p work → n ≡ toWords 5 (numberOf p row) → Ranks p row work left (record { outcome = o; number = n })
+  unfolding rankCode
   rank-granted left n q filled ranked =
       let none = granted-none (countCauses p (length work) ++ rowCauses p row) [] o e q in
-      record { number = e; ranked = rw none ranked; table = rw none filled }
+      record { code = e; ranked = rw none ranked; table = table-left p work 0 none refl filled }

@@ -9,14 +9,15 @@ use native.Mathlib.Numerals.{add-one}
 use native.Mathlib.Omega.{arith}
 use borrow.Author.Tests.{ltb-true, ltb-false}
 use lib.Dec.{ltb}
-use lib.ListN.{length, take, drop, set}
-use lib.Seq.{take-suc-set, drop-set-lt, drop-drop}
+use lib.ListN.{length, take, set}
+use lib.Seq.{take-suc-set}
 use Rattle.words.specs.Number.{value, toWords}
-use Rattle.words.proofs.NumberLaws.{value-toWords-5, subtract-exact}
+use Rattle.words.proofs.NumberLaws.{value-toWords-5}
+use Rattle.words.proofs.Numbers.{lt-or-le}
 use Rattle.counts.specs.Counts.{sumTo, share, D}
 use Rattle.counts.proofs.CountLaws.{sumTo-mono, share-low, share-high, D-small}
 use Rattle.codewords.specs.Codeword.{place, codeword}
-use Rattle.codewords.proofs.CodewordLaws.{place-here, place-next, lt-or-le, first}
+use Rattle.codewords.proofs.CodewordLaws.{place-here, place-next, first}
 
 -- shares past the sum add nothing
 past : (f : ℕ → ℕ) (t j n : ℕ) → t < j → sumTo (share f t) (j + n) ≡ sumTo (share f t) j
@@ -50,7 +51,7 @@ found f w j m room h = place-here f (w - j) j m h (omega arith)
 
 -- the codeword of i + 1 lengths from the length found
 module _ (w i t n j m : ℕ) (e : place (share (D w i) t) w 0 n ≡ record { digit = j; number = m }) where
-  pub codeword-next : codeword w (suc i) t n ≡ j ∷ codeword w i (t - j) m
+  codeword-next : codeword w (suc i) t n ≡ j ∷ codeword w i (t - j) m
   unfolding codeword
   codeword-next = rw e
 
@@ -63,11 +64,6 @@ module _ (w i t n j m : ℕ) (e : place (share (D w i) t) w 0 n ≡ record { dig
   row-next row whole k h p =
       rw (add-one k, take-suc-set row k j h, append-assoc) (ap (λ l. take k row ++ l) (sym codeword-next) ∙ p)
 
--- what is behind the lengths stays
-pub behind-next : (row old : List ℕ) (k a : ℕ) → drop k row ≡ drop k old → drop (k + 1) (set row k a) ≡ drop (k + 1) old
-behind-next row old k a e =
-    drop-set-lt (k + 1) row k a (omega arith) ∙ sym (drop-drop 1 k row) ∙ ap (drop 1) e ∙ drop-drop 1 k old
-
 -- a number of the table that is read, compared and taken off
 module _ (w i t j : ℕ) (one : 1 ≤ w) (narrow : w ≤ 16) (few : i ≤ 40) (within : j ≤ t) (n s : List ℕ) (p : s ≡ toWords 5 (D w i (t - j))) where
   share-is : value s ≡ share (D w i) t j
@@ -79,12 +75,6 @@ module _ (w i t j : ℕ) (one : 1 ≤ w) (narrow : w ≤ 16) (few : i ≤ 40) (w
   pub too-small : ltb (value n) (value s) ≡ false → share (D w i) t j ≤ value n
   too-small e = rw share-is at (ltb-false (value n) (value s) e)
 
-  pub taken-off : (r : List ℕ) → n ≡ toWords 5 (value n) → value n < 2 ^ 160 → share (D w i) t j ≤ value n → r ≡ toWords 5 (value n + 2 ^ 160 - value s)
-      → (r ≡ toWords 5 (value r)) × (value r ≡ value n - share (D w i) t j)
-  taken-off r c small h e =
-      let share′ : share (D w i) t j ≡ D w i (t - j) = share-low (D w i) t j within in
-      let exact : r ≡ toWords 5 (value n - share (D w i) t j) =
-      e ∙ rw p (ap (λ k. toWords 5 (k + 2 ^ 160 - value (toWords 5 (D w i (t - j))))) (ap value c) ∙ subtract-exact (value n) (D w i (t - j)) small (rw share′ at h) ∙ ap (λ k. toWords 5 (value n - k)) (sym share′)) in
-      let number : value r ≡ value n - share (D w i) t j =
-      ap value exact ∙ value-toWords-5 (value n - share (D w i) t j) (lt-of-le-of-lt (sub-le (value n) (share (D w i) t j)) small) in
-      (exact ∙ ap (toWords 5) (sym number), number)
+  pub taken-off : (r : List ℕ) → value n < 2 ^ 160 → r ≡ toWords 5 (value n - value s) → value r ≡ value n - share (D w i) t j
+  taken-off r small e =
+      ap value e ∙ value-toWords-5 (value n - value s) (lt-of-le-of-lt (sub-le (value n) (value s)) small) ∙ ap (λ k. value n - k) share-is

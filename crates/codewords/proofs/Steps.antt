@@ -10,7 +10,7 @@ use lib.Seq.{take-suc}
 use Rattle.codewords.specs.Codeword.{total, IsCodeword, stepsLeft}
 use Rattle.codewords.proofs.CodewordLaws.{front}
 
-pub steps-append : (w : ℕ) (row : List ℕ) (a : ℕ) → stepsLeft w (row ++ (a ∷ [])) ≡ stepsLeft w row + (w - 1 - a)
+steps-append : (w : ℕ) (row : List ℕ) (a : ℕ) → stepsLeft w (row ++ (a ∷ [])) ≡ stepsLeft w row + (w - 1 - a)
 unfolding stepsLeft
 steps-append w [] a = omega arith
 steps-append w (b ∷ row) a = omega (arith, steps-append w row a)

@@ -1,85 +1,60 @@
 -- What Spread answers and leaves: refused before the table, refused by 7, and granted.
-use mathlib.Core.Path.{_≡_, refl, _∙_, ap, sym}
-use mathlib.Core.Bool.{Bool, false}
-use mathlib.Core.List.{List, [], _∷_, _++_, append-assoc}
-use Prim.Native.Nat.{ℕ, _+_, _*_, _<_, _≤_}
-use native.Mathlib.Omega.{arith}
-use borrow.Author.Tests.{ltb-false, le-ltb, le-leb, lt-leb}
-use lib.Dec.{ltb, leb, eqb}
+use mathlib.Core.Path.{_≡_, refl, sym}
+use mathlib.Core.Bool.{Bool}
+use mathlib.Core.List.{List, [], _∷_, _++_}
+use Prim.Native.Nat.{ℕ, _<_, _≤_}
+use borrow.Author.Tests.{ltb-false}
+use lib.Dec.{ltb}
 use lib.ListN.{length, drop}
 use Rattle.refusal.specs.Code.{outcomeCode, firstCause}
 use Rattle.refusal.specs.declared.Refusal.{Refusal}
 use Rattle.refusal.specs.declared.Refusal.the-variants.{NumberTooLarge}
 use Rattle.refusal.specs.declared.Outcome.{Outcome}
 use Rattle.refusal.specs.declared.Outcome.the-variants.{Granted, Refused}
-use Rattle.refusal.proofs.Causes.{without-append, cause-passed, none-here, none-then, none-of-append, refused-then, refused-some, refused-without, granted-none}
+use Rattle.refusal.proofs.Causes.{none-here}
+use Rattle.profile.specs.Checks.{InLimits}
 use Rattle.profile.specs.declared.Shape.{Shape}
 use Rattle.counts.specs.Counts.{count}
-use Rattle.counts.specs.Table.{rows, tableLength, withTable, countCauses}
-use Rattle.counts.proofs.Room.{count-numbered, count-without}
-use Rattle.codewords.specs.Codeword.{codeword}
-use Rattle.codewords.specs.Operations.{unrankCode, Unranks}
+use Rattle.counts.specs.Table.{tableLength, withTable, countCauses}
+use Rattle.counts.proofs.Answer.{table-left}
+use Rattle.counts.proofs.Room.{count-early, count-limits, count-room}
+use Rattle.codewords.specs.Operations.{rowOf, unrankCode, Unranks}
+use Rattle.codewords.proofs.TableOperation.{none-before, refused-before, refused-by-seven, past-seven}
 
--- the causes before the table is filled
-abbrev pub unrankCauses : Shape → (words bytes : ℕ) → List (Bool × ℕ)
-unrankCauses p words bytes = countCauses p words ++ ((ltb bytes (p .chains), 6) ∷ [])
+-- the cause of its own before the table, and all of those
+abbrev six : Shape → (row : List ℕ) → List (Bool × ℕ)
+six p row = (ltb (length row) (p .chains), 6) ∷ []
 
--- where Count passes and the row has room, 7 is left
-pub unrank-last : (p : Shape) (n : ℕ) (work row : List ℕ) → firstCause (countCauses p (length work)) ≡ 0 → p .chains ≤ length row
-    → unrankCode p n work row ≡ firstCause ((leb (count p) n, 7) ∷ [])
-unfolding unrankCode
-unrank-last p n work row none room =
-    let last : List (Bool × ℕ) = (leb (count p) n, 7) ∷ [] in
-    none-then (countCauses p (length work)) ((ltb (length row) (p .chains), 6) ∷ last) none (count-numbered p (length work))
-    ∙ cause-passed (ltb (length row) (p .chains)) 6 last (le-ltb (length row) (p .chains) room)
+abbrev pub earlyCauses : Shape → (work row : List ℕ) → List (Bool × ℕ)
+earlyCauses p work row = countCauses p (length work) ++ six p row
 
-module _ (p : Shape) (n : ℕ) (work row : List ℕ) (o : Outcome) (e : outcomeCode o ≡ firstCause (unrankCauses p (length work) (length row))) where
-  early : List (Bool × ℕ)
-  early = unrankCauses p (length work) (length row)
+module _ (p : Shape) (work row : List ℕ) (o : Outcome) (e : outcomeCode o ≡ firstCause (earlyCauses p work row)) where
+  -- granted so far: the shape is within its limits, and both slices are long enough
+  pub unrank-ready : o ≡ Granted → InLimits p × (tableLength p ≤ length work) × (p .chains ≤ length row)
+  unrank-ready q =
+      let none = none-before p work (countCauses p (length work)) (six p row) (count-early p (length work)) (refl, tt) o e q in (
+        count-limits p (length work) (none .0),
+        count-room p (length work) (none .0),
+        ltb-false (length row) (p .chains) (none-here (ltb (length row) (p .chains)) 6 [] refl (none .1) .0),
+      )
 
-  -- all causes: those, and then 7
-  causes-split : unrankCode p n work row ≡ firstCause (early ++ ((leb (count p) n, 7) ∷ []))
-  unfolding unrankCode early
-  causes-split = ap firstCause (sym (append-assoc (countCauses p (length work)) ((ltb (length row) (p .chains), 6) ∷ []) ((leb (count p) n, 7) ∷ [])))
+  pub unrank-refused : (n : ℕ) (r : Refusal) → o ≡ Refused r → Unranks p n work row work row o
+  unfolding unrankCode
+  unrank-refused n r q =
+      let refuses = refused-before p work (countCauses p (length work)) (six p row) (count-early p (length work)) (refl, tt) o e n [] (unrankCode p n work row) refl r q in
+      record { code = refuses .answer; table = refuses .table; written = rw (refuses .some) }
 
-  -- granted so far: the first causes do not hold, and the row has room
-  pub unrank-none : o ≡ Granted → firstCause (countCauses p (length work)) ≡ 0
-  unfolding early
-  unrank-none q =
-      none-of-append (countCauses p (length work)) ((ltb (length row) (p .chains), 6) ∷ []) (count-numbered p (length work)) (granted-none early [] o e q) .0
-
-  pub unrank-room : o ≡ Granted → p .chains ≤ length row
-  unfolding early
-  unrank-room q =
-      let rest = none-of-append (countCauses p (length work)) ((ltb (length row) (p .chains), 6) ∷ []) (count-numbered p (length work)) (granted-none early [] o e q) .1 in
-      ltb-false (length row) (p .chains) (none-here (ltb (length row) (p .chains)) 6 [] refl rest .0)
-
-  pub unrank-refused : (r : Refusal) → o ≡ Refused r → Unranks p n work row work row o
-  unfolding early
-  unrank-refused r q =
-      let last : List (Bool × ℕ) = (leb (count p) n, 7) ∷ [] in
-      let number : outcomeCode o ≡ unrankCode p n work row = refused-then early last o e r q ∙ sym causes-split in
-      let some : eqb (unrankCode p n work row) 0 ≡ false = ap (λ k. eqb k 0) causes-split ∙ refused-some early last o e r q in
-      let without = without-append 7 (countCauses p (length work)) ((ltb (length row) (p .chains), 6) ∷ []) (count-without p (length work) 7 (omega arith)) (refl, tt) in
-      let not-seven : eqb (unrankCode p n work row) 7 ≡ false = ap (λ k. eqb k 7) causes-split ∙ refused-without early last o e r q 7 refl without in
-      record { number = number; table = rw (some, not-seven); written = rw some }
-
-  module _ (q : o ≡ Granted) (left : List ℕ) (filled : left ≡ rows (p .width) (p .sum) (p .chains + 1) ++ drop (5 * ((p .chains + 1) * (p .sum + 1))) work) where
-    with-table : left ≡ withTable p work
-    unfolding withTable tableLength
-    with-table = filled
-
-    number-then : unrankCode p n work row ≡ firstCause ((leb (count p) n, 7) ∷ [])
-    number-then = unrank-last p n work row (unrank-none q) (unrank-room q)
-
+  module _ (n : ℕ) (q : o ≡ Granted) {left : List ℕ} (filled : left ≡ withTable p work) where
     -- the number is not below the count
     pub unrank-seven : count p ≤ n → Unranks p n work row left row (Refused NumberTooLarge)
+    unfolding unrankCode
     unrank-seven h =
-        let seven : unrankCode p n work row ≡ 7 = number-then ∙ rw (le-leb (count p) n h) in
-        record { number = sym seven; table = rw seven with-table; written = rw seven }
+        let refuses = refused-by-seven p work (countCauses p (length work)) (six p row) (count-early p (length work)) (refl, tt) o e n [] (unrankCode p n work row) refl q h filled in
+        record { code = refuses .answer; table = refuses .table; written = rw (refuses .some) }
 
     -- the codeword is written
-    pub unrank-granted : (row′ : List ℕ) → n < count p → row′ ≡ codeword (p .width) (p .chains) (p .sum) n ++ drop (p .chains) row → Unranks p n work row left row′ Granted
-    unrank-granted row′ h w =
-        let zero′ : unrankCode p n work row ≡ 0 = number-then ∙ rw (lt-leb (count p) n h) in
-        record { number = sym zero′; table = rw zero′ with-table; written = rw zero′ w }
+    pub unrank-granted : {row′ : List ℕ} → n < count p → row′ ≡ rowOf p n ++ drop (p .chains) row → Unranks p n work row left row′ Granted
+    unfolding unrankCode
+    unrank-granted h written =
+        let none = past-seven p work (countCauses p (length work)) (six p row) (count-early p (length work)) (refl, tt) o e n [] (unrankCode p n work row) refl q h in
+        record { code = sym none; table = table-left p work 0 none refl filled; written = rw none written }

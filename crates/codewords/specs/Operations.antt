@@ -2,7 +2,7 @@
 use mathlib.Core.Path.{_≡_}
 use mathlib.Core.Bool.{Bool, false, not, _||_, cond}
 use mathlib.Core.List.{List, [], _∷_, _++_}
-use Prim.Native.Nat.{ℕ}
+use Prim.Native.Nat.{ℕ, _<_}
 use lib.Dec.{ltb, leb, eqb}
 use lib.ListN.{length, drop}
 use Rattle.refusal.specs.Code.{outcomeCode, firstCause}
@@ -10,13 +10,17 @@ use Rattle.refusal.specs.declared.Outcome.{Outcome}
 use Rattle.words.specs.Number.{toWords}
 use Rattle.profile.specs.declared.Shape.{Shape}
 use Rattle.counts.specs.Counts.{count}
-use Rattle.counts.specs.Table.{withTable, countCauses}
-use Rattle.codewords.specs.Codeword.{codeword, rank, total}
+use Rattle.counts.specs.Table.{countCauses, tableAfter}
+use Rattle.codewords.specs.Codeword.{codeword, rank, total, IsCodeword}
 use Rattle.codewords.specs.declared.ranking.Ranked.{Ranked}
 
 -- "A row belongs to a number when the placing rule above gives that row for it"
 abbrev pub rowOf : Shape → ℕ → List ℕ
 rowOf p n = codeword (p .width) (p .chains) (p .sum) n
+
+-- the number of a row
+abbrev pub numberOf : Shape → List ℕ → ℕ
+numberOf p row = rank (p .width) (p .sum) row
 
 -- "Spread, number to row: 1, 2, 3, 5; 6 output under l bytes; 7 number not below the count"
 unfoldable pub unrankCode : Shape → ℕ → (work row : List ℕ) → ℕ
@@ -26,24 +30,30 @@ unrankCode p n work row =
 
 -- what Spread answers and leaves: the table after a success and after 7, the row after a success, nothing else
 pub record Unranks (p : Shape) (n : ℕ) (work row work′ row′ : List ℕ) (r : Outcome) : Type 0 where
-  pub number : outcomeCode r ≡ unrankCode p n work row
-  pub table : work′ ≡ cond (eqb (unrankCode p n work row) 0 || eqb (unrankCode p n work row) 7) (withTable p work) work
-  pub written : row′ ≡ cond (eqb (unrankCode p n work row) 0) (codeword (p .width) (p .chains) (p .sum) n ++ drop (p .chains) row) row
+  pub code : outcomeCode r ≡ unrankCode p n work row
+  pub table : work′ ≡ tableAfter (unrankCode p n work row) p work
+  pub written : row′ ≡ cond (eqb (unrankCode p n work row) 0) (rowOf p n ++ drop (p .chains) row) row
 
 -- "a length above w − 1"
 unfoldable pub someAbove : ℕ → List ℕ → Bool
 someAbove w [] = false
 someAbove w (a ∷ row) = leb w a || someAbove w row
 
+-- the causes of Gather that look at the row
+abbrev pub rowCauses : Shape → List ℕ → List (Bool × ℕ)
+rowCauses p row = (not (eqb (length row) (p .chains)), 8) ∷ (someAbove (p .width) row, 9) ∷ (not (eqb (total row) (p .sum)), 10) ∷ []
+
 -- "Gather, row to number: 1, 2, 3, 5; 8 the row hasn't l bytes; 9 a length above w − 1; 10 sum other than s"
-unfoldable pub rankCode : Shape → (work row : List ℕ) → ℕ
-rankCode p work row =
-    firstCause
-    (countCauses p (length work)
-    ++ ((not (eqb (length row) (p .chains)), 8) ∷ (someAbove (p .width) row, 9) ∷ (not (eqb (total row) (p .sum)), 10) ∷ []))
+unfoldable pub rankCode : Shape → (row work : List ℕ) → ℕ
+rankCode p row work = firstCause (countCauses p (length work) ++ rowCauses p row)
 
 -- what Gather answers and leaves; refused, the number is zero
-pub record Ranks (p : Shape) (work row work′ : List ℕ) (r : Ranked) : Type 0 where
-  pub number : outcomeCode (r .outcome) ≡ rankCode p work row
-  pub ranked : r .number ≡ toWords 5 (cond (eqb (rankCode p work row) 0) (rank (p .width) (p .sum) row) 0)
-  pub table : work′ ≡ cond (eqb (rankCode p work row) 0) (withTable p work) work
+pub record Ranks (p : Shape) (row work work′ : List ℕ) (r : Ranked) : Type 0 where
+  pub code : outcomeCode (r .outcome) ≡ rankCode p row work
+  pub ranked : r .number ≡ toWords 5 (cond (eqb (rankCode p row work) 0) (numberOf p row) 0)
+  pub table : work′ ≡ tableAfter (rankCode p row work) p work
+
+-- "Spread, number to row" and "Gather, row to number": each undoes the other
+pub record RankUnrank : Type 0 where
+  pub ranked : (p : Shape) (n : ℕ) → n < count p → numberOf p (rowOf p n) ≡ n
+  pub unranked : (p : Shape) (row : List ℕ) → IsCodeword (p .width) (p .chains) (p .sum) row → (numberOf p row < count p) × (rowOf p (numberOf p row) ≡ row)

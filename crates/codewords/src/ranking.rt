@@ -1,7 +1,7 @@
 // Gather: the number of a codeword.
 ghost use mathlib.Core.Path.{_≡_};
 ghost use mathlib.Core.Bool.{not};
-ghost use mathlib.Core.List.{[], _∷_, _++_};
+ghost use mathlib.Core.List.{_++_};
 ghost use Prim.Native.Nat.{_+_, _-_, _*_, _^_, _≤_, _<_};
 ghost use lib.Dec.{eqb};
 ghost use lib.ListN.{length, take, drop};
@@ -10,13 +10,14 @@ ghost use Rattle.words.specs.Number.{value, toWords};
 ghost use Rattle.counts.specs.Counts.{sumTo};
 ghost use Rattle.counts.specs.Table.{rows, countCauses};
 ghost use Rattle.codewords.specs.Codeword.{rank as rankOf, total, IsCodeword};
-ghost use Rattle.codewords.specs.Operations.{someAbove, Ranks};
+ghost use Rattle.codewords.specs.Operations.{someAbove, rowCauses, Ranks};
 use counts::cells::load;
 use counts::table::count_outcome;
 use counts::table::fill;
 use profile::Shape;
 use refusal::Outcome;
 use refusal::Refusal;
+use refusal::then;
 use words::number::add;
 
 // What Gather answers. Refused, the number is zero.
@@ -39,43 +40,34 @@ fn some_above(width: usize, row: &[u8]) -> bool
     false
 }
 
-// The sum of the lengths.
-fn sum_of(row: &[u8]) -> usize
-    requires { ⌜ length (now row) ≤ 40 ⌝ }
-    ensures { λ r. ⌜ r ≡ total (now (row .entry)) ⌝ }
+// Whether the sum of the lengths is another: each is taken off, as long as it can be.
+fn sum_differs(sum: usize, row: &[u8]) -> bool
+    ensures { λ r. ⌜ r ≡ not (eqb (total (now (row .entry))) sum) ⌝ }
 {
-    let mut sum = 0;
+    let mut left = sum;
     let mut i = 0;
     while i < row.len() {
-        sum += row[i] as usize;
+        let digit = row[i] as usize;
+        if left < digit {
+            return true;
+        }
+        left -= digit;
         i += 1;
     }
-    sum
+    left != 0
 }
 
 // The causes of Gather.
-fn rank_outcome(p: Shape, words: usize, row: &[u8]) -> Outcome
-    ensures { λ r. ⌜ outcomeCode r ≡ firstCause (countCauses p words ++ ((not (eqb (length (now (row .entry))) (p .chains)), 8) ∷ (someAbove (p .width) (now (row .entry)), 9) ∷ (not (eqb (total (now (row .entry))) (p .sum)), 10) ∷ [])) ⌝ }
+fn rank_outcome(p: Shape, row: &[u8], words: usize) -> Outcome
+    ensures { λ r. ⌜ outcomeCode r ≡ firstCause (countCauses p words ++ rowCauses p (now (row .entry))) ⌝ }
 {
-    let checked = count_outcome(p, words);
-    match checked {
-        Outcome::Refused(_) => checked,
-        Outcome::Granted => {
-            let chains = p.chains as usize;
-            let width = p.width as usize;
-            let sum = p.sum as usize;
-            if row.len() != chains {
-                return Outcome::Refused(Refusal::CodewordLength);
-            }
-            if some_above(width, row) {
-                return Outcome::Refused(Refusal::DigitTooLarge);
-            }
-            if sum_of(row) != sum {
-                return Outcome::Refused(Refusal::CodewordSum);
-            }
-            Outcome::Granted
-        }
-    }
+    let chains = p.chains as usize;
+    let width = p.width as usize;
+    let sum = p.sum as usize;
+    let counted = count_outcome(p, words);
+    let long = then(counted, row.len() != chains, Refusal::CodewordLength);
+    let measured = then(long, some_above(width, row), Refusal::DigitTooLarge);
+    then(measured, sum_differs(sum, row), Refusal::CodewordSum)
 }
 
 // The number with the shares of the lengths below a digit added: those counts are skipped. The share of the length j is the
@@ -118,19 +110,18 @@ fn number_of(table: &[u32], row: &[u8], width: usize, sum: usize) -> [u32; 5]
 
 // Gather: the number of the codeword in the row.
 pub fn rank(p: Shape, row: &[u8], table: &mut [u32]) -> Ranked
-    ensures { λ r. ⌜ Ranks p (now (table .entry)) (now (row .entry)) (now (table .exit)) r ⌝ }
+    ensures { λ r. ⌜ Ranks p (now (row .entry)) (now (table .entry)) (now (table .exit)) r ⌝ }
 {
-    let outcome = rank_outcome(p, table.len(), row);
+    let outcome = rank_outcome(p, row, table.len());
     match outcome {
         Outcome::Refused(_) => Ranked {
             outcome: outcome,
             number: [0; 5],
         },
         Outcome::Granted => {
-            let chains = p.chains as usize;
             let width = p.width as usize;
             let sum = p.sum as usize;
-            fill(table, chains, width, sum);
+            fill(p, table);
             Ranked {
                 outcome: outcome,
                 number: number_of(table, row, width, sum),

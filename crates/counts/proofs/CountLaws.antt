@@ -18,7 +18,7 @@ sumTo-cong f g zero same = refl
 sumTo-cong f g (suc n) same = rw (sumTo-cong f g n (λ j h. same j (omega arith)), same n (le-refl _))
 
 -- the first number of a sum, apart
-pub sumTo-front : (f : ℕ → ℕ) (n : ℕ) → sumTo f (suc n) ≡ f 0 + sumTo (λ j. f (suc j)) n
+sumTo-front : (f : ℕ → ℕ) (n : ℕ) → sumTo f (suc n) ≡ f 0 + sumTo (λ j. f (suc j)) n
 unfolding sumTo
 sumTo-front f zero = omega arith
 sumTo-front f (suc n) = omega (arith, sumTo-front f n)
@@ -101,7 +101,7 @@ D-window w i zero one = omega (arith, D-zero w (suc i) one, D-zero w i one, shar
 D-window w i (suc t) one = omega (arith, shares-of-suc (D w i) t w, share-one (D w (suc i)) t)
 
 -- row 0 is at most 1, and row suc i at most w ^ i
-pub D-bound-zero : (w t : ℕ) → D w zero t ≤ 1
+D-bound-zero : (w t : ℕ) → D w zero t ≤ 1
 unfolding D
 D-bound-zero w zero = le-refl 1
 D-bound-zero w (suc t) = zero-le
@@ -113,7 +113,7 @@ shares-of-row-zero w t zero = zero-le
 shares-of-row-zero w zero (suc n) = le-of-eq (shares-of-zero (D w zero) n)
 shares-of-row-zero w (suc t) (suc n) = omega (arith, shares-of-suc (D w zero) t n, shares-of-row-zero w t n)
 
-pub D-bound : (w i t : ℕ) → D w (suc i) t ≤ w ^ i
+D-bound : (w i t : ℕ) → D w (suc i) t ≤ w ^ i
 unfolding D
 D-bound w zero t = rw pow-zero (shares-of-row-zero w t w)
 D-bound w (suc i) t = rw pow-succ' (sumTo-le _ (w ^ i) w (λ j h. share-le _ (w ^ i) t j (λ low. D-bound w i (t - j))))

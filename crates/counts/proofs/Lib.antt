@@ -1,7 +1,6 @@
 -- The laws that belong to no one function.
 pub mod Answer
 pub mod CountLaws
-pub mod LimbLaws
 pub mod NextCell
 pub mod Room
 pub mod TableLaws

@@ -1,39 +1,69 @@
 -- What the causes of Count tell, and those of a profile with its table: where none holds, the shape is within its limits and the work slice has room for the table.
-use mathlib.Core.Path.{_≡_, refl, _∙_}
-use mathlib.Core.Bool.{Bool}
+use mathlib.Core.Path.{_≡_, refl, _∙_, sym}
+use mathlib.Core.Bool.{Bool, true, false, _||_}
+use mathlib.Core.Logic.{_⊎_, inl, inr}
 use mathlib.Core.List.{List, [], _∷_}
-use Prim.Native.Nat.{ℕ, _+_, _*_, _≤_}
+use Prim.Native.Nat.{ℕ, _+_, _*_, _/_, _<_, _≤_}
+use native.Mathlib.Nat.{mul-comm, div-lt-iff-lt-mul}
 use native.Mathlib.Omega.{arith}
-use borrow.Author.Tests.{ltb-false}
-use lib.Dec.{ltb}
+use borrow.Author.Tests.{ltb-false, leb-true, leb-false, lt-ltb, le-ltb}
+use lib.Dec.{ltb, leb, eqb}
 use Rattle.refusal.specs.Code.{firstCause}
-use Rattle.refusal.proofs.Causes.{Without, Numbered, without-append, smaller-number, none-here, none-then, none-of-append}
+use Rattle.refusal.proofs.Causes.{Avoids, Numbered, avoids-other, none-here, none-then, none-of-append}
+use Rattle.words.proofs.Numbers.{lt-or-le}
 use Rattle.profile.specs.Checks.{shapeCauses, InLimits, profileCauses}
 use Rattle.profile.specs.declared.Shape.{Shape}
 use Rattle.profile.specs.declared.Profile.{Profile}
-use Rattle.profile.proofs.Limits.{shape-numbered, shape-without, in-limits, profile-numbered, profile-without, profile-passed, sum-small}
-use Rattle.counts.specs.Table.{tableLength, countCauses, tableCauses}
+use Rattle.profile.proofs.Limits.{shape-numbered, in-limits, profile-numbered, profile-passed, sum-small}
+use Rattle.counts.specs.Table.{tableLength, countCauses, tableCauses, leavesTable}
 use Rattle.counts.proofs.NextCell.{row-small}
 
 -- the last of the causes: the work slice is too short
 abbrev short : Shape → (words : ℕ) → List (Bool × ℕ)
 short p words = (ltb words (tableLength p), 5) ∷ []
 
-module _ (p : Shape) (words : ℕ) where
-  pub count-numbered : Numbered (countCauses p words)
-  unfolding countCauses
-  count-numbered = without-append 0 (shapeCauses p) (short p words) (shape-numbered p) (refl, tt)
+-- what a code of the kind that leaves the table is not, 0 is not
+pub not-granted : (n : ℕ) → leavesTable n ≡ false → eqb n 0 ≡ false
+not-granted n e = by (eqb n 0) e
+  where
+    by : (zero : Bool) → (zero || eqb n 7 || eqb n 15) ≡ false → zero ≡ false
+    by true e = e
+    by false e = refl
 
-  pub count-without : (k : ℕ) → 6 ≤ k → Without k (countCauses p words)
-  unfolding countCauses
-  count-without k h = without-append k (shapeCauses p) (short p words) (shape-without p k (omega arith)) (smaller-number 5 k h, tt)
+module _ (p : Shape) (words : ℕ) where
+  -- so many words are too few exactly if their fifth, spread over the rows, does not reach past the sum
+  pub room-exact : leb (words / 5 / (p .chains + 1)) (p .sum) ≡ ltb words (tableLength p)
+  unfolding tableLength
+  room-exact = by (leb (words / 5 / (p .chains + 1)) (p .sum)) refl
+    where
+      rows-of : (p .sum + 1) * (p .chains + 1) ≡ (p .chains + 1) * (p .sum + 1)
+      rows-of = mul-comm (p .sum + 1) (p .chains + 1)
+
+      by : (low : Bool) → leb (words / 5 / (p .chains + 1)) (p .sum) ≡ low → low ≡ ltb words (5 * ((p .chains + 1) * (p .sum + 1)))
+      by true test =
+          let below : words / 5 < (p .sum + 1) * (p .chains + 1) = div-lt-iff-lt-mul {k = p .chains + 1} (omega arith) .0 (omega (arith, leb-true (words / 5 / (p .chains + 1)) (p .sum) test)) in
+          sym (lt-ltb words (5 * ((p .chains + 1) * (p .sum + 1))) (omega (arith, rows-of)))
+      by false test =
+          sym (le-ltb words (5 * ((p .chains + 1) * (p .sum + 1))) (by-rows (lt-or-le (words / 5) ((p .sum + 1) * (p .chains + 1)))))
+        where
+          by-rows : (words / 5 < (p .sum + 1) * (p .chains + 1)) ⊎ ((p .sum + 1) * (p .chains + 1) ≤ words / 5) → 5 * ((p .chains + 1) * (p .sum + 1)) ≤ words
+          by-rows (inl low) = absurd (omega (arith, leb-false (words / 5 / (p .chains + 1)) (p .sum) test, div-lt-iff-lt-mul {k = p .chains + 1} (omega arith) .1 low))
+          by-rows (inr high) = omega (arith, rows-of)
+
+  -- none of the causes of Count leaves the table
+  pub count-early : Avoids leavesTable (countCauses p words)
+  unfolding countCauses shapeCauses
+  count-early = (refl, (refl, (refl, (refl, tt))))
+
+  pub count-numbered : Numbered (countCauses p words)
+  count-numbered = avoids-other leavesTable (λ n. eqb n 0) (countCauses p words) not-granted count-early
 
   pub count-limits : firstCause (countCauses p words) ≡ 0 → InLimits p
   unfolding countCauses
   count-limits e = in-limits p (none-of-append (shapeCauses p) (short p words) (shape-numbered p) e .0)
 
-  pub count-room : firstCause (countCauses p words) ≡ 0 → 5 * ((p .chains + 1) * (p .sum + 1)) ≤ words
-  unfolding countCauses tableLength
+  pub count-room : firstCause (countCauses p words) ≡ 0 → tableLength p ≤ words
+  unfolding countCauses
   count-room e =
       let none = none-of-append (shapeCauses p) (short p words) (shape-numbered p) e .1 in
       ltb-false words (tableLength p) (none-here (ltb words (tableLength p)) 5 [] refl none .0)
@@ -43,16 +73,15 @@ pub record TablePassed (p : Profile) (words : ℕ) : Type 0 where
   pub counted : firstCause (countCauses (p .shape) words) ≡ 0
   pub limits : InLimits (p .shape)
   pub low : p .height ≤ 10
-  pub room : 5 * ((p .shape .chains + 1) * (p .shape .sum + 1)) ≤ words
+  pub room : tableLength (p .shape) ≤ words
 
 module _ (p : Profile) (words : ℕ) where
-  pub table-numbered : Numbered (tableCauses p words)
-  unfolding tableCauses
-  table-numbered = without-append 0 (profileCauses p) (short (p .shape) words) (profile-numbered p) (refl, tt)
+  pub table-early : Avoids leavesTable (tableCauses p words)
+  unfolding tableCauses profileCauses shapeCauses
+  table-early = (refl, (refl, (refl, (refl, (refl, tt)))))
 
-  pub table-without : (k : ℕ) → 6 ≤ k → Without k (tableCauses p words)
-  unfolding tableCauses
-  table-without k h = without-append k (profileCauses p) (short (p .shape) words) (profile-without p k (omega arith)) (smaller-number 5 k h, tt)
+  pub table-numbered : Numbered (tableCauses p words)
+  table-numbered = avoids-other leavesTable (λ n. eqb n 0) (tableCauses p words) not-granted table-early
 
   pub table-passed : firstCause (tableCauses p words) ≡ 0 → TablePassed p words
   unfolding tableCauses countCauses

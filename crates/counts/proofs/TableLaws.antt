@@ -3,10 +3,10 @@ use mathlib.Core.Path.{_≡_, refl, _∙_, ap, sym}
 use mathlib.Core.Logic.{⊎-elim}
 use mathlib.Core.List.{List, _++_, append-assoc, append-nil}
 use Prim.Native.Nat.{ℕ, zero, suc, _+_, _*_, _<_, _≤_}
-use native.Mathlib.Nat.{eq-or-lt-of-le, le-of-suc-le-suc, suc-mul, add-zero}
+use native.Mathlib.Nat.{eq-or-lt-of-le, le-of-suc-le-suc, mul-le-mul-right, suc-mul, add-zero}
 use native.Mathlib.Numerals.{add-one}
 use native.Mathlib.Omega.{arith}
-use lib.ListN.{length, take, drop, length-append, take-append-drop}
+use lib.ListN.{length, take, drop, length-append, length-take, take-append-drop}
 use lib.Seq.{take-at, drop-at, drop-append-add, drop-drop, take-length, paste}
 use Rattle.words.specs.Number.{toWords}
 use Rattle.words.proofs.NumberLaws.{length-toWords}
@@ -17,13 +17,13 @@ use Rattle.counts.specs.Table.{cells, rows}
 pub row-end : (i s : ℕ) → (i + 1) * (s + 1) ≡ i * (s + 1) + (s + 1)
 row-end i s = rw add-one (suc-mul i (s + 1))
 
-pub length-cells : (f : ℕ → ℕ) (n : ℕ) → length (cells f n) ≡ 5 * n
+length-cells : (f : ℕ → ℕ) (n : ℕ) → length (cells f n) ≡ 5 * n
 unfolding cells
 length-cells f zero = refl
 length-cells f (suc n) = length-append (cells f n) (toWords 5 (f n)) ∙ omega (arith, length-cells f n, length-toWords 5 (f n))
 
 -- the t-th of n numbers, with more behind them
-pub cell-in : (f : ℕ → ℕ) (n t : ℕ) (more : List ℕ) → t < n → take 5 (drop (5 * t) (cells f n ++ more)) ≡ toWords 5 (f t)
+cell-in : (f : ℕ → ℕ) (n t : ℕ) (more : List ℕ) → t < n → take 5 (drop (5 * t) (cells f n ++ more)) ≡ toWords 5 (f t)
 unfolding cells
 cell-in f zero t more h = absurd (omega arith)
 cell-in f (suc n) t more h =
@@ -32,7 +32,7 @@ cell-in f (suc n) t more h =
     (λ e. rw e (ap (take 5) (drop-at (cells f n) (toWords 5 (f n) ++ more) (5 * n) (length-cells f n)) ∙ take-at (toWords 5 (f n)) more 5 (length-toWords 5 (f n))))
     (λ l. cell-in f n t (toWords 5 (f n) ++ more) l) (eq-or-lt-of-le (le-of-suc-le-suc h)))
 
-pub length-rows : (w s n : ℕ) → length (rows w s n) ≡ 5 * (n * (s + 1))
+length-rows : (w s n : ℕ) → length (rows w s n) ≡ 5 * (n * (s + 1))
 unfolding rows
 length-rows w s zero = omega arith
 length-rows w s (suc n) =
@@ -62,8 +62,14 @@ module _ (w s : ℕ) where
       let split : table ≡ rows w s n ++ drop (5 * (n * (s + 1))) table = rw (← e) (sym (take-append-drop (5 * (n * (s + 1))) table)) in
       ap (λ l. take 5 (drop (5 * (i * (s + 1) + t)) l)) split ∙ cell-row n i t (drop (5 * (n * (s + 1))) table) h k
 
+  -- there is room for it
+  pub cell-within : (n : ℕ) (table : List ℕ) → take (5 * (n * (s + 1))) table ≡ rows w s n → (i t : ℕ) → i < n → t ≤ s → 5 * (i * (s + 1) + t) + 5 ≤ length table
+  cell-within n table e i t above within =
+      let long : 5 * (n * (s + 1)) ≤ length table = omega (arith, length-take (5 * (n * (s + 1))) table, ap length e, length-rows w s n) in
+      omega (arith, suc-mul i (s + 1), mul-le-mul-right (s + 1) above)
+
   -- the rows above i, and the row i up to t
-  pub length-before : (i t : ℕ) → length (rows w s i ++ cells (D w i) t) ≡ 5 * (i * (s + 1) + t)
+  length-before : (i t : ℕ) → length (rows w s i ++ cells (D w i) t) ≡ 5 * (i * (s + 1) + t)
   length-before i t = length-append (rows w s i) (cells (D w i) t) ∙ omega (arith, length-rows w s i, length-cells (D w i) t)
 
   -- a work slice with the rows above i, as it is where the row i begins
@@ -73,7 +79,7 @@ module _ (w s : ℕ) where
   row-begins i work e = rw (add-zero, append-nil, ← e) (sym (take-append-drop (5 * (i * (s + 1))) work))
 
   -- the cell t stored behind what is before it
-  pub cell-stored : (i t : ℕ) (work : List ℕ) → 5 * (i * (s + 1) + t) + 5 ≤ length work
+  cell-stored : (i t : ℕ) (work : List ℕ) → 5 * (i * (s + 1) + t) + 5 ≤ length work
       → paste (rows w s i ++ cells (D w i) t ++ drop (5 * (i * (s + 1) + t)) work) (5 * (i * (s + 1) + t)) (toWords 5 (D w i t)) 5
       ≡ rows w s i ++ cells (D w i) (suc t) ++ drop (5 * (i * (s + 1) + suc t)) work
   unfolding cells

@@ -1,7 +1,8 @@
 -- Document 01, Counts and rows: the numbers D.
 use mathlib.Core.Bool.{cond}
-use Prim.Native.Nat.{ℕ, zero, suc, _+_, _-_}
+use Prim.Native.Nat.{ℕ, zero, suc, _+_, _-_, _^_, _<_}
 use lib.Dec.{leb}
+use Rattle.profile.specs.Checks.{InLimits}
 use Rattle.profile.specs.declared.Shape.{Shape}
 
 -- f 0 + … + f (n − 1)
@@ -22,3 +23,7 @@ D w (suc i) t = sumTo (share (D w i) t) w
 -- "The count is D(l, s)"
 unfoldable pub count : Shape → ℕ
 count p = D (p .width) (p .chains) (p .sum)
+
+-- "16^40 = 2^160 bounds every count, and a count for l ≥ 1 is below it": five words hold it whole
+pub record CountsFit : Type 0 where
+  pub below : (p : Shape) → InLimits p → count p < 2 ^ 160

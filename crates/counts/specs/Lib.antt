@@ -1,4 +1,3 @@
 -- How many codewords there are, and the table of the counts.
 pub mod Counts
-pub mod Limbs
 pub mod Table

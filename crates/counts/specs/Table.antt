@@ -4,7 +4,7 @@ use mathlib.Core.Bool.{Bool, _||_, cond}
 use mathlib.Core.List.{List, [], _∷_, _++_}
 use Prim.Native.Nat.{ℕ, zero, suc, _+_, _*_}
 use lib.Dec.{ltb, eqb}
-use lib.ListN.{length, drop}
+use lib.ListN.{length, take, drop}
 use Rattle.refusal.specs.Code.{outcomeCode, firstCause}
 use Rattle.words.specs.Number.{toWords}
 use Rattle.profile.specs.Checks.{shapeCauses, profileCauses}
@@ -42,12 +42,19 @@ tableCauses p words = profileCauses p ++ ((ltb words (tableLength (p .shape)), 5
 unfoldable pub countCode : Shape → List ℕ → ℕ
 countCode p work = firstCause (countCauses p (length work))
 
--- "Count fills the work slice and gives the count"; refused, it gives zero and leaves the slice
-pub record Counts (p : Shape) (work left : List ℕ) (r : Counted) : Type 0 where
-  pub number : outcomeCode (r .outcome) ≡ countCode p work
-  pub counted : r .count ≡ toWords 5 (cond (eqb (countCode p work) 0) (count p) 0)
-  pub table : left ≡ cond (eqb (countCode p work) 0) (withTable p work) work
-
 -- "Every refusal leaves all lent slices untouched, except that 7 and 15 leave the table in the work slice, as every success with a work slice does"
-unfoldable pub tableAfter : (number : ℕ) → Shape → (work : List ℕ) → List ℕ
-tableAfter number p work = cond (eqb number 0 || eqb number 7 || eqb number 15) (withTable p work) work
+abbrev pub leavesTable : (code : ℕ) → Bool
+leavesTable code = eqb code 0 || eqb code 7 || eqb code 15
+
+unfoldable pub tableAfter : (code : ℕ) → Shape → (work : List ℕ) → List ℕ
+tableAfter code p work = cond (leavesTable code) (withTable p work) work
+
+-- "Count fills the work slice and gives the count"; refused, it gives zero
+pub record Counts (p : Shape) (work left : List ℕ) (r : Counted) : Type 0 where
+  pub code : outcomeCode (r .outcome) ≡ countCode p work
+  pub counted : r .count ≡ toWords 5 (cond (eqb (countCode p work) 0) (count p) 0)
+  pub table : left ≡ tableAfter (countCode p work) p work
+
+-- a work slice that begins with the table
+unfoldable pub Holds : Shape → (work : List ℕ) → Type 0
+Holds p work = take (tableLength p) work ≡ rows (p .width) (p .sum) (p .chains + 1)

@@ -1,6 +1,5 @@
 // How many codewords a shape has, with the table of all counts that lead there.
 pub mod cells;
-mod limbs;
 pub mod table;
 
 pub use table::Counted;

@@ -1,27 +1,29 @@
 // The table of the counts D(i, t), and Count.
 ghost use mathlib.Core.Path.{_≡_};
-ghost use mathlib.Core.Bool.{cond};
-ghost use mathlib.Core.List.{[], _∷_, _++_};
+ghost use mathlib.Core.List.{_++_};
 ghost use Prim.Native.Nat.{ℕ, _+_, _*_, _≤_};
-ghost use lib.Dec.{ltb, eqb};
+ghost use lib.Dec.{ltb};
 ghost use lib.ListN.{length, take, drop};
 ghost use Rattle.refusal.specs.Code.{outcomeCode, firstCause};
+ghost use Rattle.words.specs.Limbs.{number};
 ghost use Rattle.words.specs.Number.{toWords};
 ghost use Rattle.profile.specs.Checks.{InLimits};
-ghost use Rattle.counts.specs.Counts.{share, D};
-ghost use Rattle.counts.specs.Limbs.{number};
-ghost use Rattle.counts.specs.Table.{rows, tableLength, countCauses, tableCauses, Counts};
+ghost use Rattle.counts.specs.Counts.{share, D, count};
+ghost use Rattle.counts.specs.Table.{rows, tableLength, withTable, countCauses, tableCauses, Counts};
 use super::cells::load;
 use super::cells::store;
-use super::limbs::Limbs;
-use super::limbs::add;
-use super::limbs::from_words;
-use super::limbs::subtract;
-use super::limbs::to_words;
 use profile::Profile;
 use profile::Shape;
+use profile::check_profile;
+use profile::check_shape;
 use refusal::Outcome;
 use refusal::Refusal;
+use refusal::then;
+use words::limbs::Limbs;
+use words::limbs::add;
+use words::limbs::from_words;
+use words::limbs::subtract;
+use words::limbs::to_words;
 
 // What Count answers. Refused, the count is zero.
 pub struct Counted {
@@ -75,7 +77,7 @@ fn fill_row(table: &mut [u32], width: usize, sum: usize, i: usize)
 }
 
 // Rows 0 to the number of chains.
-pub fn fill(table: &mut [u32], chains: usize, width: usize, sum: usize)
+fn fill_rows(table: &mut [u32], chains: usize, width: usize, sum: usize)
     requires { ⌜ (1 ≤ width) × (width ≤ 16) × (chains ≤ 40) × (sum ≤ 600) ⌝ }
     requires { ⌜ 5 * ((chains + 1) * (sum + 1)) ≤ length (now table) ⌝ }
     ensures { λ _. ⌜ now (table .exit) ≡ rows width sum (chains + 1) ++ drop (5 * ((chains + 1) * (sum + 1))) (now (table .entry)) ⌝ }
@@ -87,30 +89,33 @@ pub fn fill(table: &mut [u32], chains: usize, width: usize, sum: usize)
     }
 }
 
-// The outcome of the checks so far, and then the size of the work slice.
-fn then_room(checked: Outcome, p: Shape, words: usize) -> Outcome
-    requires { ⌜ (outcomeCode checked ≡ 0 → InLimits p) ⌝ }
-    ensures { λ r. ⌜ outcomeCode r ≡ cond (eqb (outcomeCode checked) 0) (firstCause ((ltb words (tableLength p), 5) ∷ [])) (outcomeCode checked) ⌝ }
+// Fills the work slice with the table of a shape, and gives the count, its last number.
+pub fn fill(p: Shape, table: &mut [u32]) -> [u32; 5]
+    requires { ⌜ InLimits p ⌝ }
+    requires { ⌜ tableLength p ≤ length (now table) ⌝ }
+    ensures { λ r. ⌜ (r ≡ toWords 5 (count p)) × (now (table .exit) ≡ withTable p (now (table .entry))) ⌝ }
 {
-    match checked {
-        Outcome::Refused(_) => checked,
-        Outcome::Granted => {
-            let chains = p.chains as usize;
-            let sum = p.sum as usize;
-            if words < 5 * ((chains + 1) * (sum + 1)) {
-                Outcome::Refused(Refusal::TableTooShort)
-            } else {
-                Outcome::Granted
-            }
-        }
-    }
+    let chains = p.chains as usize;
+    let width = p.width as usize;
+    let sum = p.sum as usize;
+    fill_rows(table, chains, width, sum);
+    load(table, chains * (sum + 1) + sum)
 }
 
-// The causes of Count before the table is filled.
+// Whether so many words are too few for the table of a shape, which may be any: the product of its sizes needs not fit.
+pub fn no_room(p: Shape, words: usize) -> bool
+    ensures { λ r. ⌜ r ≡ ltb words (tableLength p) ⌝ }
+{
+    let chains = p.chains as usize;
+    let sum = p.sum as usize;
+    words / 5 / (chains + 1) <= sum
+}
+
+// The causes of Count.
 pub fn count_outcome(p: Shape, words: usize) -> Outcome
     ensures { λ r. ⌜ outcomeCode r ≡ firstCause (countCauses p words) ⌝ }
 {
-    then_room(profile::check_shape(p), p, words)
+    then(check_shape(p), no_room(p, words), Refusal::TableTooShort)
 }
 
 // The causes of a profile, with room for its table.
@@ -118,8 +123,11 @@ pub fn table_outcome(p: Profile, words: usize) -> Outcome
     ensures { λ r. ⌜ outcomeCode r ≡ firstCause (tableCauses p words) ⌝ }
 {
     let shape = p.shape;
-    let checked = profile::check_profile(p);
-    then_room(checked, shape, words)
+    then(
+        check_profile(p),
+        no_room(shape, words),
+        Refusal::TableTooShort,
+    )
 }
 
 // Count: fills the work slice with the table and gives the number of codewords.
@@ -132,15 +140,9 @@ pub fn codeword_count(p: Shape, table: &mut [u32]) -> Counted
             outcome: outcome,
             count: [0; 5],
         },
-        Outcome::Granted => {
-            let chains = p.chains as usize;
-            let width = p.width as usize;
-            let sum = p.sum as usize;
-            fill(table, chains, width, sum);
-            Counted {
-                outcome: outcome,
-                count: load(table, chains * (sum + 1) + sum),
-            }
-        }
+        Outcome::Granted => Counted {
+            outcome: outcome,
+            count: fill(p, table),
+        },
     }
 }

@@ -2,14 +2,14 @@
 use mathlib.Core.Path.{_≡_, refl}
 use mathlib.Core.Bool.{Bool, true, false, _||_, true≢false}
 use mathlib.Core.List.{List, [], _∷_}
-use Prim.Native.Nat.{ℕ, _-_, _*_, _<_, _≤_}
+use Prim.Native.Nat.{ℕ, _-_, _*_, _^_, _<_, _≤_}
 use native.Mathlib.Nat.{le-trans, mul-le-mul}
 use native.Mathlib.Omega.{arith}
-use borrow.Author.Tests.{lt-ltb, le-ltb, ltb-false}
+use borrow.Author.Tests.{lt-ltb, le-ltb, ltb-false, leb-false}
 use lib.Dec.{ltb}
 use Rattle.refusal.specs.Code.{firstCause}
 use Rattle.refusal.proofs.Causes.{Without, Numbered, without-append, smaller-number, none-here, none-of-append}
-use Rattle.profile.specs.Checks.{outside, shapeCauses, InLimits, profileCauses}
+use Rattle.profile.specs.Checks.{outside, shapeCauses, InLimits, profileCauses, leafBeyond}
 use Rattle.profile.specs.declared.Shape.{Shape}
 use Rattle.profile.specs.declared.Profile.{Profile}
 
@@ -34,7 +34,7 @@ pub shape-numbered : (p : Shape) → Numbered (shapeCauses p)
 unfolding shapeCauses
 shape-numbered p = (refl, (refl, (refl, tt)))
 
-pub shape-without : (p : Shape) (k : ℕ) → 4 ≤ k → Without k (shapeCauses p)
+shape-without : (p : Shape) (k : ℕ) → 4 ≤ k → Without k (shapeCauses p)
 unfolding shapeCauses
 shape-without p k h = (smaller-number 1 k (omega arith), (smaller-number 2 k (omega arith), (smaller-number 3 k (omega arith), tt)))
 
@@ -73,3 +73,8 @@ module _ (p : Profile) where
 -- the largest sum: 40 chains of 15
 pub sum-small : (p : Shape) → InLimits p → p .sum ≤ 600
 sum-small p h = le-trans (h .reached) (mul-le-mul {n₂ = 40} {m₂ = 15} (h .few-chains) (omega arith))
+
+-- a leaf of the tree
+pub leaf-within : (h leaf : ℕ) → leafBeyond h leaf ≡ false → leaf < 2 ^ h
+unfolding leafBeyond
+leaf-within h leaf e = leb-false (2 ^ h) leaf e

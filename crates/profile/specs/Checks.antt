@@ -1,8 +1,8 @@
 -- Document 01, Profile, and "Profile checks: 1 l, 2 w, 3 s, 4 h outside its range".
 use mathlib.Core.Bool.{Bool, _||_}
 use mathlib.Core.List.{List, [], _∷_, _++_}
-use Prim.Native.Nat.{ℕ, _-_, _*_, _≤_}
-use lib.Dec.{ltb}
+use Prim.Native.Nat.{ℕ, _-_, _*_, _^_, _≤_}
+use lib.Dec.{ltb, leb}
 use Rattle.profile.specs.declared.Shape.{Shape}
 use Rattle.profile.specs.declared.Profile.{Profile}
 
@@ -25,3 +25,7 @@ pub record InLimits (p : Shape) : Type 0 where
 -- "Tree height h, 0 to 10"
 unfoldable pub profileCauses : Profile → List (Bool × ℕ)
 profileCauses p = shapeCauses (p .shape) ++ ((outside 0 10 (p .height), 4) ∷ [])
+
+-- 11 and 12: "leaf not below 2^h"
+unfoldable pub leafBeyond : (h leaf : ℕ) → Bool
+leafBeyond h leaf = leb (2 ^ h) leaf

@@ -1,10 +1,11 @@
 // A profile and its checks.
 ghost use mathlib.Core.Path.{_≡_};
-ghost use Prim.Native.Nat.{_^_, _≤_};
+ghost use Prim.Native.Nat.{_-_, _*_, _^_, _≤_};
 ghost use Rattle.refusal.specs.Code.{outcomeCode, firstCause};
-ghost use Rattle.profile.specs.Checks.{shapeCauses, profileCauses};
+ghost use Rattle.profile.specs.Checks.{outside as outsideOf, shapeCauses, profileCauses, leafBeyond};
 use refusal::Outcome;
 use refusal::Refusal;
+use refusal::then;
 
 // The shape of a codeword (document 01: a row of lengths): l chains, lengths below the width w, the sum s.
 pub struct Shape {
@@ -19,29 +20,39 @@ pub struct Profile {
     pub height: u32,
 }
 
+// Whether a number is below the low limit or above the high one.
+fn outside(low: u64, high: u64, x: u64) -> bool
+    ensures { λ r. ⌜ r ≡ outsideOf low high x ⌝ }
+{
+    if x < low { true } else { high < x }
+}
+
+// The largest sum that l lengths below w have: l × (w - 1).
+fn largest_sum(chains: u32, width: u32) -> u64
+    ensures { λ r. ⌜ r ≡ chains * (width - 1) ⌝ }
+{
+    if width == 0 {
+        0
+    } else {
+        chains as u64 * (width - 1) as u64
+    }
+}
+
 // The checks 1, 2 and 3.
 pub fn check_shape(p: Shape) -> Outcome
     ensures { λ r. ⌜ outcomeCode r ≡ firstCause (shapeCauses p) ⌝ }
 {
-    let chains = p.chains;
-    let width = p.width;
-    let sum = p.sum;
-    if chains < 1 {
-        return Outcome::Refused(Refusal::ChainCount);
-    }
-    if 40 < chains {
-        return Outcome::Refused(Refusal::ChainCount);
-    }
-    if width < 2 {
-        return Outcome::Refused(Refusal::Width);
-    }
-    if 16 < width {
-        return Outcome::Refused(Refusal::Width);
-    }
-    if chains * (width - 1) < sum {
-        return Outcome::Refused(Refusal::Sum);
-    }
-    Outcome::Granted
+    let chains = p.chains as u64;
+    let width = p.width as u64;
+    let sum = p.sum as u64;
+    let most = largest_sum(p.chains, p.width);
+    let counted = then(
+        Outcome::Granted,
+        outside(1, 40, chains),
+        Refusal::ChainCount,
+    );
+    let measured = then(counted, outside(2, 16, width), Refusal::Width);
+    then(measured, outside(0, most, sum), Refusal::Sum)
 }
 
 // The checks 1, 2, 3 and 4.
@@ -49,24 +60,25 @@ pub fn check_profile(p: Profile) -> Outcome
     ensures { λ r. ⌜ outcomeCode r ≡ firstCause (profileCauses p) ⌝ }
 {
     let shape = p.shape;
-    let height = p.height;
-    let checked = check_shape(shape);
-    match checked {
-        Outcome::Refused(_) => checked,
-        Outcome::Granted => {
-            if 10 < height {
-                Outcome::Refused(Refusal::Height)
-            } else {
-                Outcome::Granted
-            }
-        }
-    }
+    let height = p.height as u64;
+    then(check_shape(shape), outside(0, 10, height), Refusal::Height)
 }
 
 // How many leaves a tree has: 2^h.
-pub fn capacity(height: u32) -> u32
+fn capacity(height: u32) -> u32
     requires { ⌜ height ≤ 31 ⌝ }
     ensures { λ r. ⌜ r ≡ 2 ^ height ⌝ }
 {
     1 << height
+}
+
+// Whether a leaf is not below 2^h. A height of 32 or more has room for every 32-bit leaf.
+pub fn leaf_beyond(height: u32, leaf: u32) -> bool
+    ensures { λ r. ⌜ r ≡ leafBeyond height leaf ⌝ }
+{
+    if height < 32 {
+        capacity(height) <= leaf
+    } else {
+        false
+    }
 }

@@ -1,42 +1,54 @@
--- Causes in order: those behind others count where none of these holds.
+-- Causes in order: those behind others count where none of these holds, and `then` goes from one to the next.
 use mathlib.Core.Path.{_≡_, refl, _∙_, ap, sym}
 use mathlib.Core.Bool.{Bool, true, false, cond}
-use mathlib.Core.List.{List, [], _∷_, _++_}
-use Prim.Native.Nat.{ℕ, _<_}
+use mathlib.Core.List.{List, [], _∷_, _++_, append-assoc, append-nil}
+use Prim.Native.Nat.{ℕ, zero, suc, _<_}
 use native.Mathlib.Omega.{arith}
-use borrow.Author.Tests.{eqb-false, ne-eqb}
+use borrow.Author.Tests.{eqb-true, eqb-false, ne-eqb}
 use lib.Dec.{eqb}
-use Rattle.refusal.specs.Code.{code, outcomeCode, firstCause}
+use Rattle.refusal.specs.Code.{code, outcomeCode, firstCause, thenCode}
 use Rattle.refusal.specs.declared.Refusal.{Refusal}
 use Rattle.refusal.specs.declared.Outcome.{Outcome}
 use Rattle.refusal.specs.declared.Outcome.the-variants.{Granted, Refused}
 use Rattle.refusal.proofs.Positive.{code-positive}
 
--- no cause of the list has the number k
-abbrev pub Without : ℕ → List (Bool × ℕ) → Type 0
-Without k [] = Unit {0}
-Without k (cause ∷ more) = (eqb (cause .1) k ≡ false) × Without k more
+-- no cause of the list has a code of the kind that the test tells
+abbrev pub Avoids : (ℕ → Bool) → List (Bool × ℕ) → Type 0
+Avoids kind [] = Unit {0}
+Avoids kind (cause ∷ more) = (kind (cause .1) ≡ false) × Avoids kind more
 
--- no cause of the list has the number of granted
+-- no cause of the list has the code k
+abbrev pub Without : ℕ → List (Bool × ℕ) → Type 0
+Without k causes = Avoids (λ n. eqb n k) causes
+
+-- no cause of the list has the code of granted
 abbrev pub Numbered : List (Bool × ℕ) → Type 0
 Numbered causes = Without 0 causes
 
-pub without-append : (k : ℕ) (first more : List (Bool × ℕ)) → Without k first → Without k more → Without k (first ++ more)
-without-append k [] more p q = q
-without-append k (cause ∷ first) more p q = (p .0, without-append k first more (p .1) q)
+pub avoids-append : (kind : ℕ → Bool) (first more : List (Bool × ℕ)) → Avoids kind first → Avoids kind more → Avoids kind (first ++ more)
+avoids-append kind [] more p q = q
+avoids-append kind (cause ∷ first) more p q = (p .0, avoids-append kind first more (p .1) q)
 
--- a smaller number is another
+pub avoids-other : (kind other : ℕ → Bool) (causes : List (Bool × ℕ)) → ((n : ℕ) → kind n ≡ false → other n ≡ false) → Avoids kind causes → Avoids other causes
+avoids-other kind other [] fewer p = tt
+avoids-other kind other (cause ∷ more) fewer p = (fewer (cause .1) (p .0), avoids-other kind other more fewer (p .1))
+
+pub without-append : (k : ℕ) (first more : List (Bool × ℕ)) → Without k first → Without k more → Without k (first ++ more)
+without-append k first more p q = avoids-append (λ n. eqb n k) first more p q
+
+-- a smaller code is another
 pub smaller-number : (n k : ℕ) → n < k → eqb n k ≡ false
 smaller-number n k h = ne-eqb n k (λ z. omega arith)
 
--- a number that no cause has is not that of the first that holds
-pub first-without : (k : ℕ) (causes : List (Bool × ℕ)) → eqb 0 k ≡ false → Without k causes → eqb (firstCause causes) k ≡ false
-first-without k [] h p = h
-first-without k (cause ∷ more) h p = by (cause .0) (cause .1) (p .0) (first-without k more h (p .1))
+-- of causes none of which is of a kind, the first that holds is not
+first-avoids : (kind : ℕ → Bool) (causes : List (Bool × ℕ)) → Avoids kind causes → 0 < firstCause causes → kind (firstCause causes) ≡ false
+first-avoids kind [] p h = absurd (omega arith)
+first-avoids kind (cause ∷ more) p h = by (cause .0) (cause .1) (p .0) h (first-avoids kind more (p .1))
   where
-    by : (test : Bool) (n : ℕ) → eqb n k ≡ false → eqb (firstCause more) k ≡ false → eqb (firstCause ((test, n) ∷ more)) k ≡ false
-    by true n here rest = here
-    by false n here rest = rest
+    by : (test : Bool) (n : ℕ) → kind n ≡ false → 0 < firstCause ((test, n) ∷ more) → (0 < firstCause more → kind (firstCause more) ≡ false)
+        → kind (firstCause ((test, n) ∷ more)) ≡ false
+    by true n here some rest = here
+    by false n here some rest = rest some
 
 -- a cause that does not hold is passed over
 pub cause-passed : (test : Bool) (n : ℕ) (more : List (Bool × ℕ)) → test ≡ false → firstCause ((test, n) ∷ more) ≡ firstCause more
@@ -53,6 +65,10 @@ none-then [] more e p = refl
 none-then (cause ∷ first) more e p =
     let none = none-here (cause .0) (cause .1) first (p .0) e in
     cause-passed (cause .0) (cause .1) (first ++ more) (none .0) ∙ none-then first more (none .1) (p .1)
+
+not-zero : (n : ℕ) → (n ≡ 0 → ⊥) → 0 < n
+not-zero zero h = absurd (h refl)
+not-zero (suc n) h = omega arith
 
 some-then : (first more : List (Bool × ℕ)) → 0 < firstCause first → firstCause (first ++ more) ≡ firstCause first
 some-then [] more h = absurd (omega arith)
@@ -71,16 +87,24 @@ none-of-append (cause ∷ first) more p e =
     let rest = none-of-append first more (p .1) (here .1) in
     (cause-passed (cause .0) (cause .1) first (here .0) ∙ rest .0, rest .1)
 
--- a refused outcome's number is not 0
+-- a refused outcome's code is not 0
 pub refused-number : (o : Outcome) (n : ℕ) (r : Refusal) → outcomeCode o ≡ n → o ≡ Refused r → eqb n 0 ≡ false
 refused-number o n r e q =
     let positive : 0 < code r = code-positive r in
     let number : n ≡ code r = sym e ∙ ap outcomeCode q in
     ne-eqb n 0 (λ z. omega arith)
 
+-- a refused outcome's code is of no kind that its causes avoid
+pub refused-avoids : (kind : ℕ → Bool) (causes : List (Bool × ℕ)) (o : Outcome) → Avoids kind causes → outcomeCode o ≡ firstCause causes → (r : Refusal) → o ≡ Refused r
+    → kind (outcomeCode o) ≡ false
+refused-avoids kind causes o p e r q =
+    let positive : 0 < code r = code-positive r in
+    let number : firstCause causes ≡ code r = sym e ∙ ap outcomeCode q in
+    ap kind e ∙ first-avoids kind causes p (omega arith)
+
 -- the outcome of the first causes, with more behind them
 module _ (first more : List (Bool × ℕ)) (o : Outcome) (e : outcomeCode o ≡ firstCause first) where
-  -- refused, the number of all causes is that of the first ones: not 0, and none that the first ones have not
+  -- refused, the code of all causes is that of the first ones: not 0, and none that the first ones have not
   module _ (r : Refusal) (q : o ≡ Refused r) where
     pub refused-then : outcomeCode o ≡ firstCause (first ++ more)
     refused-then =
@@ -92,18 +116,34 @@ module _ (first more : List (Bool × ℕ)) (o : Outcome) (e : outcomeCode o ≡ 
     refused-some = refused-number o (firstCause (first ++ more)) r refused-then q
 
     pub refused-without : (k : ℕ) → eqb 0 k ≡ false → Without k first → eqb (firstCause (first ++ more)) k ≡ false
-    refused-without k h p = ap (λ n. eqb n k) (sym refused-then ∙ e) ∙ first-without k first h p
+    refused-without k h p = ap (λ n. eqb n k) (sym refused-then) ∙ refused-avoids (λ n. eqb n k) first o p e r q
 
   pub granted-none : o ≡ Granted → firstCause first ≡ 0
   granted-none q = sym e ∙ ap outcomeCode q
 
-  pub granted-then : Numbered first → o ≡ Granted → firstCause (first ++ more) ≡ firstCause more
-  granted-then p q = none-then first more (granted-none q) p
+-- a chain of `then`: n is the code of the first causes, of which something else gave the outcome, and of the chain's own behind them
+pub record Chain (first own : List (Bool × ℕ)) (n : ℕ) : Type 0 where
+  pub numbered : Numbered (first ++ own)
+  pub answer : n ≡ firstCause (first ++ own)
 
-  -- an outcome, and more causes where it is granted
-  pub outcome-then : Numbered first → cond (eqb (outcomeCode o) 0) (firstCause more) (outcomeCode o) ≡ firstCause (first ++ more)
-  outcome-then p = by o refl
-    where
-      by : (o′ : Outcome) → o ≡ o′ → cond (eqb (outcomeCode o′) 0) (firstCause more) (outcomeCode o′) ≡ firstCause (first ++ more)
-      by Granted q = sym (granted-then p q)
-      by (Refused r) q = rw (refused-number o (code r) r (ap outcomeCode q) q) (sym (ap outcomeCode q) ∙ refused-then r q)
+pub chain-begins : (first : List (Bool × ℕ)) {n : ℕ} → Numbered first → n ≡ firstCause first → Chain first [] n
+chain-begins first p e = record { numbered = rw append-nil p; answer = rw append-nil e }
+
+-- the code so far, or that of more causes where it is 0
+code-then : (first more : List (Bool × ℕ)) (n : ℕ) → Numbered first → n ≡ firstCause first → cond (eqb n 0) (firstCause more) n ≡ firstCause (first ++ more)
+code-then first more n p e = by (eqb n 0) refl
+  where
+    by : (none : Bool) → eqb n 0 ≡ none → cond none (firstCause more) n ≡ firstCause (first ++ more)
+    by true z = sym (none-then first more (sym e ∙ eqb-true n 0 z) p)
+    by false z = let some : n ≡ 0 → ⊥ = eqb-false n 0 z in e ∙ sym (some-then first more (not-zero (firstCause first) (λ q. some (e ∙ q))))
+
+-- one cause more, whose test means what it is to mean
+pub chain-next : {first own : List (Bool × ℕ)} {n m : ℕ} {test meant : Bool} (k : ℕ) → eqb k 0 ≡ false → Chain first own n → test ≡ meant → m ≡ thenCode n test k
+    → Chain first (own ++ ((meant, k) ∷ [])) m
+chain-next {first} {own} {n} {m} {test} {meant} k positive chain means e =
+    let last : List (Bool × ℕ) = (meant, k) ∷ [] in
+    let apart = append-assoc first own last in
+    record {
+      numbered = rw (← apart) (without-append 0 (first ++ own) last (chain .numbered) (positive, tt));
+      answer = e ∙ rw (means, ← apart) (code-then (first ++ own) last n (chain .numbered) (chain .answer));
+    }

@@ -1,7 +1,8 @@
--- The numbers of document 01, "Operations and their refusals".
+-- The codes of the causes of document 01, "Operations and their refusals".
 use mathlib.Core.Bool.{Bool, cond}
 use mathlib.Core.List.{List, [], _∷_}
 use Prim.Native.Nat.{ℕ}
+use lib.Dec.{eqb}
 use Rattle.refusal.specs.declared.Refusal.{Refusal}
 use Rattle.refusal.specs.declared.Refusal.the-variants.{ChainCount, Width, Sum, Height, TableTooShort, OutputTooShort, NumberTooLarge, CodewordLength, DigitTooLarge, CodewordSum, LeafOutOfRange, KeySpent, SignatureLength, LeafPassed, RootDiffers, MessageLength, SheetLine, HashTooLong}
 use Rattle.refusal.specs.declared.Outcome.{Outcome}
@@ -42,12 +43,16 @@ code SheetLine = 17
 -- "18, if the total with the new bytes is over 65,535"
 code HashTooLong = 18
 
--- 0 for granted, else the number of the cause
+-- 0 for granted, else the code of the cause
 abbrev pub outcomeCode : Outcome → ℕ
 outcomeCode Granted = 0
 outcomeCode (Refused r) = code r
 
--- "refused exactly for the causes …, the first in its order giving the number": of causes in order, each a test with its number, the number of the first that holds, or 0
+-- "refused exactly for the causes …, the first in its order giving the number": of causes in order, each a test with its code, the code of the first that holds, or 0
 abbrev pub firstCause : List (Bool × ℕ) → ℕ
 firstCause [] = 0
 firstCause (cause ∷ more) = cond (cause .0) (cause .1) (firstCause more)
+
+-- one cause after another: the code so far, or where that is 0 the next cause's, if its test holds
+abbrev pub thenCode : (so-far : ℕ) → (holds : Bool) → (next : ℕ) → ℕ
+thenCode so-far holds next = cond (eqb so-far 0) (cond holds next 0) so-far

@@ -1,8 +1,8 @@
-// The causes for which a call is refused, and their numbers.
+// The causes for which a call is refused, their codes, and how one cause is looked at after another.
 ghost use mathlib.Core.Path.{_≡_};
-ghost use Rattle.refusal.specs.Code.{code, outcomeCode};
+ghost use Rattle.refusal.specs.Code.{code, outcomeCode, thenCode};
 
-// Every cause of document 01, in the order of its number.
+// Every cause of document 01, in the order of its code, which is the document's number.
 pub enum Refusal {
     ChainCount,
     Width,
@@ -30,8 +30,8 @@ pub enum Outcome {
     Refused(Refusal),
 }
 
-// The number that the interface page prints for a cause.
-pub fn number(r: Refusal) -> u8
+// The code of a cause: the number that the interface page prints for it.
+pub fn code(r: Refusal) -> u8
     ensures { λ n. ⌜ n ≡ code r ⌝ }
 {
     match r {
@@ -56,12 +56,28 @@ pub fn number(r: Refusal) -> u8
     }
 }
 
-// The number of an outcome: 0 for granted, else the number of its cause.
-pub fn outcome_number(o: Outcome) -> u8
+// The code of an outcome: 0 for granted, else the code of its cause.
+pub fn outcome_code(o: Outcome) -> u8
     ensures { λ n. ⌜ n ≡ outcomeCode o ⌝ }
 {
     match o {
         Outcome::Granted => 0,
-        Outcome::Refused(r) => number(r),
+        Outcome::Refused(r) => code(r),
+    }
+}
+
+// Goes on with the next cause: what is refused so far stays refused, and otherwise the cause is looked at.
+pub fn then(checked: Outcome, holds: bool, cause: Refusal) -> Outcome
+    ensures { λ r. ⌜ outcomeCode r ≡ thenCode (outcomeCode checked) holds (code cause) ⌝ }
+{
+    match checked {
+        Outcome::Refused(_) => checked,
+        Outcome::Granted => {
+            if holds {
+                Outcome::Refused(cause)
+            } else {
+                Outcome::Granted
+            }
+        }
     }
 }

@@ -1,12 +1,15 @@
--- Numbers in bytes, most significant first: `toBytes` and `fromBytes` are inverse, and what each gives is in range.
+-- Numbers in bytes, most significant first: `fromBytes` undoes `toBytes`, whose bytes are in range; bytes joined, and one byte more.
 use mathlib.Core.Path.{_≡_, refl, sym, ap, _∙_}
-use mathlib.Core.List.{List, [], _∷_}
-use Prim.Native.Nat.{ℕ, zero, suc, _+_, _*_, _/_, _%_, _^_, _<_}
-use native.Mathlib.Nat.{pow-succ', one-le-pow, mod-eq-of-lt, mod-one, mul-assoc, mul-add-mod-self-right, mul-add-div-right}
+use mathlib.Core.List.{List, [], _∷_, _++_}
+use Prim.Native.Nat.{ℕ, zero, suc, _+_, _*_, _%_, _^_, _<_, _≤_}
+use native.Mathlib.Nat.{pow-succ', pow-le-pow-right, one-le-pow, add-mul, mod-eq-of-lt, mod-one, mul-assoc}
+use native.Mathlib.Numerals.{add-one}
 use native.Mathlib.Omega.{arith}
-use lib.Arith.{digits-lt, digits-div, mod-mul}
+use lib.Arith.{mod-mul}
 use lib.Dec.{lit<}
-use lib.ListN.{length}
+use lib.ListN.{length, getD, take, length-append}
+use lib.Pow.{pow-add}
+use lib.Seq.{take-suc}
 use Rattle.words.specs.Bytes.{fromBytes, toBytes}
 use Rattle.words.proofs.Lists.{Below}
 
@@ -25,7 +28,7 @@ toBytes-lt zero x i = lit< tt
 toBytes-lt (suc n) x zero = omega arith
 toBytes-lt (suc n) x (suc i) = toBytes-lt n x i
 
-pub from-to : (n x : ℕ) → fromBytes (toBytes n x) ≡ x % 256 ^ n
+from-to : (n x : ℕ) → fromBytes (toBytes n x) ≡ x % 256 ^ n
 unfolding fromBytes toBytes
 from-to zero x = sym (mod-one x)
 from-to (suc n) x =
@@ -34,22 +37,22 @@ from-to (suc n) x =
 pub from-to-lt : (n x : ℕ) → x < 256 ^ n → fromBytes (toBytes n x) ≡ x
 from-to-lt n x h = from-to n x ∙ mod-eq-of-lt h
 
-pub from-lt : (bs : List ℕ) → Below 256 bs → fromBytes bs < 256 ^ length bs
+pub from-append : (xs ys : List ℕ) → fromBytes (xs ++ ys) ≡ fromBytes xs * 256 ^ length ys + fromBytes ys
 unfolding fromBytes
-from-lt [] h = lit< tt
-from-lt (b ∷ bs) h = rw pow-succ' (digits-lt (h 0) (from-lt bs (λ i. h (suc i))))
-
--- what stands above the lowest n bytes does not show in them
-pub toBytes-above : (n q x : ℕ) → toBytes n (q * 256 ^ n + x) ≡ toBytes n x
-unfolding toBytes
-toBytes-above zero q x = refl
-toBytes-above (suc n) q x =
+from-append [] ys = omega arith
+from-append (b ∷ xs) ys =
     rw
-    (pow-succ', ← mul-assoc q 256 (256 ^ n), toBytes-above n (q * 256) x, mul-add-div-right (positive n) (q * 256) x, mul-add-mod-self-right q 256 (x / 256 ^ n))
+    (length-append xs ys, pow-add 256 (length xs) (length ys), from-append xs ys, add-mul (b * 256 ^ length xs) (fromBytes xs) (256 ^ length ys), mul-assoc b (256 ^ length xs) (256 ^ length ys))
+    (omega arith)
 
-pub to-from : (bs : List ℕ) → Below 256 bs → toBytes (length bs) (fromBytes bs) ≡ bs
-unfolding fromBytes toBytes
-to-from [] h = refl
-to-from (b ∷ bs) h =
-    let low : Below 256 bs = λ i. h (suc i) in
-    rw (toBytes-above (length bs) b (fromBytes bs), to-from bs low, digits-div b (from-lt bs low), mod-eq-of-lt (h 0))
+-- a byte more, of the number that the first i bytes are
+pub front-next : (l : List ℕ) (i : ℕ) → i < length l → fromBytes (take (i + 1) l) ≡ fromBytes (take i l) * 256 + getD l i 0
+unfolding fromBytes
+front-next l i h = rw (add-one, take-suc l i 0) (from-append (take i l) (getD l i 0 ∷ []) ∙ omega arith)
+
+pub front-wider : (i : ℕ) {n b : ℕ} → n < 256 ^ i → b < 256 → n * 256 + b < 256 ^ (i + 1)
+front-wider i {n} {b} h k = rw (add-one, pow-succ') (omega arith)
+
+-- the first bytes of a word leave room for one more
+pub front-small : {n i : ℕ} → n < 256 ^ i → i ≤ 3 → n < 2 ^ 24
+front-small {n} {i} h k = omega (arith, pow-le-pow-right {n = 256} (lit< tt) {i = i} {j = 3} k)

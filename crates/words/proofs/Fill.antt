@@ -5,7 +5,7 @@ use Prim.Native.Nat.{ℕ, suc, _+_, _-_, _<_, _≤_}
 use native.Mathlib.Numerals.{add-one, add-two, add-three, add-four}
 use native.Mathlib.Omega.{arith}
 use lib.ListN.{length, getD, take, drop, set, replicate, length-append, length-drop, length-replicate, replicate-append-replicate}
-use lib.Seq.{length-take-le, take-suc, take-all, set-at, append-snoc, take-at, take-length, drop-at, drop-append-add, sets-eq, paste}
+use lib.Seq.{length-take-le, take-suc, take-all, set-at, append-snoc, take-at, take-length, drop-at, drop-append-add, drop-set-lt, drop-drop, sets-eq, paste}
 
 module _ {A : Type 0} where
   -- a turn's store: behind the n elements that are there, the first of the fill is replaced
@@ -52,6 +52,11 @@ module _ {A : Type 0} where
   -- a part up to the end
   pub part-to-end : (l : List A) (a : ℕ) → take (length l - a) (drop a l) ≡ drop a l
   part-to-end l a = take-all (length l - a) (drop a l) (omega (arith, length-drop a l))
+
+  -- what is behind the elements stored so far stays
+  pub behind-next : (l old : List A) (k : ℕ) (a : A) → drop k l ≡ drop k old → drop (k + 1) (set l k a) ≡ drop (k + 1) old
+  behind-next l old k a e =
+      drop-set-lt (k + 1) l k a (omega arith) ∙ sym (drop-drop 1 k l) ∙ ap (drop 1) e ∙ drop-drop 1 k old
 
   -- four stores in a row, and five
   module _ (l : List A) (at : ℕ) (a b c d : A) where

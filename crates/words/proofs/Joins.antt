@@ -11,7 +11,7 @@ use lib.Seq.{length-take-le, take-at, drop-at, drop-append-add, drop-drop}
 use Rattle.words.specs.Joined.{joinTo}
 
 -- one value more
-pub joinTo-next : (f : ℕ → List ℕ) (n : ℕ) {r : List ℕ} → r ≡ joinTo f n → joinTo f (n + 1) ≡ r ++ f n
+joinTo-next : (f : ℕ → List ℕ) (n : ℕ) {r : List ℕ} → r ≡ joinTo f n → joinTo f (n + 1) ≡ r ++ f n
 unfolding joinTo
 joinTo-next f n e = rw (add-one, e)
 

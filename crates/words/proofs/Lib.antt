@@ -1,7 +1,9 @@
 -- What the crate proves for others to cite: laws of numbers in bytes, of numbers in words, of lists and of values joined, and the steps of arithmetic on words.
 pub mod ByteLaws
+pub mod Comparison
 pub mod Fill
 pub mod Joins
+pub mod LimbLaws
 pub mod Lists
 pub mod NumberLaws
-pub mod Turns
+pub mod Numbers

@@ -1,26 +1,26 @@
 -- Lists: a part written out as its elements, and elements that are all below a bound.
 use mathlib.Core.Path.{_≡_, refl, _∙_}
 use mathlib.Core.Bool.{Bool, true, false, _&&_}
-use mathlib.Core.List.{List, [], _∷_}
+use mathlib.Core.List.{List, [], _∷_, _++_}
 use Prim.Native.Nat.{ℕ, zero, suc, _+_, _^_, _≤_, _<_}
 use native.Mathlib.Nat.{add-zero}
 use native.Mathlib.Omega.{arith}
 use lib.Dec.{T, ltb, ltb→lt}
 use lib.ListN.{length, getD, take, drop}
-use lib.Seq.{drop-cons}
+use lib.Seq.{drop-cons, getD-drop}
 use mir.Syntax.{Width}
 use mir.Val.{Fits, bits}
 
-pub and-left : (a b : Bool) → T (a && b) → T a
+and-left : (a b : Bool) → T (a && b) → T a
 and-left true b t = tt
 and-left false b t = t
 
-pub and-right : (a b : Bool) → T (a && b) → T b
+and-right : (a b : Bool) → T (a && b) → T b
 and-right true b t = t
 and-right false b t = absurd t
 
 -- n values of f, from f k on
-abbrev pub listed : {A : Type 0} → (ℕ → A) → ℕ → ℕ → List A
+abbrev listed : {A : Type 0} → (ℕ → A) → ℕ → ℕ → List A
 listed f k zero = []
 listed f k (suc n) = f k ∷ listed f (k + 1) n
 
@@ -46,7 +46,7 @@ abbrev pub Below : ℕ → List ℕ → Type 0
 Below m l = (i : ℕ) → getD l i 0 < m
 
 -- the same as a test, for a list that is written out
-abbrev pub allBelow : ℕ → List ℕ → Bool
+abbrev allBelow : ℕ → List ℕ → Bool
 allBelow m [] = ltb 0 m
 allBelow m (x ∷ xs) = ltb x m && allBelow m xs
 
@@ -58,3 +58,22 @@ below-by-test m (x ∷ xs) t (suc i) = below-by-test m xs (and-right (ltb x m) (
 -- the elements of an array or a slice, each of which fits its type
 pub below-fits : (w : Width) (l : List ℕ) → ((i : ℕ) → Fits w (getD l i 0)) → Below (2 ^ bits w) l
 below-fits w l h i = h i .fits
+
+-- of lists joined and cut
+pub below-append : (m : ℕ) (a b : List ℕ) → Below m a → Below m b → Below m (a ++ b)
+below-append m [] b p q i = q i
+below-append m (x ∷ a) b p q zero = p 0
+below-append m (x ∷ a) b p q (suc i) = below-append m a b (λ j. p (suc j)) q i
+
+pub below-behind : (m : ℕ) (a b : List ℕ) → Below m (a ++ b) → Below m b
+below-behind m [] b p = p
+below-behind m (x ∷ a) b p = below-behind m a b (λ j. p (suc j))
+
+pub below-take : (m n : ℕ) (l : List ℕ) → 0 < m → Below m l → Below m (take n l)
+below-take m zero l h p i = h
+below-take m (suc n) [] h p i = h
+below-take m (suc n) (x ∷ l) h p zero = p 0
+below-take m (suc n) (x ∷ l) h p (suc i) = below-take m n l h (λ j. p (suc j)) i
+
+pub below-drop : (m n : ℕ) (l : List ℕ) → Below m l → Below m (drop n l)
+below-drop m n l p i = rw getD-drop (p (n + i))

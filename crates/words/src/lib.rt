@@ -1,3 +1,4 @@
-// The ground floor: numbers in bytes, most significant first, and numbers in five words, least first.
+// The ground floor: bytes that are copied, numbers in bytes, most significant first, and numbers in five words, least first.
 pub mod bytes;
+pub mod limbs;
 pub mod number;

@@ -1,43 +1,37 @@
--- `profile::check_shape` meets its contract: each return has the tests of the definition.
-use Prim.Native.Nat.{_-_, _*_, _≤_}
-use native.Mathlib.Nat.{mul-le-mul-right}
-use native.Mathlib.Omega.{arith}
+-- `profile::check_shape` meets its contract: the checks of the definition, one after another.
+use mathlib.Core.Path.{refl, _∙_, ap}
+use mathlib.Core.List.{[]}
 use borrow.Author.Needs.{needs}
-use Rattle.profile.specs.Checks.{shapeCauses}
-use Rattle.profile.proofs.Limits.{outside-low, outside-high, inside}
+use Rattle.refusal.proofs.Causes.{chain-begins, chain-next}
+use Rattle.profile.specs.Checks.{outside, shapeCauses}
 use Rattle.profile.proofs.check_shape.Statement.{statement}
 use Rattle.profile.proofs.check_shape.Tie as tie
 
 returns : tie.Need-returns
 unfolding shapeCauses
-returns c = let p = c .before .args .p in rw (outside-low 1 40 (p .chains) (omega arith))
-
-returns-2 : tie.Need-returns-2
-unfolding shapeCauses
-returns-2 c = let p = c .before .before .args .p in rw (outside-high 1 40 (p .chains) (omega arith) (omega arith))
-
-returns-3 : tie.Need-returns-3
-unfolding shapeCauses
-returns-3 c = let p = c .before .before .before .args .p in rw (inside 1 40 (p .chains) (omega arith) (omega arith), outside-low 2 16 (p .width) (omega arith))
-
-returns-4 : tie.Need-returns-4
-unfolding shapeCauses
-returns-4 c = let p = c .before .before .before .before .args .p in rw (inside 1 40 (p .chains) (omega arith) (omega arith), outside-high 2 16 (p .width) (omega arith) (omega arith))
-
-mul-if5 : tie.Need-mul-if5
-mul-if5 c =
-    let p = c .before .before .before .before .args .p in
-    let bound : p .chains * (p .width - 1) ≤ 40 * (p .width - 1) = mul-le-mul-right (p .width - 1) (omega arith) in
-    omega arith
-
-returns-5 : tie.Need-returns-5
-unfolding shapeCauses
-returns-5 c = let p = c .before .before .before .before .before .args .p in rw (inside 1 40 (p .chains) (omega arith) (omega arith), inside 2 16 (p .width) (omega arith) (omega arith), outside-high 0 (p .chains * (p .width - 1)) (p .sum) (omega arith) (omega arith))
-
-returns-6 : tie.Need-returns-6
-unfolding shapeCauses
-returns-6 c = let p = c .before .before .before .before .before .args .p in rw (inside 1 40 (p .chains) (omega arith) (omega arith), inside 2 16 (p .width) (omega arith) (omega arith), inside 0 (p .chains * (p .width - 1)) (p .sum) (omega arith) (omega arith))
+returns c =
+    let summed = c .before in
+    let measured = summed .before .before in
+    let counted = measured .before .before in
+    let largest = counted .before in
+    let p = largest .before .before .before .before .args .p in
+    let chains = chain-next 1 refl (chain-begins [] tt refl) (counted .outside .ensures) (measured .before .then .ensures) in
+    let width = chain-next 2 refl chains (measured .outside2 .ensures) (summed .before .then2 .ensures) in
+    let most = ap (λ m. outside 0 m (p .sum)) (largest .largest-sum .ensures) in
+    chain-next 3 refl width (summed .outside3 .ensures ∙ most) (c .then3 .ensures) .answer
 
 pub check-shape-spec : {M : Type 1} → statement M
 check-shape-spec =
-    tie.close (tie.spec returns returns-2 returns-3 returns-4 (λ c. search needs) mul-if5 returns-5 returns-6)
+    tie.close
+    (tie.spec
+    (λ c. search needs)
+    (λ c. search needs)
+    (λ c. search needs)
+    (λ c κs. search needs)
+    (λ c κs. search needs)
+    (λ c κs. search needs)
+    (λ c κs. search needs)
+    (λ c κs. search needs)
+    (λ c κs. search needs)
+    (λ c κs. search needs)
+    returns)

@@ -5,7 +5,8 @@ use borrow.Author.Needs.{needs}
 use denote.Ref.{now}
 use lib.ListN.{length, getD}
 use Rattle.counts.proofs.NextCell.{row-small}
-use Rattle.codewords.proofs.RankLaws.{cell-within, Left, left-begins, digit-within, number-words, skipped-small, left-next, left-ends}
+use Rattle.counts.proofs.TableLaws.{cell-within}
+use Rattle.codewords.proofs.RankLaws.{Left, left-begins, digit-within, number-words, skipped-small, left-next, left-ends}
 use Rattle.codewords.proofs.ranking.number_of.Statement.{statement}
 use Rattle.codewords.proofs.ranking.number_of.Tie as tie
 
@@ -18,20 +19,8 @@ abbrev μ-loop : tie.MeasureT-loop
 loop-holds : tie.Need-loop-holds Inv-loop μ-loop
 loop-holds c = let start = c .before .before in left-begins (start .pre .0) (start .pre .1 .0)
 
-shared-slice-read-digit : tie.Need-shared-slice-read-digit Inv-loop μ-loop
-shared-slice-read-digit c = search needs
-
 cast-digit : tie.Need-cast-digit Inv-loop μ-loop
 cast-digit c = omega (arith, c .shared-slice-known3 .given (c .before .before .loop .place))
-
-sub-above : tie.Need-sub-above Inv-loop μ-loop
-sub-above c = search needs
-
-sub-above-2 : tie.Need-sub-above-2 Inv-loop μ-loop
-sub-above-2 c = search needs
-
-add-above : tie.Need-add-above Inv-loop μ-loop
-add-above c = search needs
 
 -- the row of the table that is read starts at a small place
 small : (c : tie.In-loop Inv-loop μ-loop)
@@ -65,12 +54,6 @@ skip-requires c κs =
 sub-left : tie.Need-sub-left Inv-loop μ-loop
 sub-left c = omega (arith, within (c .before .before))
 
-add-place : tie.Need-add-place Inv-loop μ-loop
-add-place c = search needs
-
-loop-less : tie.Need-loop-less Inv-loop μ-loop
-loop-less c = search needs
-
 loop-again : tie.Need-loop-again Inv-loop μ-loop
 loop-again c =
     let at-loop = c .before .before .before in
@@ -87,16 +70,16 @@ number-of-spec =
     Inv-loop
     μ-loop
     loop-holds
-    shared-slice-read-digit
+    (λ c. search needs)
     cast-digit
-    sub-above
-    sub-above-2
-    add-above
+    (λ c. search needs)
+    (λ c. search needs)
+    (λ c. search needs)
     mul-above
     add-above-2
     skip-requires
     sub-left
-    add-place
-    loop-less
+    (λ c. search needs)
+    (λ c. search needs)
     loop-again
     returns)

@@ -6,7 +6,7 @@ use borrow.Author.Needs.{needs}
 use denote.Ref.{now}
 use Rattle.words.specs.Number.{value, toWords}
 use Rattle.counts.specs.Counts.{sumTo}
-use Rattle.codewords.proofs.RankLaws.{downFrom, skip-begins, skip-next}
+use Rattle.codewords.proofs.RankLaws.{downFrom, skip-begins, skip-fits, skip-next}
 use Rattle.codewords.proofs.ranking.skip.Statement.{statement}
 use Rattle.codewords.proofs.ranking.skip.Tie as tie
 
@@ -21,20 +21,12 @@ loop-holds c =
     let a = c .before .args in
     (omega arith, skip-begins (downFrom (now (a .table)) (a .above)) (c .before .pre .0 .0))
 
-sub-load : tie.Need-sub-load Inv-loop μ-loop
-sub-load c = search needs
-
-load-requires : tie.Need-load-requires Inv-loop μ-loop
-load-requires c κs = search needs
-
 add-requires : tie.Need-add-requires Inv-loop μ-loop
-add-requires c κs = search needs
-
-add-j : tie.Need-add-j Inv-loop μ-loop
-add-j c = search needs
-
-loop-less : tie.Need-loop-less Inv-loop μ-loop
-loop-less c = search needs
+add-requires c κs =
+    let at-loop = c .before .before in
+    let start = at-loop .before .before in
+    let a = start .args in
+    skip-fits (a .number) (downFrom (now (a .table)) (a .above)) (omega arith) (start .pre .1) _ (at-loop .loop .inv .1) (ap value (c .load .ensures))
 
 loop-again : tie.Need-loop-again Inv-loop μ-loop
 loop-again c =
@@ -60,10 +52,10 @@ skip-spec =
     Inv-loop
     μ-loop
     loop-holds
-    sub-load
-    load-requires
+    (λ c. search needs)
+    (λ c κs. search needs)
     add-requires
-    add-j
-    loop-less
+    (λ c. search needs)
+    (λ c. search needs)
     loop-again
     returns)

@@ -1,143 +1,98 @@
 -- `codewords::unranking::unrank` meets its contract: refused, nothing is written; past the table, the number is compared with the count.
-use mathlib.Core.Path.{_≡_, _∙_, ap, sym}
-use Prim.Native.Nat.{_+_, _*_}
-use native.Mathlib.Omega.{arith}
+use mathlib.Core.Path.{_≡_, refl, _∙_, ap, sym}
+use Prim.Native.Nat.{_≤_}
 use borrow.Author.Tests.{ltb-true, ltb-false}
 use borrow.Author.Needs.{needs}
 use denote.Ref.{now}
 use lib.Dec.{ltb}
-use lib.ListN.{length, take, drop}
+use lib.ListN.{length}
 use Rattle.refusal.specs.Code.{outcomeCode, firstCause}
-use Rattle.refusal.specs.declared.Outcome.the-variants.{Granted}
+use Rattle.refusal.proofs.Causes.{chain-begins, chain-next}
 use Rattle.words.specs.Number.{value}
-use Rattle.words.proofs.NumberLaws.{value-toWords-5}
 use Rattle.profile.specs.Checks.{InLimits}
-use Rattle.profile.specs.declared.Shape.{Shape}
-use Rattle.profile.proofs.Limits.{sum-small}
 use Rattle.counts.specs.Counts.{count}
-use Rattle.counts.specs.Table.{countCauses}
-use Rattle.counts.proofs.Answer.{last-cell}
-use Rattle.counts.proofs.CountLaws.{D-small}
-use Rattle.counts.proofs.Room.{count-limits, count-room, table-small}
-use Rattle.counts.proofs.TableLaws.{row-end, above-row}
-use Rattle.codewords.proofs.UnrankAnswer.{unrankCauses, unrank-none, unrank-room, unrank-refused, unrank-seven, unrank-granted}
+use Rattle.counts.specs.Table.{tableLength, countCauses}
+use Rattle.counts.proofs.Answer.{count-value, table-held}
+use Rattle.counts.proofs.Room.{count-numbered}
+use Rattle.codewords.proofs.UnrankAnswer.{earlyCauses, unrank-ready, unrank-refused, unrank-seven, unrank-granted}
 use Rattle.codewords.proofs.unranking.unrank.Statement.{statement}
 use Rattle.codewords.proofs.unranking.unrank.Tie as tie
 
--- the way on which nothing is refused before the table
-abbrev start : tie.After-enum-told2 → tie.Start
-start g = g .before .before .before .before .before
+-- the causes before the table
+abbrev start : tie.After-then → tie.Start
+start t = t .before .before .before .before .before
 
-abbrev shape : tie.After-enum-told2 → Shape
-shape g = start g .args .p
+early : (t : tie.After-then) → outcomeCode (t .then .result) ≡ firstCause (earlyCauses (start t .args .p) (now (start t .args .table)) (now (start t .args .row)))
+early t =
+    let p = start t .args .p in
+    let words = length (now (start t .args .table)) in
+    chain-next 6 refl (chain-begins (countCauses p words) (count-numbered p words) (t .before .count-outcome .ensures)) refl (t .then .ensures) .answer
 
-outcome-is : (g : tie.After-enum-told2)
-    → outcomeCode (g .before .before .unrank-outcome .result) ≡ firstCause (unrankCauses (shape g) (length (now (start g .args .table))) (length (now (start g .args .row))))
-outcome-is g = g .before .before .unrank-outcome .ensures
+-- the way on which they grant
+abbrev at : tie.After-enum-told2 → tie.Start
+at g = start (g .before .before)
 
-granted-is : (g : tie.After-enum-told2) → g .before .before .unrank-outcome .result ≡ Granted
-granted-is g = g .enum-told2 .given .1
+ready : (g : tie.After-enum-told2) → InLimits (at g .args .p) × (tableLength (at g .args .p) ≤ length (now (at g .args .table))) × (at g .args .p .chains ≤ length (now (at g .args .row)))
+ready g = unrank-ready (at g .args .p) (now (at g .args .table)) (now (at g .args .row)) _ (early (g .before .before)) (g .enum-told2 .given .1)
 
-none : (g : tie.After-enum-told2) → firstCause (countCauses (shape g) (length (now (start g .args .table)))) ≡ 0
-none g = unrank-none (shape g) 0 (now (start g .args .table)) (now (start g .args .row)) _ (outcome-is g) (granted-is g)
+-- the number is compared with the count
+abbrev granted : tie.After-less → tie.After-enum-told2
+granted c = c .before .before .before .before .before
 
-limits : (g : tie.After-enum-told2) → InLimits (shape g)
-limits g = count-limits (shape g) _ (none g)
-
--- the test compares with the count
-compared-is : (c : tie.After-less)
-    → c .less .result
-    ≡ ltb (value (start (c .before .before .before .before .before .before .before .before .before .before) .args .number)) (count (shape (c .before .before .before .before .before .before .before .before .before .before)))
-unfolding count
-compared-is c =
-    let filled = c .before .before .before .before .before in
-    let g = filled .before .before .before .before .before in
-    let p = shape g in
-    let h = limits g in
-    let loaded = c .before .load .ensures ∙ ap (λ l. take 5 (drop (5 * (p .chains * (p .sum + 1) + p .sum)) l)) (filled .fill .ensures) ∙ last-cell p _ in
-    let number = ap value loaded ∙ value-toWords-5 (count p) (D-small (p .width) (p .chains) (p .sum) (omega (arith, h .wide)) (h .narrow) (h .few-chains)) in
-    c .less .ensures ∙ ap (ltb (value (start g .args .number))) number
+compared : (c : tie.After-less) → c .less .result ≡ ltb (value (at (granted c) .args .number)) (count (at (granted c) .args .p))
+compared c =
+    let g = granted c in
+    c .less .ensures ∙ ap (ltb (value (at g .args .number))) (count-value (at g .args .p) (ready g .0) (c .before .before .before .fill .ensures .0))
 
 fill-requires : tie.Need-fill-requires
-fill-requires c κs =
-    let g = c .before .before .before .before in
-    let h = limits g in
-    ((omega (arith, h .wide), h .narrow, h .few-chains, sum-small (shape g) h), count-room (shape g) _ (none g))
-
-mul-load : tie.Need-mul-load
-mul-load c = let g = c .before .before .before .before .before .before .before .before in omega (arith, table-small (shape g) (limits g), row-end (shape g .chains) (shape g .sum))
-
-add-load-2 : tie.Need-add-load-2
-add-load-2 c = let g = c .before .before .before .before .before .before .before .before in omega (arith, table-small (shape g) (limits g), row-end (shape g .chains) (shape g .sum))
-
-load-requires : tie.Need-load-requires
-load-requires c κs =
-    let filled = c .before .before .before in
-    let g = filled .before .before .before .before .before in
-    omega (arith, filled .fill .kept .0, count-room (shape g) _ (none g), row-end (shape g .chains) (shape g .sum))
+fill-requires c κs = let r = ready (c .before) in (r .0, r .1)
 
 write-codeword-requires : tie.Need-write-codeword-requires
-unfolding count
 write-codeword-requires c κs =
-    let compared = c .before .before .before in
-    let filled = compared .before .before .before .before .before in
-    let g = filled .before .before .before .before .before in
-    let h = limits g in (
-      (omega (arith, h .wide), h .narrow, h .few-chains, sum-small (shape g) h, unrank-room (shape g) 0 (now (start g .args .table)) (now (start g .args .row)) _ (outcome-is g) (granted-is g)),
-      (above-row (shape g .width) (shape g .sum) (shape g .chains + 1) _ _ (filled .fill .ensures), ltb-true (value (start g .args .number)) (count (shape g)) (sym (compared-is compared) ∙ c .before .before .if1 .taken)),
-    )
+    let below = c .before .before in
+    let less = below .before in
+    let a = at (granted less) .args in
+    let r = ready (granted less) in
+    (r .0, (table-held (a .p) (now (a .table)) (less .before .before .before .fill .ensures .1), (ltb-true (value (a .number)) (count (a .p)) (sym (compared less) ∙ below .if1 .taken), r .2)))
 
 returns : tie.Need-returns
 returns c =
-    let start = c .before .before .before .before .before in
-    unrank-refused (start .args .p) (value (start .args .number)) (now (start .args .table)) (now (start .args .row)) _ (c .before .before .unrank-outcome .ensures) _ (c .enum-told .given .1)
-
-same-length : tie.Need-same-length
-same-length c = c .before .before .before .before .before .before .before .before .before .before .before .fill .kept .0
-
-same-length-2 : tie.Need-same-length-2
-same-length-2 c = c .before .before .write-codeword .kept .1 .1 .1 .1 .1 .0
+    let a = start (c .before .before) .args in
+    unrank-refused (a .p) (now (a .table)) (now (a .row)) _ (early (c .before .before)) (value (a .number)) _ (c .enum-told .given .1)
 
 returns-2 : tie.Need-returns-2
 returns-2 c =
     let written = c .before .before in
-    let compared = written .before .before .before .before in
-    let filled = compared .before .before .before .before .before in
-    let g = filled .before .before .before .before .before in
-    let below = ltb-true (value (start g .args .number)) (count (shape g)) (sym (compared-is compared) ∙ written .before .before .before .if1 .taken) in
-    unrank-granted (shape g) (value (start g .args .number)) (now (start g .args .table)) (now (start g .args .row)) _ (outcome-is g) (granted-is g) _ (filled .fill .ensures) _ below (written .write-codeword .ensures)
-
-same-length-3 : tie.Need-same-length-3
-same-length-3 c = c .before .before .before .before .before .before .fill .kept .0
+    let below = written .before .before .before in
+    let less = below .before in
+    let g = granted less in
+    let a = at g .args in
+    unrank-granted (a .p) (now (a .table)) (now (a .row)) _ (early (g .before .before)) (value (a .number)) (g .enum-told2 .given .1) (less .before .before .before .fill .ensures .1)
+    (ltb-true (value (a .number)) (count (a .p)) (sym (compared less) ∙ below .if1 .taken)) (written .write-codeword .ensures)
 
 returns-3 : tie.Need-returns-3
 returns-3 c =
-    let compared = c .before in
-    let filled = compared .before .before .before .before .before in
-    let g = filled .before .before .before .before .before in
-    let above = ltb-false (value (start g .args .number)) (count (shape g)) (sym (compared-is compared) ∙ c .if1 .left) in
-    unrank-seven (shape g) (value (start g .args .number)) (now (start g .args .table)) (now (start g .args .row)) _ (outcome-is g) (granted-is g) _ (filled .fill .ensures) above
+    let less = c .before in
+    let g = granted less in
+    let a = at g .args in
+    unrank-seven (a .p) (now (a .table)) (now (a .row)) _ (early (g .before .before)) (value (a .number)) (g .enum-told2 .given .1) (less .before .before .before .fill .ensures .1)
+    (ltb-false (value (a .number)) (count (a .p)) (sym (compared less) ∙ c .if1 .left))
 
 pub unrank-spec : {M : Type 1} → statement M
 unrank-spec =
     tie.close
     (tie.spec
+    (λ c. search needs)
     (λ c κs. search needs)
-    (λ c. search needs)
-    (λ c. search needs)
-    (λ c. search needs)
+    (λ c κs. search needs)
     (λ c. search needs)
     (λ c. search needs)
     fill-requires
-    (λ c. search needs)
-    mul-load
-    add-load-2
-    load-requires
     (λ c κs. search needs)
     write-codeword-requires
     returns
-    same-length
-    same-length-2
+    (λ c. search needs)
+    (λ c. search needs)
     returns-2
-    same-length-3
+    (λ c. search needs)
     returns-3)

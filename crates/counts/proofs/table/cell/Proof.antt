@@ -8,7 +8,7 @@ use lib.ListN.{take, drop}
 use Rattle.words.specs.Number.{value}
 use Rattle.words.proofs.NumberLaws.{value-toWords-5}
 use Rattle.counts.specs.Counts.{D}
-use Rattle.counts.specs.Limbs.{number}
+use Rattle.words.specs.Limbs.{number}
 use Rattle.counts.proofs.CountLaws.{D-small}
 use Rattle.counts.proofs.NextCell.{row-start, row-small, above, grown-fits, grown, out-within, shrunk}
 use Rattle.counts.proofs.table.cell.Statement.{statement}

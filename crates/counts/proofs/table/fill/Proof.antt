@@ -1,72 +1,59 @@
--- `counts::table::fill` meets its contract. The invariant: the rows above i are there, and what is behind them is as it was.
-use mathlib.Core.Path.{_≡_, refl, _∙_}
-use mathlib.Core.List.{_++_}
-use Prim.Native.Nat.{_+_, _-_, _*_, _≤_}
-use native.Mathlib.Nat.{mul-le-mul-right}
+-- `counts::table::fill` meets its contract: the rows are the table, and their last number is the count.
+use mathlib.Core.Path.{_∙_, ap}
+use Prim.Native.Nat.{_+_, _*_}
 use native.Mathlib.Omega.{arith}
 use borrow.Author.Needs.{needs}
-use denote.Ref.{now}
-use lib.ListN.{length, drop}
-use Rattle.counts.specs.Table.{rows}
-use Rattle.counts.proofs.TableLaws.{rows-begin, above-row, next-row}
+use lib.ListN.{take, drop}
+use Rattle.profile.proofs.Limits.{sum-small}
+use Rattle.counts.specs.Table.{tableLength, withTable}
+use Rattle.counts.proofs.Answer.{last-cell}
+use Rattle.counts.proofs.Room.{table-small}
+use Rattle.counts.proofs.TableLaws.{row-end}
 use Rattle.counts.proofs.table.fill.Statement.{statement}
 use Rattle.counts.proofs.table.fill.Tie as tie
 
-abbrev Inv-loop : tie.InvT-loop
-Inv-loop table₀ chains width sum i₀ table i = (i ≤ chains + 1) × (length table ≡ length table₀) × (table ≡ rows width sum i ++ drop (5 * (i * (sum + 1))) table₀)
+fill-rows-requires : tie.Need-fill-rows-requires
+unfolding tableLength
+fill-rows-requires c κs =
+    let start = c .before .before .before .before .before in
+    let h = start .pre .0 in
+    ((omega (arith, h .wide), h .narrow, h .few-chains, sum-small (start .args .p) h), start .pre .1)
 
-abbrev μ-loop : tie.MeasureT-loop
-μ-loop table₀ chains width sum i₀ table i = chains + 1 - i
+mul-load : tie.Need-mul-load
+mul-load c =
+    let start = c .before .before .before .before .before .before .before .before .before in
+    omega (arith, table-small (start .args .p) (start .pre .0), row-end (start .args .p .chains) (start .args .p .sum))
 
-loop-holds : tie.Need-loop-holds Inv-loop μ-loop
-loop-holds c = (omega arith, refl, rows-begin (c .before .args .width) (c .before .args .sum) (now (c .before .args .table)))
+add-load-2 : tie.Need-add-load-2
+add-load-2 c =
+    let start = c .before .before .before .before .before .before .before .before .before in
+    omega (arith, table-small (start .args .p) (start .pre .0), row-end (start .args .p .chains) (start .args .p .sum))
 
-add-loop : tie.Need-add-loop Inv-loop μ-loop
-add-loop c = search needs
+load-requires : tie.Need-load-requires
+unfolding tableLength
+load-requires c κs =
+    let filled = c .before .before .before in
+    let start = filled .before .before .before .before .before .before in
+    omega (arith, filled .fill-rows .kept .0, start .pre .1, row-end (start .args .p .chains) (start .args .p .sum))
 
-fill-row-requires : tie.Need-fill-row-requires Inv-loop μ-loop
-fill-row-requires c κs =
-    let at-loop = c .before .before in
-    let start = at-loop .before .before in
-    let a = start .args in
-    let limits = start .pre .0 in
-    let within : (at-loop .loop .i + 1) * (a .sum + 1) ≤ (a .chains + 1) * (a .sum + 1) = mul-le-mul-right (a .sum + 1) (omega arith) in
-    ((limits .0, limits .1, omega arith, limits .3), (above-row (a .width) (a .sum) (at-loop .loop .i) _ _ (at-loop .loop .inv .2), omega (arith, start .pre .1)))
-
-add-i : tie.Need-add-i Inv-loop μ-loop
-add-i c = search needs
-
-loop-less : tie.Need-loop-less Inv-loop μ-loop
-loop-less c = search needs
-
-loop-again : tie.Need-loop-again Inv-loop μ-loop
-loop-again c =
-    let filled = c .before .before in
-    let at-loop = filled .before .before .before in
-    let a = at-loop .before .before .args in
-    (omega arith, filled .fill-row .kept .0 ∙ at-loop .loop .inv .1, next-row (a .width) (a .sum) (at-loop .loop .i) (now (a .table)) _ _ (at-loop .loop .inv .2) (filled .fill-row .ensures))
-
-same-length : tie.Need-same-length Inv-loop μ-loop
-same-length c = c .before .loop .inv .1
-
-returns : tie.Need-returns Inv-loop μ-loop
+returns : tie.Need-returns
+unfolding withTable tableLength
 returns c =
-    let at-loop = c .before in
-    let a = at-loop .before .before .args in
-    let all : at-loop .loop .i ≡ a .chains + 1 = omega arith in
-    rw all at (at-loop .loop .inv .2)
+    let filled = c .before .before .before .before in
+    let p = filled .before .before .before .before .before .before .args .p in
+    (c .load .ensures ∙ ap (λ l. take 5 (drop (5 * (p .chains * (p .sum + 1) + p .sum)) l)) (filled .fill-rows .ensures) ∙ last-cell p _, filled .fill-rows .ensures)
 
 pub fill-spec : {M : Type 1} → statement M
 fill-spec =
     tie.close
     (tie.spec
-    Inv-loop
-    μ-loop
-    loop-holds
-    add-loop
-    fill-row-requires
-    add-i
-    loop-less
-    loop-again
-    same-length
+    (λ c. search needs)
+    (λ c. search needs)
+    (λ c. search needs)
+    fill-rows-requires
+    (λ c. search needs)
+    mul-load
+    add-load-2
+    load-requires
+    (λ c. search needs)
     returns)

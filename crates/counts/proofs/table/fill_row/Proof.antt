@@ -8,7 +8,7 @@ use denote.Ref.{now}
 use lib.ListN.{length, drop}
 use Rattle.words.specs.Number.{value, toWords}
 use Rattle.counts.specs.Counts.{share, D}
-use Rattle.counts.specs.Limbs.{number}
+use Rattle.words.specs.Limbs.{number}
 use Rattle.counts.specs.Table.{cells, rows}
 use Rattle.counts.proofs.CountLaws.{share-start, share-before}
 use Rattle.counts.proofs.NextCell.{row-small}
@@ -23,18 +23,12 @@ Inv-loop table₀ width sum i n₀ t₀ table n t =
 abbrev μ-loop : tie.MeasureT-loop
 μ-loop table₀ width sum i n₀ t₀ table n t = sum + 1 - t
 
-from-words-requires : tie.Need-from-words-requires Inv-loop μ-loop
-from-words-requires c κs = search needs
-
 loop-holds : tie.Need-loop-holds Inv-loop μ-loop
 unfolding value
 loop-holds c =
     let start = c .before .before in
     let a = start .args in
     (omega arith, refl, row-begins (a .width) (a .sum) (a .i) (now (a .table)) (start .pre .1 .0), c .from-words .ensures ∙ sym (share-start (D (a .width) (a .i))))
-
-add-loop : tie.Need-add-loop Inv-loop μ-loop
-add-loop c = search needs
 
 cell-requires : tie.Need-cell-requires Inv-loop μ-loop
 cell-requires c κs =
@@ -44,26 +38,14 @@ cell-requires c κs =
     let limits = start .pre .0 in
     ((limits .0, limits .1, limits .2, omega arith, limits .3), (above-cell (a .width) (a .sum) (a .i) (at-loop .loop .t) _ _ (at-loop .loop .inv .2), (omega (arith, row-end (a .i) (a .sum), start .pre .1 .1), at-loop .loop .inv .3)))
 
-add-store : tie.Need-add-store Inv-loop μ-loop
-add-store c = search needs
-
 mul-store : tie.Need-mul-store Inv-loop μ-loop
 mul-store c = let a = c .before .before .before .before .before .before .before in omega (arith, row-small (a .args .i) (a .args .sum) (omega (arith, a .pre .0)) (omega (arith, a .pre .0)))
 
 add-store-2 : tie.Need-add-store-2 Inv-loop μ-loop
 add-store-2 c = let a = c .before .before .before .before .before .before .before in omega (arith, row-small (a .args .i) (a .args .sum) (omega (arith, a .pre .0)) (omega (arith, a .pre .0)))
 
-to-words-requires : tie.Need-to-words-requires Inv-loop μ-loop
-to-words-requires c κs = search needs
-
 store-requires : tie.Need-store-requires Inv-loop μ-loop
 store-requires c κs = let start = c .before .before .before .before .before .before .before .before in omega (arith, row-end (start .args .i) (start .args .sum), start .pre .1 .1)
-
-add-t : tie.Need-add-t Inv-loop μ-loop
-add-t c = search needs
-
-loop-less : tie.Need-loop-less Inv-loop μ-loop
-loop-less c = search needs
 
 loop-again : tie.Need-loop-again Inv-loop μ-loop
 loop-again c =
@@ -92,17 +74,17 @@ fill-row-spec =
     (tie.spec
     Inv-loop
     μ-loop
-    from-words-requires
+    (λ c κs. search needs)
     loop-holds
-    add-loop
+    (λ c. search needs)
     cell-requires
-    add-store
+    (λ c. search needs)
     mul-store
     add-store-2
-    to-words-requires
+    (λ c κs. search needs)
     store-requires
-    add-t
-    loop-less
+    (λ c. search needs)
+    (λ c. search needs)
     loop-again
     same-length
     returns)

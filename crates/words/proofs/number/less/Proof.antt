@@ -10,7 +10,7 @@ use lib.Seq.{drop-cons}
 use mir.Syntax.{w32}
 use Rattle.words.specs.Number.{value}
 use Rattle.words.proofs.Lists.{below-fits}
-use Rattle.words.proofs.Turns.{decided}
+use Rattle.words.proofs.Comparison.{decided}
 use Rattle.words.proofs.number.less.Statement.{statement}
 use Rattle.words.proofs.number.less.Tie as tie
 
@@ -26,33 +26,6 @@ loop-holds c =
     let long-b : length (c .args .t2) ≡ 5 = search needs in
     (search needs, drop-of-length-le (c .args .t1) (le-of-eq long-a) ∙ sym (drop-of-length-le (c .args .t2) (le-of-eq long-b)))
 
-sub-i : tie.Need-sub-i Inv-loop μ-loop
-sub-i c = search needs
-
-mul-if1 : tie.Need-mul-if1 Inv-loop μ-loop
-mul-if1 c = search needs
-
-array-read-if1 : tie.Need-array-read-if1 Inv-loop μ-loop
-array-read-if1 c = search needs
-
-mul-if1-2 : tie.Need-mul-if1-2 Inv-loop μ-loop
-mul-if1-2 c = search needs
-
-array-read-if1-2 : tie.Need-array-read-if1-2 Inv-loop μ-loop
-array-read-if1-2 c = search needs
-
-mul-result : tie.Need-mul-result Inv-loop μ-loop
-mul-result c = search needs
-
-array-read-result : tie.Need-array-read-result Inv-loop μ-loop
-array-read-result c = search needs
-
-mul-result-2 : tie.Need-mul-result-2 Inv-loop μ-loop
-mul-result-2 c = search needs
-
-array-read-result-2 : tie.Need-array-read-result-2 Inv-loop μ-loop
-array-read-result-2 c = search needs
-
 -- in a turn, the words above the one that is looked at agree
 above : (c : tie.In-loop Inv-loop μ-loop) → drop (suc (c .before .loop .i - 1)) (c .before .before .args .t1) ≡ drop (suc (c .before .loop .i - 1)) (c .before .before .args .t2)
 above c =
@@ -66,9 +39,6 @@ returns c =
     (below-fits w32 (args .t1) (λ j. search needs)) (below-fits w32 (args .t2) (λ j. search needs))
     (search needs) (search needs)
     (above (c .before)) (c .if1 .taken)
-
-loop-less : tie.Need-loop-less Inv-loop μ-loop
-loop-less c = search needs
 
 loop-again : tie.Need-loop-again Inv-loop μ-loop
 loop-again c =
@@ -91,16 +61,16 @@ less-spec =
     Inv-loop
     μ-loop
     loop-holds
-    sub-i
-    mul-if1
-    array-read-if1
-    mul-if1-2
-    array-read-if1-2
-    mul-result
-    array-read-result
-    mul-result-2
-    array-read-result-2
+    (λ c. search needs)
+    (λ c. search needs)
+    (λ c. search needs)
+    (λ c. search needs)
+    (λ c. search needs)
+    (λ c. search needs)
+    (λ c. search needs)
+    (λ c. search needs)
+    (λ c. search needs)
     returns
-    loop-less
+    (λ c. search needs)
     loop-again
     returns-2)
