@@ -10,8 +10,8 @@ use lib.ListN.{length, take, drop, replicate, length-append, length-drop, take-a
 use lib.Seq.{length-take-le, take-at}
 use Rattle.sha256_block.specs.Compression.{compress, initial}
 use Rattle.sha256_block.specs.declared.compression.HashWords.{HashWords}
-use Rattle.sha256.specs.Digest.{compressAll, padding, finalWords, wordBytes, digest}
-use Rattle.sha256.specs.Running.{pending, rest, started, extended, addCode, addState, finished, hashed, addAll, AllGranted, joined}
+use Rattle.sha256.specs.Digest.{compressAll, padding, finalWords, digest}
+use Rattle.sha256.specs.Running.{pending, rest, started, extended, addCode, addState, finished, hashed, addAll, AllGranted, joined, RunningHash}
 use Rattle.sha256.specs.declared.running.Hash.{Hash}
 use Rattle.sha256.proofs.Blocks.{all-short, all-append, rest-append}
 
@@ -75,14 +75,14 @@ module _ (bytes : List ℕ) where
       let behind : whole ++ (tail ++ more) ≡ bytes ++ more = sym (append-assoc whole tail more) ∙ ap (λ l. l ++ more) whole-tail in
       rw (← behind) (sym (rest-whole (length bytes / 64) whole (tail ++ more) length-whole))
 
-  pub extended-hashed : (more : List ℕ) → extended (hashed bytes) more ≡ hashed (bytes ++ more)
+  extended-hashed : (more : List ℕ) → extended (hashed bytes) more ≡ hashed (bytes ++ more)
   unfolding extended hashed
   extended-hashed more =
       let state : Hash = hashed bytes in
       rw (pending-tail, all-resumed initial more, rest-resumed more, length-append)
 
   -- add, on a state that has taken the bytes
-  pub add-hashed : (more : List ℕ) → length bytes + length more ≤ 65535
+  add-hashed : (more : List ℕ) → length bytes + length more ≤ 65535
       → (addCode (hashed bytes) more ≡ 0) × (addState (hashed bytes) more ≡ hashed (bytes ++ more))
   unfolding addCode addState hashed
   add-hashed more h =
@@ -93,6 +93,10 @@ module _ (bytes : List ℕ) where
   pub finished-hashed : finished (hashed bytes) .words ≡ finalWords bytes
   unfolding finished hashed finalWords
   finished-hashed = rw pending-tail (all-resumed initial (padding (length bytes)))
+
+-- bytes that fit, added to a state that has taken others
+pub more-taken : (bytes more : List ℕ) {s h : Hash} → length bytes + length more ≤ 65535 → s ≡ hashed bytes → h ≡ addState s more → h ≡ hashed (bytes ++ more)
+more-taken bytes more fits e q = q ∙ rw e (add-hashed bytes more fits .1)
 
 pub started-hashed : started ≡ hashed []
 unfolding started hashed rest
@@ -117,7 +121,7 @@ all-added bytes (part ∷ parts) g =
     rw next (all-added (bytes ++ part) parts (rw next at (g .1)) ∙ ap hashed (append-assoc bytes part (joined parts)))
 
 -- start, any list of granted adds, finish
-pub running-hash : (parts : List (List ℕ)) → AllGranted started parts → wordBytes (finished (addAll started parts) .words) ≡ digest (joined parts)
+pub running-hash : RunningHash
 unfolding digest
 running-hash parts g =
     rw (started-hashed, all-added [] parts (rw started-hashed at g), finished-hashed (joined parts))

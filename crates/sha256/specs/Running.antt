@@ -8,7 +8,7 @@ use lib.ListN.{length, take, drop, replicate}
 use Rattle.refusal.specs.Code.{outcomeCode}
 use Rattle.sha256_block.specs.Compression.{initial}
 use Rattle.sha256_block.specs.declared.compression.HashWords.{HashWords}
-use Rattle.sha256.specs.Digest.{padding, compressAll}
+use Rattle.sha256.specs.Digest.{padding, compressAll, wordBytes, digest}
 use Rattle.sha256.specs.declared.running.Hash.{Hash}
 use Rattle.sha256.specs.declared.running.Added.{Added}
 
@@ -44,7 +44,7 @@ addState s bytes = cond (ltb 65535 (s .total + length bytes)) s (extended s byte
 
 -- what add answers
 pub record Adds (s : Hash) (bytes : List ℕ) (r : Added) : Type 0 where
-  pub number : outcomeCode (r .outcome) ≡ addCode s bytes
+  pub code : outcomeCode (r .outcome) ≡ addCode s bytes
   pub state : r .hash ≡ addState s bytes
 
 -- finish: the words of the digest, in a state that has taken no bytes
@@ -68,3 +68,7 @@ AllGranted s (bytes ∷ more) = (addCode s bytes ≡ 0) × AllGranted (addState 
 unfoldable pub joined : List (List ℕ) → List ℕ
 joined [] = []
 joined (bytes ∷ more) = bytes ++ joined more
+
+-- start, any list of granted adds and finish give the digest of the bytes joined
+abbrev pub RunningHash : Type 0
+RunningHash = (parts : List (List ℕ)) → AllGranted started parts → wordBytes (finished (addAll started parts) .words) ≡ digest (joined parts)

@@ -12,6 +12,7 @@ use refusal::Refusal;
 use sha256_block::HashWords;
 use sha256_block::compress;
 use sha256_block::initial;
+use words::bytes::copy;
 
 // Of the block, total modulo 64 bytes are pending; the others count for nothing.
 pub struct Hash {
@@ -102,11 +103,7 @@ fn kept(block: [u8; 64], n: usize) -> [u8; 64]
     ensures { λ r. ⌜ r ≡ take n block ++ replicate (64 - n) 0 ⌝ }
 {
     let mut out = [0u8; 64];
-    let mut i = 0;
-    while i < n {
-        out[i] = block[i];
-        i += 1;
-    }
+    copy(&block, n, &mut out, 0);
     out
 }
 
@@ -116,11 +113,7 @@ pub fn put(block: [u8; 64], at: usize, bytes: &[u8]) -> [u8; 64]
     ensures { λ r. ⌜ r ≡ paste block at (now (bytes .entry)) (length (now (bytes .entry))) ⌝ }
 {
     let mut out = block;
-    let mut i = 0;
-    while i < bytes.len() {
-        out[at + i] = bytes[i];
-        i += 1;
-    }
+    copy(bytes, bytes.len(), &mut out, at);
     out
 }
 

@@ -1,15 +1,16 @@
--- The constants keep the rule of FIPS 180-4: each word is from the whole part of a root of its prime.
-use mathlib.Core.Path.{_≡_, refl}
+-- The constants keep the rule of FIPS 180-4: the primes are the first sixty-four, and each word is from the whole part of a root of its prime.
+use mathlib.Core.Path.{_≡_, refl, _∙_}
 use mathlib.Core.Bool.{Bool, true, false, cond}
 use Prim.Native.Nat.{ℕ, zero, suc, _+_, _*_, _^_, _≤_, _<_}
 use native.Mathlib.Nat.{pow-suc}
 use native.Mathlib.Omega.{arith}
 use borrow.Author.Tests.{leb-true, leb-false}
 use lib.Dec.{leb}
-use lib.ListN.{length, getD, take, List·getD-map}
-use lib.Seq.{getD-take}
+use lib.ListN.{length, getD, take, length-map, List·getD-map}
+use lib.Seq.{length-take-le, getD-take}
 use Rattle.words.proofs.Lists.{Below, below-by-test}
-use Rattle.sha256_block.specs.Constants.{hasDivisor, isPrime, primesFrom, primes, IsWholeRoot, IsRootWord, rootFrom, wholeRoot, rootWord, roundWords, initialWords}
+use Rattle.sha256_block.specs.Constants.{hasDivisor, isPrime, primesFrom, primes, IsWholeRoot, IsRootWord, rootFrom, wholeRoot, rootWord, roundWords, initialWords, FirstPrimes, RootWords}
+use Rattle.sha256_block.proofs.Primes.{primes-rise, each-prime, rising-primes, none-missed}
 
 -- the search keeps r^e ≤ n < (r + 2^b)^e while b falls
 root-from : (e n b r : ℕ) → r ^ e ≤ n → n < (r + 2 ^ b) ^ e → IsWholeRoot e n (rootFrom e n b r)
@@ -35,11 +36,6 @@ root-word : (e p : ℕ) → 0 ^ e ≤ p * 2 ^ (32 * e) → p * 2 ^ (32 * e) < (2
 unfolding rootWord wholeRoot
 root-word e p low high = record { root = wholeRoot e (p * 2 ^ (32 * e)); whole = root-from e (p * 2 ^ (32 * e)) 35 0 low high; word = refl }
 
--- 4.2.2: sixty-four primes, each below 512
-pub sixty-four : length primes ≡ 64
-unfolding primes primesFrom isPrime hasDivisor
-sixty-four = refl
-
 small : Below 512 primes
 unfolding primes primesFrom isPrime hasDivisor
 small = below-by-test 512 primes tt
@@ -48,14 +44,46 @@ small-eight : Below 64 (take 8 primes)
 unfolding primes primesFrom isPrime hasDivisor
 small-eight = below-by-test 64 (take 8 primes) tt
 
--- 4.2.2: each round word is from the cube root of its prime
-pub round-word-rule : (k : ℕ) → IsRootWord 3 (getD primes k 0) (getD roundWords k 0)
+-- each round word is from the cube root of its prime
+round-word-rule : (k : ℕ) → IsRootWord 3 (getD primes k 0) (getD roundWords k 0)
 unfolding roundWords rootWord wholeRoot rootFrom
 round-word-rule k = rw (List·getD-map (rootWord 3) primes k 0) (root-word 3 (getD primes k 0) (omega arith) (omega (arith, small k)))
 
--- 5.3.3: each of the eight initial words is from the square root of its prime
-pub initial-word-rule : (k : ℕ) → k < 8 → IsRootWord 2 (getD primes k 0) (getD initialWords k 0)
+-- each of the eight initial words is from the square root of its prime
+initial-word-rule : (k : ℕ) → k < 8 → IsRootWord 2 (getD primes k 0) (getD initialWords k 0)
 unfolding initialWords rootWord wholeRoot rootFrom
 initial-word-rule k h =
     let same = getD-take 8 primes k 0 h in
     rw (List·getD-map (rootWord 2) (take 8 primes) k 0, same) (root-word 2 (getD primes k 0) (omega arith) (omega (arith, rw same at (small-eight k))))
+
+sixty-four : length primes ≡ 64
+unfolding primes primesFrom isPrime hasDivisor
+sixty-four = refl
+
+last : getD primes 63 0 ≡ 311
+unfolding primes primesFrom isPrime hasDivisor
+last = refl
+
+first-primes : FirstPrimes 64 primes
+unfolding primes
+first-primes =
+    let rise = primes-rise 0 312 in
+    record {
+      many = sixty-four;
+      each = λ i h. each-prime 0 primes rise i (rw sixty-four h) .1;
+      rising = λ i j less h. rising-primes 0 primes rise i j less (rw sixty-four h);
+      none-missed = λ q prime most.
+          let found = none-missed 0 312 q (omega arith) (omega (arith, last)) prime in
+          (found .0, rw sixty-four at (found .1), found .2);
+    }
+
+pub root-words : RootWords
+unfolding roundWords initialWords
+root-words =
+    record {
+      first-primes = first-primes;
+      many-rounds = length-map primes (rootWord 3) ∙ sixty-four;
+      round-word = λ i h. round-word-rule i;
+      many-initial = length-map (take 8 primes) (rootWord 2) ∙ length-take-le 8 primes (omega (arith, sixty-four));
+      initial-word = initial-word-rule;
+    }

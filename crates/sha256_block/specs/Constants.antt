@@ -4,7 +4,7 @@ use mathlib.Core.Bool.{Bool, false, not, _&&_, _||_, cond}
 use mathlib.Core.List.{List, [], _∷_, map}
 use Prim.Native.Nat.{ℕ, zero, suc, _+_, _-_, _*_, _%_, _^_, _≤_, _<_}
 use lib.Dec.{leb, eqb}
-use lib.ListN.{take}
+use lib.ListN.{length, getD, take}
 
 -- a number from 2 to d divides n
 unfoldable pub hasDivisor : ℕ → ℕ → Bool
@@ -20,7 +20,7 @@ unfoldable pub primesFrom : ℕ → ℕ → List ℕ
 primesFrom n zero = []
 primesFrom n (suc k) = cond (isPrime n) (n ∷ primesFrom (suc n) k) (primesFrom (suc n) k)
 
--- the first sixty-four primes: those up to 311
+-- those up to 311
 unfoldable pub primes : List ℕ
 unfolding primesFrom isPrime hasDivisor
 primes = primesFrom 0 312
@@ -56,3 +56,24 @@ roundWords = map (rootWord 3) primes
 -- 5.3.3: the eight words of H(0), from the square roots of the first eight primes
 unfoldable pub initialWords : List ℕ
 initialWords = map (rootWord 2) (take 8 primes)
+
+-- n is prime
+pub record IsPrime (n : ℕ) : Type 0 where
+  pub above-one : 2 ≤ n
+  pub undivided : (d : ℕ) → 2 ≤ d → d < n → n % d ≡ 0 → ⊥
+
+-- the first k primes, in rising order: all primes up to the last of them, and nothing else
+pub record FirstPrimes (k : ℕ) (ps : List ℕ) : Type 0 where
+  pub many : length ps ≡ k
+  pub each : (i : ℕ) → i < k → IsPrime (getD ps i 0)
+  pub rising : (i j : ℕ) → i < j → j < k → getD ps i 0 < getD ps j 0
+  pub none-missed : (q : ℕ) → IsPrime q → q ≤ getD ps (k - 1) 0 → (i : ℕ) × (i < k) × (getD ps i 0 ≡ q)
+
+-- 4.2.2: "the first thirty-two bits of the fractional parts of the cube roots of the first sixty-four prime numbers"; 5.3.3: "the first thirty-two bits of the
+-- fractional parts of the square roots of the first eight prime numbers"
+pub record RootWords : Type 0 where
+  pub first-primes : FirstPrimes 64 primes
+  pub many-rounds : length roundWords ≡ 64
+  pub round-word : (i : ℕ) → i < 64 → IsRootWord 3 (getD primes i 0) (getD roundWords i 0)
+  pub many-initial : length initialWords ≡ 8
+  pub initial-word : (i : ℕ) → i < 8 → IsRootWord 2 (getD primes i 0) (getD initialWords i 0)

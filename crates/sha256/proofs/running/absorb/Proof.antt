@@ -30,30 +30,6 @@ turn bytes v₀ v next at fits e inv =
 loop-holds : tie.Need-loop-holds Inv-loop μ-loop
 loop-holds c = (omega arith, refl)
 
-sub-loop : tie.Need-sub-loop Inv-loop μ-loop
-sub-loop c = search needs
-
-add-compress : tie.Need-add-compress Inv-loop μ-loop
-add-compress c = search needs
-
-sub-compress : tie.Need-sub-compress Inv-loop μ-loop
-sub-compress c = search needs
-
-part-compress-start : tie.Need-part-compress-start Inv-loop μ-loop
-part-compress-start c = search needs
-
-part-compress-end : tie.Need-part-compress-end Inv-loop μ-loop
-part-compress-end c = search needs
-
-compress-requires : tie.Need-compress-requires Inv-loop μ-loop
-compress-requires c κs = search needs
-
-add-at : tie.Need-add-at Inv-loop μ-loop
-add-at c = search needs
-
-loop-less : tie.Need-loop-less Inv-loop μ-loop
-loop-less c = search needs
-
 loop-again : tie.Need-loop-again Inv-loop μ-loop
 loop-again c =
     let at-loop = c .before .before .before in
@@ -73,13 +49,13 @@ absorb-spec =
     Inv-loop
     μ-loop
     loop-holds
-    sub-loop
-    add-compress
-    sub-compress
-    part-compress-start
-    part-compress-end
-    compress-requires
-    add-at
-    loop-less
+    (λ c. search needs)
+    (λ c. search needs)
+    (λ c. search needs)
+    (λ c. search needs)
+    (λ c. search needs)
+    (λ c κs. search needs)
+    (λ c. search needs)
+    (λ c. search needs)
     loop-again
     returns)

@@ -20,40 +20,32 @@ next ws sixteen i h p e = e ∙ rw p (replace-next ws sixteen i h)
 
 returns : tie.Need-returns
 returns c =
-    let c₁₅ = c .before in
-    let c₁₄ = c₁₅ .before in
-    let c₁₃ = c₁₄ .before in
-    let c₁₂ = c₁₃ .before in
-    let c₁₁ = c₁₂ .before in
-    let c₁₀ = c₁₁ .before in
-    let c₉ = c₁₀ .before in
-    let c₈ = c₉ .before in
-    let c₇ = c₈ .before in
-    let c₆ = c₇ .before in
-    let c₅ = c₆ .before in
-    let c₄ = c₅ .before in
-    let c₃ = c₄ .before in
-    let c₂ = c₃ .before in
-    let c₁ = c₂ .before in
-    let start = c₁ .before in
+    let c₁₄ = c .before .before in
+    let c₁₂ = c₁₄ .before .before in
+    let c₁₀ = c₁₂ .before .before in
+    let c₈ = c₁₀ .before .before in
+    let c₆ = c₈ .before .before in
+    let c₄ = c₆ .before .before in
+    let c₂ = c₄ .before .before in
+    let start = c₂ .before .before in
     let ws = start .args .ws in
     let sixteen = long start in
     let e₀ = replaced-none ws sixteen in
-    let e₁ = next ws sixteen 0 (omega arith) e₀ (c₁ .replace-word .ensures) in
+    let e₁ = next ws sixteen 0 (omega arith) e₀ (c₂ .before .replace-word .ensures) in
     let e₂ = next ws sixteen 1 (omega arith) e₁ (c₂ .replace-word2 .ensures) in
-    let e₃ = next ws sixteen 2 (omega arith) e₂ (c₃ .replace-word3 .ensures) in
+    let e₃ = next ws sixteen 2 (omega arith) e₂ (c₄ .before .replace-word3 .ensures) in
     let e₄ = next ws sixteen 3 (omega arith) e₃ (c₄ .replace-word4 .ensures) in
-    let e₅ = next ws sixteen 4 (omega arith) e₄ (c₅ .replace-word5 .ensures) in
+    let e₅ = next ws sixteen 4 (omega arith) e₄ (c₆ .before .replace-word5 .ensures) in
     let e₆ = next ws sixteen 5 (omega arith) e₅ (c₆ .replace-word6 .ensures) in
-    let e₇ = next ws sixteen 6 (omega arith) e₆ (c₇ .replace-word7 .ensures) in
+    let e₇ = next ws sixteen 6 (omega arith) e₆ (c₈ .before .replace-word7 .ensures) in
     let e₈ = next ws sixteen 7 (omega arith) e₇ (c₈ .replace-word8 .ensures) in
-    let e₉ = next ws sixteen 8 (omega arith) e₈ (c₉ .replace-word9 .ensures) in
+    let e₉ = next ws sixteen 8 (omega arith) e₈ (c₁₀ .before .replace-word9 .ensures) in
     let e₁₀ = next ws sixteen 9 (omega arith) e₉ (c₁₀ .replace-word10 .ensures) in
-    let e₁₁ = next ws sixteen 10 (omega arith) e₁₀ (c₁₁ .replace-word11 .ensures) in
+    let e₁₁ = next ws sixteen 10 (omega arith) e₁₀ (c₁₂ .before .replace-word11 .ensures) in
     let e₁₂ = next ws sixteen 11 (omega arith) e₁₁ (c₁₂ .replace-word12 .ensures) in
-    let e₁₃ = next ws sixteen 12 (omega arith) e₁₂ (c₁₃ .replace-word13 .ensures) in
+    let e₁₃ = next ws sixteen 12 (omega arith) e₁₂ (c₁₄ .before .replace-word13 .ensures) in
     let e₁₄ = next ws sixteen 13 (omega arith) e₁₃ (c₁₄ .replace-word14 .ensures) in
-    let e₁₅ = next ws sixteen 14 (omega arith) e₁₄ (c₁₅ .replace-word15 .ensures) in
+    let e₁₅ = next ws sixteen 14 (omega arith) e₁₄ (c .before .replace-word15 .ensures) in
     next ws sixteen 15 (omega arith) e₁₅ (c .replace-word16 .ensures) ∙ replaced-all ws sixteen
 
 pub next-words-spec : {M : Type 1} → statement M

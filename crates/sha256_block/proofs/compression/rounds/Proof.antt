@@ -29,30 +29,9 @@ current block (suc n) h e first later =
     later (omega arith) ∙ ap (λ l. drop 16 (extend 16 l)) (rw before at e) ∙ next-part words (length-words 16 block) (16 * n) (omega arith)
     ∙ ap (λ t. take 16 (drop t (extend 48 words))) after
 
-round-words-requires : tie.Need-round-words-requires Inv-loop μ-loop
-round-words-requires c κs = search needs
-
-block-words-requires : tie.Need-block-words-requires Inv-loop μ-loop
-block-words-requires c κs = search needs
-
 loop-holds : tie.Need-loop-holds Inv-loop μ-loop
 unfolding schedule roundsOf
 loop-holds c = (omega arith, c .block-words .ensures ∙ sym (first-words _ (length-words 16 _) 48), refl)
-
-turn-words-requires : tie.Need-turn-words-requires Inv-loop μ-loop
-turn-words-requires c κs = search needs
-
-mul-sixteen-rounds : tie.Need-mul-sixteen-rounds Inv-loop μ-loop
-mul-sixteen-rounds c = search needs
-
-sixteen-rounds-requires : tie.Need-sixteen-rounds-requires Inv-loop μ-loop
-sixteen-rounds-requires c κs = search needs
-
-add-turn : tie.Need-add-turn Inv-loop μ-loop
-add-turn c = search needs
-
-loop-less : tie.Need-loop-less Inv-loop μ-loop
-loop-less c = search needs
 
 loop-again : tie.Need-loop-again Inv-loop μ-loop
 loop-again c =
@@ -73,13 +52,13 @@ rounds-spec =
     (tie.spec
     Inv-loop
     μ-loop
-    round-words-requires
-    block-words-requires
+    (λ c κs. search needs)
+    (λ c κs. search needs)
     loop-holds
-    turn-words-requires
-    mul-sixteen-rounds
-    sixteen-rounds-requires
-    add-turn
-    loop-less
+    (λ c κs. search needs)
+    (λ c. search needs)
+    (λ c κs. search needs)
+    (λ c. search needs)
+    (λ c. search needs)
     loop-again
     returns)

@@ -12,54 +12,6 @@ use Rattle.sha256_block.specs.declared.compression.HashWords.{HashWords}
 use Rattle.sha256_block.proofs.compression.sixteen_rounds.Statement.{statement}
 use Rattle.sha256_block.proofs.compression.sixteen_rounds.Tie as tie
 
-round-at-requires : tie.Need-round-at-requires
-round-at-requires c κs = (c .pre, omega arith)
-
-round-at-requires-2 : tie.Need-round-at-requires-2
-round-at-requires-2 c κs = (c .before .pre, omega arith)
-
-round-at-requires-3 : tie.Need-round-at-requires-3
-round-at-requires-3 c κs = (c .before .before .pre, omega arith)
-
-round-at-requires-4 : tie.Need-round-at-requires-4
-round-at-requires-4 c κs = (c .before .before .before .pre, omega arith)
-
-round-at-requires-5 : tie.Need-round-at-requires-5
-round-at-requires-5 c κs = (c .before .before .before .before .pre, omega arith)
-
-round-at-requires-6 : tie.Need-round-at-requires-6
-round-at-requires-6 c κs = (c .before .before .before .before .before .pre, omega arith)
-
-round-at-requires-7 : tie.Need-round-at-requires-7
-round-at-requires-7 c κs = (c .before .before .before .before .before .before .pre, omega arith)
-
-round-at-requires-8 : tie.Need-round-at-requires-8
-round-at-requires-8 c κs = (c .before .before .before .before .before .before .before .pre, omega arith)
-
-round-at-requires-9 : tie.Need-round-at-requires-9
-round-at-requires-9 c κs = (c .before .before .before .before .before .before .before .before .pre, omega arith)
-
-round-at-requires-10 : tie.Need-round-at-requires-10
-round-at-requires-10 c κs = (c .before .before .before .before .before .before .before .before .before .pre, omega arith)
-
-round-at-requires-11 : tie.Need-round-at-requires-11
-round-at-requires-11 c κs = (c .before .before .before .before .before .before .before .before .before .before .pre, omega arith)
-
-round-at-requires-12 : tie.Need-round-at-requires-12
-round-at-requires-12 c κs = (c .before .before .before .before .before .before .before .before .before .before .before .pre, omega arith)
-
-round-at-requires-13 : tie.Need-round-at-requires-13
-round-at-requires-13 c κs = (c .before .before .before .before .before .before .before .before .before .before .before .before .pre, omega arith)
-
-round-at-requires-14 : tie.Need-round-at-requires-14
-round-at-requires-14 c κs = (c .before .before .before .before .before .before .before .before .before .before .before .before .before .pre, omega arith)
-
-round-at-requires-15 : tie.Need-round-at-requires-15
-round-at-requires-15 c κs = (c .before .before .before .before .before .before .before .before .before .before .before .before .before .before .pre, omega arith)
-
-round-at-requires-16 : tie.Need-round-at-requires-16
-round-at-requires-16 c κs = (c .before .before .before .before .before .before .before .before .before .before .before .before .before .before .before .pre, omega arith)
-
 -- one round more of a turn
 next : (t : ℕ) (ws all : List ℕ) (v₀ : HashWords) (i : ℕ) {v r : HashWords} → ws ≡ take 16 (drop t all) → i < 16 → v ≡ roundsOf (t + i) v₀ all
     → r ≡ round v (getD roundWords (t + i) 0) (getD ws i 0) → r ≡ roundsOf (t + suc i) v₀ all
@@ -111,20 +63,20 @@ pub sixteen-rounds-spec : {M : Type 1} → statement M
 sixteen-rounds-spec =
     tie.close
     (tie.spec
-    round-at-requires
-    round-at-requires-2
-    round-at-requires-3
-    round-at-requires-4
-    round-at-requires-5
-    round-at-requires-6
-    round-at-requires-7
-    round-at-requires-8
-    round-at-requires-9
-    round-at-requires-10
-    round-at-requires-11
-    round-at-requires-12
-    round-at-requires-13
-    round-at-requires-14
-    round-at-requires-15
-    round-at-requires-16
+    (λ c κs. (c .pre, omega arith))
+    (λ c κs. (c .before .pre, omega arith))
+    (λ c κs. (c .before .before .pre, omega arith))
+    (λ c κs. (c .before .before .before .pre, omega arith))
+    (λ c κs. (c .before .before .before .before .pre, omega arith))
+    (λ c κs. (c .before .before .before .before .before .pre, omega arith))
+    (λ c κs. (c .before .before .before .before .before .before .pre, omega arith))
+    (λ c κs. (c .before .before .before .before .before .before .before .pre, omega arith))
+    (λ c κs. (c .before .before .before .before .before .before .before .before .pre, omega arith))
+    (λ c κs. (c .before .before .before .before .before .before .before .before .before .pre, omega arith))
+    (λ c κs. (c .before .before .before .before .before .before .before .before .before .before .pre, omega arith))
+    (λ c κs. (c .before .before .before .before .before .before .before .before .before .before .before .pre, omega arith))
+    (λ c κs. (c .before .before .before .before .before .before .before .before .before .before .before .before .pre, omega arith))
+    (λ c κs. (c .before .before .before .before .before .before .before .before .before .before .before .before .before .pre, omega arith))
+    (λ c κs. (c .before .before .before .before .before .before .before .before .before .before .before .before .before .before .pre, omega arith))
+    (λ c κs. (c .before .before .before .before .before .before .before .before .before .before .before .before .before .before .before .pre, omega arith))
     returns)

@@ -15,7 +15,7 @@ returns c =
     let args = c .before .before .before .args in
     let over : 65535 < args .self .total + length (now (args .bytes)) = omega arith in
     let test = lt-ltb 65535 (args .self .total + length (now (args .bytes))) over in
-    record { number = rw test; state = rw test }
+    record { code = rw test; state = rw test }
 
 returns-2 : tie.Need-returns-2
 unfolding addCode addState
@@ -23,7 +23,7 @@ returns-2 c =
     let args = c .before .before .before .before .args in
     let fits : args .self .total + length (now (args .bytes)) ≤ 65535 = omega arith in
     let test = le-ltb 65535 (args .self .total + length (now (args .bytes))) fits in
-    record { number = rw test; state = rw test (c .extended .ensures) }
+    record { code = rw test; state = rw test (c .extended .ensures) }
 
 pub add-spec : {M : Type 1} → statement M
 add-spec = tie.close (tie.spec (λ c. search needs) (λ c. search needs) returns (λ c κs. search needs) returns-2)
