@@ -1,16 +1,15 @@
 // The chains of one leaf: its key, the values that a signature shows, and the key from these.
 ghost use mathlib.Core.Path.{_≡_};
-ghost use mathlib.Core.List.{List, _++_};
-ghost use Prim.Native.Nat.{ℕ, _+_, _-_, _*_, _≤_};
+ghost use mathlib.Core.List.{_++_};
+ghost use Prim.Native.Nat.{_+_, _-_, _*_, _≤_};
 ghost use lib.ListN.{length, take, drop};
-ghost use Rattle.sha256.specs.Running.{hashed};
-ghost use Rattle.tweak.specs.Tweak.{seedBlock};
+ghost use Rattle.tweak.specs.Tweak.{Seeded};
 ghost use Rattle.codewords.specs.Codeword.{stepsLeft};
 ghost use Rattle.chains.specs.Leaves.{revealed, leafKey, recovered};
 use super::steps::chain_value;
 use super::steps::walk;
-use sha256::Hash;
 use tweak::Chain;
+use tweak::Hasher;
 use tweak::Leaf;
 use tweak::absorb;
 use tweak::begin;
@@ -20,23 +19,17 @@ use words::bytes::read_16;
 use words::bytes::write_16;
 
 // The leaf key. Each top goes into the hash as it is made.
-pub fn key_of_leaf(
-    state: Hash,
-    layer: u8,
-    tree: u64,
-    leaf: Leaf,
-    secret: [u8; 16],
-    width: u32,
-    chains: u32,
-) -> [u8; 16]
+pub fn key_of_leaf(h: Hasher, leaf: Leaf, secret: [u8; 16], width: u32, chains: u32) -> [u8; 16]
+    requires { ⌜ Seeded h ⌝ }
     requires { ⌜ (1 ≤ width) × (chains ≤ 40) ⌝ }
-    ensures { λ r. ⌜ ((seed : List ℕ) → length seed ≡ 16 → state ≡ hashed (seedBlock seed) → r ≡ leafKey seed secret layer tree width chains (leaf .0)) ⌝ }
+    ensures { λ r. ⌜ r ≡ leafKey (h .domain) secret width chains (leaf .0) ⌝ }
 {
-    let address = leaf_key_address(layer, tree, leaf);
-    let mut hash = begin(state, address);
+    let d = h.domain;
+    let address = leaf_key_address(d, leaf);
+    let mut hash = begin(h, address);
     let mut c = 0;
     while c < chains {
-        let top = chain_value(state, layer, tree, leaf, Chain(c), secret, width - 1);
+        let top = chain_value(h, leaf, Chain(c), secret, width - 1);
         let next = absorb(hash, top);
         hash = next;
         c += 1;
@@ -46,9 +39,7 @@ pub fn key_of_leaf(
 
 // Writes the values that a codeword shows, from index `at` on.
 pub fn write_values(
-    state: Hash,
-    layer: u8,
-    tree: u64,
+    h: Hasher,
     leaf: Leaf,
     secret: [u8; 16],
     row: [u8; 40],
@@ -56,13 +47,14 @@ pub fn write_values(
     out: &mut [u8],
     at: usize,
 )
+    requires { ⌜ Seeded h ⌝ }
     requires { ⌜ (chains ≤ 40) × (at + 16 * chains ≤ length (now out)) ⌝ }
-    ensures { λ _. ⌜ ((seed : List ℕ) → length seed ≡ 16 → state ≡ hashed (seedBlock seed) → now (out .exit) ≡ take at (now (out .entry)) ++ revealed seed secret layer tree (leaf .0) chains row ++ drop (at + 16 * chains) (now (out .entry))) ⌝ }
+    ensures { λ _. ⌜ now (out .exit) ≡ take at (now (out .entry)) ++ revealed (h .domain) secret (leaf .0) chains row ++ drop (at + 16 * chains) (now (out .entry)) ⌝ }
 {
     let mut c: u32 = 0;
     while c < chains {
         let height = row[c as usize] as u32;
-        let value = chain_value(state, layer, tree, leaf, Chain(c), secret, height);
+        let value = chain_value(h, leaf, Chain(c), secret, height);
         write_16(out, at + 16 * (c as usize), value);
         c += 1;
     }
@@ -76,9 +68,7 @@ pub struct Key {
 
 // The leaf key from the values that stand from index `at` on, and the steps made, those of each chain added up.
 pub fn recover_key(
-    state: Hash,
-    layer: u8,
-    tree: u64,
+    h: Hasher,
     leaf: Leaf,
     row: [u8; 40],
     width: u32,
@@ -86,18 +76,20 @@ pub fn recover_key(
     values: &[u8],
     at: usize,
 ) -> Key
+    requires { ⌜ Seeded h ⌝ }
     requires { ⌜ (1 ≤ width) × (width ≤ 16) × (chains ≤ 40) × (at + 16 * chains ≤ length (now values)) ⌝ }
-    ensures key { λ r. ⌜ ((seed : List ℕ) → length seed ≡ 16 → state ≡ hashed (seedBlock seed) → r .key ≡ recovered seed layer tree width chains (leaf .0) row (drop at (now (values .entry)))) ⌝ }
+    ensures key { λ r. ⌜ r .key ≡ recovered (h .domain) width chains (leaf .0) row (drop at (now (values .entry))) ⌝ }
     ensures steps { λ r. ⌜ r .steps ≡ stepsLeft width (take chains row) ⌝ }
 {
-    let address = leaf_key_address(layer, tree, leaf);
-    let mut hash = begin(state, address);
+    let d = h.domain;
+    let address = leaf_key_address(d, leaf);
+    let mut hash = begin(h, address);
     let mut steps = 0;
     let mut c: u32 = 0;
     while c < chains {
         let height = row[c as usize] as u32;
         let value = read_16(values, at + 16 * (c as usize));
-        let walked = walk(state, layer, tree, leaf, Chain(c), height, width - 1, value);
+        let walked = walk(h, leaf, Chain(c), height, width - 1, value);
         let top = walked.value;
         let next = absorb(hash, top);
         hash = next;

@@ -1,54 +1,66 @@
--- Nodes: their length, a node from its children, and a step of the climb to the node above.
+-- Nodes over any leaves: their length, a node from its children, and a step of the climb to the node above.
 use mathlib.Core.Path.{_≡_, _∙_}
 use mathlib.Core.List.{List, _++_, append-assoc}
 use Prim.Native.Nat.{ℕ, zero, suc, _+_, _-_, _*_, _/_, _%_, _^_, _≤_}
 use native.Mathlib.Numerals.{add-one}
 use native.Mathlib.Omega.{arith}
-use lib.ListN.{length, take, drop}
+use lib.ListN.{length, take, drop, length-append}
 use lib.Seq.{drop-drop}
-use Rattle.sha256.specs.Digest.{digest}
-use Rattle.tweak.specs.Tweak.{nodeAddress, seedBlock, tweakedHash}
-use Rattle.tweak.proofs.TweakLaws.{length-tweaked, tweaked-digest}
-use Rattle.chains.specs.Leaves.{leafKey, keyOfTops}
-use Rattle.tree.specs.Tree.{node, children, climbed}
-use Rattle.tree.proofs.Indices.{left-even, right-odd, half-place}
+use Rattle.sha256.specs.Digest.{wordBytes}
+use Rattle.sha256.specs.Running.{addState, finished, hashed}
+use Rattle.sha256.specs.declared.running.Hash.{Hash}
+use Rattle.sha256.proofs.Joined.{more-taken}
+use Rattle.tweak.specs.Tweak.{nodeAddress, seedBlock}
+use Rattle.tweak.specs.declared.Domain.{Domain}
+use Rattle.tweak.proofs.TweakLaws.{length-address, length-seed-block, length-tweaked, tweak-ended}
+use Rattle.tree.specs.Tree.{parentOf, node, climbedOnce, climbed}
+use Rattle.tree.proofs.Indices.{left-even, right-odd}
 
-module _ (seed secret : List ℕ) (layer tree w l : ℕ) where
-  pub length-node : (height index : ℕ) → length (node seed secret layer tree w l height index) ≡ 16
-  unfolding node leafKey keyOfTops
-  length-node zero index = length-tweaked seed _ _
-  length-node (suc k) index = length-tweaked seed _ _
+module _ (d : Domain) (leaves : ℕ → List ℕ) where
+  pub length-node : ((i : ℕ) → length (leaves i) ≡ 16) → (height index : ℕ) → length (node d leaves height index) ≡ 16
+  unfolding node parentOf
+  length-node each zero index = each index
+  length-node each (suc k) index = length-tweaked d _ _
 
-  -- at the height 0 stand the leaf keys
-  pub node-leaf : (height index : ℕ) {r : List ℕ} → height ≡ 0 → r ≡ leafKey seed secret layer tree w l index → r ≡ node seed secret layer tree w l height index
+  -- at the height 0 stand the leaves
+  pub node-leaf : (height index : ℕ) {r : List ℕ} → height ≡ 0 → r ≡ leaves index → r ≡ node d leaves height index
   unfolding node
   node-leaf height index low e = e ∙ rw low
 
   -- above it, the hash of the two children
-  pub node-above : (height index : ℕ) {left right r : List ℕ} → 1 ≤ height → left ≡ node seed secret layer tree w l (height - 1) (2 * index)
-      → right ≡ node seed secret layer tree w l (height - 1) (2 * index + 1) → r ≡ tweakedHash seed (nodeAddress layer tree height index) (left ++ right)
-      → r ≡ node seed secret layer tree w l height index
+  pub node-above : (height index : ℕ) {left right r : List ℕ} → 1 ≤ height → left ≡ node d leaves (height - 1) (2 * index)
+      → right ≡ node d leaves (height - 1) (2 * index + 1) → r ≡ parentOf d height index left right → r ≡ node d leaves height index
   unfolding node
   node-above zero index some p q e = absurd (omega arith)
   node-above (suc k) index some p q e = let below : suc k - 1 ≡ k = omega arith in e ∙ rw (p, q, below)
 
--- the two children are taken one after the other
-pub children-taken : (seed address left right : List ℕ) {r : List ℕ} → r ≡ take 16 (digest (seedBlock seed ++ address ++ left ++ right)) → r ≡ tweakedHash seed address (left ++ right)
-children-taken seed address left right e = tweaked-digest seed address (left ++ right) (e ∙ rw (append-assoc (seedBlock seed ++ address) left right))
+-- the running hash takes the two children one after the other
+pub children-taken : (d : Domain) (height index : ℕ) (left right : List ℕ) {a : List ℕ} {s₀ s₁ s₂ : Hash} {r : List ℕ}
+    → length (d .seed) ≡ 16 → length left ≡ 16 → length right ≡ 16 → a ≡ nodeAddress d height index
+    → s₀ ≡ hashed (seedBlock (d .seed) ++ a) → s₁ ≡ addState s₀ left → s₂ ≡ addState s₁ right → r ≡ take 16 (wordBytes (finished s₂ .words))
+    → r ≡ parentOf d height index left right
+unfolding parentOf
+children-taken d height index left right long long-left long-right made e₀ e₁ e₂ ended =
+    let address = nodeAddress d height index in
+    let front = seedBlock (d .seed) ++ address in
+    let size : length front ≡ 86 = length-append (seedBlock (d .seed)) address ∙ rw (length-seed-block (d .seed) long, length-address d 2 0 height index) in
+    let one = more-taken front left (omega arith) (rw made at e₀) e₁ in
+    let two = more-taken (front ++ left) right (omega (arith, length-append front left)) one e₂ in
+    tweak-ended d address (left ++ right) (two ∙ rw (append-assoc front left right)) ended
 
-module _ (seed address own other : List ℕ) (index : ℕ) where
+module _ (d : Domain) (height index : ℕ) (own other : List ℕ) where
   -- from a left child and its sibling, and from a right child and its sibling
-  pub left-taken : {r : List ℕ} → index % 2 ≡ 0 → r ≡ tweakedHash seed address (own ++ other) → r ≡ tweakedHash seed address (children index own other)
-  unfolding children
-  left-taken even e = e ∙ rw (left-even index even)
+  pub left-climbed : {r : List ℕ} → index % 2 ≡ 0 → r ≡ parentOf d height (index / 2) own other → r ≡ climbedOnce d height index own other
+  unfolding climbedOnce
+  left-climbed even e = e ∙ rw (left-even index even)
 
-  pub right-taken : {r : List ℕ} → (index % 2 ≡ 0 → ⊥) → r ≡ tweakedHash seed address (other ++ own) → r ≡ tweakedHash seed address (children index own other)
-  unfolding children
-  right-taken odd e = e ∙ rw (right-odd index odd)
+  pub right-climbed : {r : List ℕ} → (index % 2 ≡ 0 → ⊥) → r ≡ parentOf d height (index / 2) other own → r ≡ climbedOnce d height index own other
+  unfolding climbedOnce
+  right-climbed odd e = e ∙ rw (right-odd index odd)
 
 -- one height further on the climb along the siblings that stand from index `at` on
-pub climbed-next : (seed : List ℕ) (layer tree leaf : ℕ) (key all : List ℕ) (at k index : ℕ) {value other next : List ℕ} → index ≡ leaf / 2 ^ k
-    → value ≡ climbed seed layer tree leaf key (drop at all) k → other ≡ take 16 (drop (at + 16 * k) all)
-    → next ≡ tweakedHash seed (nodeAddress layer tree (k + 1) (index / 2)) (children index value other) → next ≡ climbed seed layer tree leaf key (drop at all) (k + 1)
+pub climbed-next : (d : Domain) (leaf : ℕ) (key all : List ℕ) (at k index : ℕ) {value other next : List ℕ} → index ≡ leaf / 2 ^ k
+    → value ≡ climbed d leaf key (drop at all) k → other ≡ take 16 (drop (at + 16 * k) all)
+    → next ≡ climbedOnce d (k + 1) index value other → next ≡ climbed d leaf key (drop at all) (k + 1)
 unfolding climbed
-climbed-next seed layer tree leaf key all at k index i p o q = q ∙ rw (i, half-place, p, o, add-one, drop-drop)
+climbed-next d leaf key all at k index i p o q = q ∙ rw (i, p, o, add-one, drop-drop)

@@ -7,22 +7,23 @@ use native.Mathlib.Omega.{arith}
 use lib.ListN.{length, take, drop}
 use Rattle.words.specs.Joined.{joinTo}
 use Rattle.words.proofs.Joins.{write-next}
+use Rattle.tweak.specs.declared.Domain.{Domain}
 use Rattle.tree.specs.Tree.{node, sibling, path}
 use Rattle.tree.proofs.NodeLaws.{length-node}
 
-module _ (seed secret : List ℕ) (layer tree w l leaf : ℕ) (o : List ℕ) where
+module _ (d : Domain) (leaves : ℕ → List ℕ) (leaf : ℕ) (o : List ℕ) where
   -- before the first turn
-  pub path-start : o ≡ path seed secret layer tree w l 0 leaf ++ drop (16 * 0) o
+  pub path-start : o ≡ path d leaves 0 leaf ++ drop (16 * 0) o
   unfolding path joinTo
   path-start = refl
 
   -- a turn
-  pub path-next : (h k index : ℕ) {i : ℕ} {v out out′ : List ℕ} → 16 * h ≤ length o → k < h → index ≡ leaf / 2 ^ k → i ≡ sibling index
-      → v ≡ node seed secret layer tree w l k i → out ≡ path seed secret layer tree w l k leaf ++ drop (16 * k) o
-      → out′ ≡ take (16 * k) out ++ v ++ drop (16 * k + 16) out → out′ ≡ path seed secret layer tree w l (k + 1) leaf ++ drop (16 * (k + 1)) o
+  pub path-next : ((i : ℕ) → length (leaves i) ≡ 16) → (h k index : ℕ) {i : ℕ} {v out out′ : List ℕ} → 16 * h ≤ length o → k < h
+      → index ≡ leaf / 2 ^ k → i ≡ sibling index → v ≡ node d leaves k i → out ≡ path d leaves k leaf ++ drop (16 * k) o
+      → out′ ≡ take (16 * k) out ++ v ++ drop (16 * k + 16) out → out′ ≡ path d leaves (k + 1) leaf ++ drop (16 * (k + 1)) o
   unfolding path
-  path-next h k index {v = v} {out = out} {out′ = out′} fits low p q s e put =
-      let f : ℕ → List ℕ = λ j. node seed secret layer tree w l j (sibling (leaf / 2 ^ j)) in
+  path-next each h k index {v = v} {out = out} {out′ = out′} fits low p q s e put =
+      let f : ℕ → List ℕ = λ j. node d leaves j (sibling (leaf / 2 ^ j)) in
       let here : v ≡ f k = s ∙ rw (q, p) in
       rw zero-add at
-      (write-next f 16 h (λ j below. length-node seed secret layer tree w l j (sibling (leaf / 2 ^ j))) 0 o (omega arith) k {v = v} {out = out} {out′ = out′} low here (rw zero-add e) (rw zero-add put))
+      (write-next f 16 h (λ j below. length-node d leaves each j (sibling (leaf / 2 ^ j))) 0 o (omega arith) k {v = v} {out = out} {out′ = out′} low here (rw zero-add e) (rw zero-add put))

@@ -1,22 +1,22 @@
 // The tree over the leaf keys: nodes, Root, the siblings of a leaf's way up, and the climb along siblings.
 ghost use mathlib.Core.Path.{_≡_};
-ghost use mathlib.Core.List.{List, _++_};
-ghost use Prim.Native.Nat.{ℕ, _+_, _-_, _*_, _/_, _^_, _≤_, _<_};
+ghost use mathlib.Core.List.{_++_};
+ghost use Prim.Native.Nat.{_+_, _-_, _*_, _^_, _≤_, _<_};
 ghost use lib.ListN.{length, drop};
-ghost use Rattle.sha256.specs.Running.{hashed};
-ghost use Rattle.tweak.specs.Tweak.{nodeAddress, seedBlock, tweakedHash};
-ghost use Rattle.tree.specs.Tree.{node as nodeAt, path, sibling as siblingOf, children, climbed, Roots};
+ghost use Rattle.tweak.specs.Tweak.{Seeded};
+ghost use Rattle.chains.specs.Leaves.{leafKey};
+ghost use Rattle.tree.specs.Tree.{parentOf, node as nodeAt, path, sibling as siblingOf, climbedOnce, climbed, Roots};
 use chains::leaves::key_of_leaf;
 use profile::Profile;
 use profile::check_profile;
 use refusal::Outcome;
-use sha256::Hash;
+use tweak::Hasher;
 use tweak::Leaf;
 use tweak::absorb;
 use tweak::begin;
 use tweak::end;
+use tweak::first_hasher;
 use tweak::node_address;
-use tweak::seeded;
 use words::bytes::read_16;
 use words::bytes::write_16;
 
@@ -27,53 +27,37 @@ pub struct TreeRoot {
 }
 
 // The hash of two children, by the height and index of the node made.
-fn parent(
-    state: Hash,
-    layer: u8,
-    tree: u64,
-    height: u32,
-    index: u32,
-    left: [u8; 16],
-    right: [u8; 16],
-) -> [u8; 16]
-    ensures { λ r. ⌜ ((seed : List ℕ) → length seed ≡ 16 → state ≡ hashed (seedBlock seed) → r ≡ tweakedHash seed (nodeAddress layer tree height index) (left ++ right)) ⌝ }
+pub fn parent(h: Hasher, height: u32, index: u32, left: [u8; 16], right: [u8; 16]) -> [u8; 16]
+    requires { ⌜ Seeded h ⌝ }
+    ensures { λ r. ⌜ r ≡ parentOf (h .domain) height index left right ⌝ }
 {
-    let address = node_address(layer, tree, height, index);
-    let opened = begin(state, address);
+    let d = h.domain;
+    let address = node_address(d, height, index);
+    let opened = begin(h, address);
     let with_left = absorb(opened, left);
     end(absorb(with_left, right))
 }
 
 // A node of any height: each leaf below it is hashed once, and the calls in progress hold one value a height.
 pub fn node(
-    state: Hash,
-    layer: u8,
-    tree: u64,
+    h: Hasher,
     secret: [u8; 16],
     width: u32,
     chains: u32,
     height: u32,
     index: u32,
 ) -> [u8; 16]
+    requires { ⌜ Seeded h ⌝ }
     requires { ⌜ (1 ≤ width) × (chains ≤ 40) × (height ≤ 31) × (index < 2 ^ (31 - height)) ⌝ }
-    ensures { λ r. ⌜ ((seed : List ℕ) → length seed ≡ 16 → state ≡ hashed (seedBlock seed) → r ≡ nodeAt seed secret layer tree width chains height index) ⌝ }
+    ensures { λ r. ⌜ r ≡ nodeAt (h .domain) (leafKey (h .domain) secret width chains) height index ⌝ }
 {
     if height == 0 {
-        return key_of_leaf(state, layer, tree, Leaf(index), secret, width, chains);
+        return key_of_leaf(h, Leaf(index), secret, width, chains);
     }
     let below = height - 1;
-    let left = node(state, layer, tree, secret, width, chains, below, 2 * index);
-    let right = node(
-        state,
-        layer,
-        tree,
-        secret,
-        width,
-        chains,
-        below,
-        2 * index + 1,
-    );
-    parent(state, layer, tree, height, index, left, right)
+    let left = node(h, secret, width, chains, below, 2 * index);
+    let right = node(h, secret, width, chains, below, 2 * index + 1);
+    parent(h, height, index, left, right)
 }
 
 // The other child of the same node.
@@ -86,9 +70,7 @@ fn sibling(index: u32) -> u32
 
 // The siblings of the nodes from a leaf up to below the root, from the bottom.
 pub fn write_path(
-    state: Hash,
-    layer: u8,
-    tree: u64,
+    h: Hasher,
     secret: [u8; 16],
     width: u32,
     chains: u32,
@@ -96,13 +78,14 @@ pub fn write_path(
     leaf: u32,
     out: &mut [u8],
 )
+    requires { ⌜ Seeded h ⌝ }
     requires { ⌜ (1 ≤ width) × (chains ≤ 40) × (height ≤ 10) × (leaf < 2 ^ height) × (16 * height ≤ length (now out)) ⌝ }
-    ensures { λ _. ⌜ ((seed : List ℕ) → length seed ≡ 16 → state ≡ hashed (seedBlock seed) → now (out .exit) ≡ path seed secret layer tree width chains height leaf ++ drop (16 * height) (now (out .entry))) ⌝ }
+    ensures { λ _. ⌜ now (out .exit) ≡ path (h .domain) (leafKey (h .domain) secret width chains) height leaf ++ drop (16 * height) (now (out .entry)) ⌝ }
 {
     let mut index = leaf;
     let mut k: u32 = 0;
     while k < height {
-        let value = node(state, layer, tree, secret, width, chains, k, sibling(index));
+        let value = node(h, secret, width, chains, k, sibling(index));
         write_16(out, 16 * (k as usize), value);
         index /= 2;
         k += 1;
@@ -110,44 +93,36 @@ pub fn write_path(
 }
 
 // One step of the climb: from a node and its sibling to the node above, which has the height `height`.
-fn climb_once(
-    state: Hash,
-    layer: u8,
-    tree: u64,
-    height: u32,
-    index: u32,
-    own: [u8; 16],
-    other: [u8; 16],
-) -> [u8; 16]
-    ensures { λ r. ⌜ ((seed : List ℕ) → length seed ≡ 16 → state ≡ hashed (seedBlock seed) → r ≡ tweakedHash seed (nodeAddress layer tree height (index / 2)) (children index own other)) ⌝ }
+fn climb_once(h: Hasher, height: u32, index: u32, own: [u8; 16], other: [u8; 16]) -> [u8; 16]
+    requires { ⌜ Seeded h ⌝ }
+    ensures { λ r. ⌜ r ≡ climbedOnce (h .domain) height index own other ⌝ }
 {
     if index % 2 == 0 {
-        parent(state, layer, tree, height, index / 2, own, other)
+        parent(h, height, index / 2, own, other)
     } else {
-        parent(state, layer, tree, height, index / 2, other, own)
+        parent(h, height, index / 2, other, own)
     }
 }
 
 // The climb from a leaf key along the siblings that stand from index `at` on.
 pub fn climb_path(
-    state: Hash,
-    layer: u8,
-    tree: u64,
+    h: Hasher,
     leaf: u32,
     key: [u8; 16],
     height: u32,
     siblings: &[u8],
     at: usize,
 ) -> [u8; 16]
+    requires { ⌜ Seeded h ⌝ }
     requires { ⌜ (height ≤ 10) × (at + 16 * height ≤ length (now siblings)) ⌝ }
-    ensures { λ r. ⌜ ((seed : List ℕ) → length seed ≡ 16 → state ≡ hashed (seedBlock seed) → r ≡ climbed seed layer tree leaf key (drop at (now (siblings .entry))) height) ⌝ }
+    ensures { λ r. ⌜ r ≡ climbed (h .domain) leaf key (drop at (now (siblings .entry))) height ⌝ }
 {
     let mut value = key;
     let mut index = leaf;
     let mut k: u32 = 0;
     while k < height {
         let other = read_16(siblings, at + 16 * (k as usize));
-        let next = climb_once(state, layer, tree, k + 1, index, value, other);
+        let next = climb_once(h, k + 1, index, value, other);
         value = next;
         index /= 2;
         k += 1;
@@ -168,10 +143,10 @@ pub fn root(p: Profile, seed: [u8; 16], secret: [u8; 16]) -> TreeRoot
         Outcome::Granted => {
             let shape = p.shape;
             let height = p.height;
-            let state = seeded(seed);
+            let h = first_hasher(seed);
             TreeRoot {
                 outcome: outcome,
-                root: node(state, 0, 0, secret, shape.width, shape.chains, height, 0),
+                root: node(h, secret, shape.width, shape.chains, height, 0),
             }
         }
     }

@@ -1,18 +1,31 @@
 // Addresses (FIPS 205) and the tweaked hash.
 ghost use mathlib.Core.Path.{_≡_};
-ghost use mathlib.Core.List.{List, _++_};
-ghost use Prim.Native.Nat.{ℕ, _≤_};
-ghost use lib.ListN.{length, take};
-ghost use Rattle.sha256.specs.Digest.{padding, wordBytes, digest};
-ghost use Rattle.sha256.specs.Running.{hashed};
-ghost use Rattle.tweak.specs.Tweak.{address as addressOf, chainStepAddress, leafKeyAddress, nodeAddress, chainStartAddress, seedBlock, tweakedHash};
+ghost use mathlib.Core.List.{_++_};
+ghost use lib.ListN.{take};
+ghost use Rattle.sha256.specs.Digest.{padding, wordBytes};
+ghost use Rattle.sha256.specs.Running.{addState, finished, hashed};
+ghost use Rattle.tweak.specs.Tweak.{firstDomain, address as addressOf, chainStepAddress, leafKeyAddress, nodeAddress, chainStartAddress, seedBlock, tweakedHash, Seeded};
 use sha256::Hash;
 use sha256::put;
 use sha256_block::HashWords;
 use sha256_block::compress;
+use sha256_block::initial;
 use words::bytes::read_16;
 use words::bytes::word_bytes;
 use words::bytes::write_16;
+
+// What the hashes of one tree share (FIPS 205: PK.seed and the first two fields of an address).
+pub struct Domain {
+    pub seed: [u8; 16],
+    pub layer: u8,
+    pub tree: u64,
+}
+
+// A domain with the hash value after its seed's block, which every tweaked hash of the domain goes on from.
+pub struct Hasher {
+    pub domain: Domain,
+    pub words: HashWords,
+}
 
 // Leaf, chain and height numbers have the same width; each is a type of its own, so that none can stand in another's field.
 pub struct Leaf(pub u32);
@@ -23,9 +36,11 @@ pub struct Chain(pub u32);
 pub struct Height(pub u32);
 
 // The 22 bytes of an address.
-fn address(layer: u8, tree: u64, kind: u8, first: u32, second: u32, third: u32) -> [u8; 22]
-    ensures { λ r. ⌜ r ≡ addressOf layer tree kind first second third ⌝ }
+fn address(d: Domain, kind: u8, first: u32, second: u32, third: u32) -> [u8; 22]
+    ensures { λ r. ⌜ r ≡ addressOf d kind first second third ⌝ }
 {
+    let layer = d.layer;
+    let tree = d.tree;
     let a = word_bytes(first);
     let b = word_bytes(second);
     let c = word_bytes(third);
@@ -56,60 +71,78 @@ fn address(layer: u8, tree: u64, kind: u8, first: u32, second: u32, third: u32) 
 }
 
 // The address of a chain step (type 0), by the height before it.
-pub fn chain_step_address(
-    layer: u8,
-    tree: u64,
-    leaf: Leaf,
-    chain: Chain,
-    height: Height,
-) -> [u8; 22]
-    ensures { λ r. ⌜ r ≡ chainStepAddress layer tree (leaf .0) (chain .0) (height .0) ⌝ }
+pub fn chain_step_address(d: Domain, leaf: Leaf, chain: Chain, height: Height) -> [u8; 22]
+    ensures { λ r. ⌜ r ≡ chainStepAddress d (leaf .0) (chain .0) (height .0) ⌝ }
 {
-    address(layer, tree, 0, leaf.0, chain.0, height.0)
+    address(d, 0, leaf.0, chain.0, height.0)
 }
 
 // The address of a leaf key (type 1).
-pub fn leaf_key_address(layer: u8, tree: u64, leaf: Leaf) -> [u8; 22]
-    ensures { λ r. ⌜ r ≡ leafKeyAddress layer tree (leaf .0) ⌝ }
+pub fn leaf_key_address(d: Domain, leaf: Leaf) -> [u8; 22]
+    ensures { λ r. ⌜ r ≡ leafKeyAddress d (leaf .0) ⌝ }
 {
-    address(layer, tree, 1, leaf.0, 0, 0)
+    address(d, 1, leaf.0, 0, 0)
 }
 
 // The address of a node (type 2), by its own height and its index there.
-pub fn node_address(layer: u8, tree: u64, height: u32, index: u32) -> [u8; 22]
-    ensures { λ r. ⌜ r ≡ nodeAddress layer tree height index ⌝ }
+pub fn node_address(d: Domain, height: u32, index: u32) -> [u8; 22]
+    ensures { λ r. ⌜ r ≡ nodeAddress d height index ⌝ }
 {
-    address(layer, tree, 2, 0, height, index)
+    address(d, 2, 0, height, index)
 }
 
 // The address of a chain's start (type 5).
-pub fn chain_start_address(layer: u8, tree: u64, leaf: Leaf, chain: Chain) -> [u8; 22]
-    ensures { λ r. ⌜ r ≡ chainStartAddress layer tree (leaf .0) (chain .0) ⌝ }
+pub fn chain_start_address(d: Domain, leaf: Leaf, chain: Chain) -> [u8; 22]
+    ensures { λ r. ⌜ r ≡ chainStartAddress d (leaf .0) (chain .0) ⌝ }
 {
-    address(layer, tree, 5, leaf.0, chain.0, 0)
+    address(d, 5, leaf.0, chain.0, 0)
 }
 
-// The running hash after the seed's block, which every tweaked hash under the seed begins with.
-pub fn seeded(seed: [u8; 16]) -> Hash
-    ensures { λ r. ⌜ r ≡ hashed (seedBlock seed) ⌝ }
+// The hasher of a domain: its seed's block is hashed once.
+pub fn seeded(d: Domain) -> Hasher
+    ensures domain { λ r. ⌜ r .domain ≡ d ⌝ }
+    ensures ready { λ r. ⌜ Seeded r ⌝ }
 {
+    let seed = d.seed;
     let mut block = [0u8; 64];
     write_16(&mut block, 0, seed);
-    let added = Hash::start().add(&block);
-    added.hash
+    let words = compress(initial(), &block);
+    Hasher {
+        domain: d,
+        words: words,
+    }
+}
+
+// The hasher of the layer 0 and the tree 0.
+pub fn first_hasher(seed: [u8; 16]) -> Hasher
+    ensures domain { λ r. ⌜ r .domain ≡ firstDomain seed ⌝ }
+    ensures ready { λ r. ⌜ Seeded r ⌝ }
+{
+    seeded(Domain {
+        seed: seed,
+        layer: 0,
+        tree: 0,
+    })
 }
 
 // The running hash of a tweaked hash, before its data.
-pub fn begin(state: Hash, address: [u8; 22]) -> Hash
-    ensures { λ r. ⌜ ((seed : List ℕ) → length seed ≡ 16 → state ≡ hashed (seedBlock seed) → r ≡ hashed (seedBlock seed ++ address)) ⌝ }
+pub fn begin(h: Hasher, address: [u8; 22]) -> Hash
+    requires { ⌜ Seeded h ⌝ }
+    ensures { λ r. ⌜ r ≡ hashed (seedBlock (h .domain .seed) ++ address) ⌝ }
 {
+    let words = h.words;
+    let state = Hash {
+        words: words,
+        block: [0; 64],
+        total: 64,
+    };
     let with_address = state.add(&address);
     with_address.hash
 }
 
 // The running hash after a value more.
 pub fn absorb(hash: Hash, value: [u8; 16]) -> Hash
-    ensures { λ r. ⌜ ((bytes : List ℕ) → length bytes ≤ 65000 → hash ≡ hashed bytes → r ≡ hashed (bytes ++ value)) ⌝ }
+    ensures { λ r. ⌜ r ≡ addState hash value ⌝ }
 {
     let with_value = hash.add(&value);
     with_value.hash
@@ -129,7 +162,7 @@ fn front(words: HashWords) -> [u8; 16]
 
 // The first 16 bytes of the digest.
 pub fn end(hash: Hash) -> [u8; 16]
-    ensures { λ r. ⌜ ((bytes : List ℕ) → hash ≡ hashed bytes → r ≡ take 16 (digest bytes)) ⌝ }
+    ensures { λ r. ⌜ r ≡ take 16 (wordBytes (finished hash .words)) ⌝ }
 {
     let finished = hash.finish();
     front(finished.words)
@@ -146,11 +179,12 @@ fn last_block(address: [u8; 22], value: [u8; 16]) -> [u8; 64]
     put(put(padded, 0, &address), 22, &value)
 }
 
-// The tweaked hash of one value, from the running hash after the seed's block: one compression.
-pub fn tweaked_hash(state: Hash, address: [u8; 22], value: [u8; 16]) -> [u8; 16]
-    ensures { λ r. ⌜ ((seed : List ℕ) → length seed ≡ 16 → state ≡ hashed (seedBlock seed) → r ≡ tweakedHash seed address value) ⌝ }
+// The tweaked hash of one value: one compression.
+pub fn tweaked_hash(h: Hasher, address: [u8; 22], value: [u8; 16]) -> [u8; 16]
+    requires { ⌜ Seeded h ⌝ }
+    ensures { λ r. ⌜ r ≡ tweakedHash (h .domain) address value ⌝ }
 {
     let block = last_block(address, value);
-    let words = state.words;
+    let words = h.words;
     front(compress(words, &block))
 }

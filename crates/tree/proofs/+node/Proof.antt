@@ -4,6 +4,7 @@ use native.Mathlib.Omega.{arith}
 use borrow.Author.Needs.{needs}
 use borrow.Fn.Kinds.{In}
 use borrow.Fn.PlainCycle.{Measures, is, falls, and}
+use Rattle.chains.specs.Leaves.{leafKey}
 use Rattle.chains.proofs.leaves.key_of_leaf.Reads as key-of-leaf-reads
 use Rattle.tree.proofs.Indices.{index-small, child-within}
 use Rattle.tree.proofs.NodeLaws.{node-leaf, node-above}
@@ -15,7 +16,7 @@ use Rattle.tree.proofs.+node.{statement}
 use Rattle.tree.proofs.+node.Tie.{close}
 
 abbrev μ-node : Measures 0 node-kinds.ps ℕ
-μ-node κs a = a .1 .1 .1 .1 .1 .1 .0
+μ-node κs a = a .1 .1 .1 .1 .0
 
 -- what `node` is given at the measure t, and what a call of it asks below t
 abbrev node-at : ℕ → In 0 node-kinds.ps
@@ -34,10 +35,10 @@ module _ (t : ℕ) where
 
   -- both children are within their height
   within : (c : node-lts.Else1 (calls t) (node-at t) node.Post) → 2 * c .before .args .index + 1 < 2 ^ (31 - (c .before .args .height - 1))
-  within c = child-within (c .before .args .height) (above c) (c .before .pre .1 .2) (c .before .pre .1 .3)
+  within c = child-within (c .before .args .height) (above c) (c .before .pre .1 .1 .2) (c .before .pre .1 .1 .3)
 
   small : (c : node-lts.Else1 (calls t) (node-at t) node.Post) → c .before .args .index < 2 ^ 31
-  small c = index-small (c .before .args .height) (c .before .pre .1 .3)
+  small c = index-small (c .before .args .height) (c .before .pre .1 .1 .3)
 
   key-of-leaf-requires : node-lts.Need-key-of-leaf-requires (calls t) (node-at t) node.Post
   key-of-leaf-requires c κs = search needs
@@ -45,7 +46,7 @@ module _ (t : ℕ) where
   returns : node-lts.Need-returns (calls t) (node-at t) node.Post
   returns c =
       let a = c .before .before .args in
-      λ seed long e. node-leaf seed (a .secret) (a .layer) (a .tree) (a .width) (a .chains) (a .height) (a .index) (c .before .if1 .taken) (c .key-of-leaf .ensures seed long e)
+      node-leaf (a .h .domain) (leafKey (a .h .domain) (a .secret) (a .width) (a .chains)) (a .height) (a .index) (c .before .if1 .taken) (c .key-of-leaf .ensures)
 
   sub-below : node-lts.Need-sub-below (calls t) (node-at t) node.Post
   sub-below c = search needs
@@ -54,7 +55,7 @@ module _ (t : ℕ) where
   mul-node c = omega (arith, small c)
 
   node-requires : node-lts.Need-node-requires (calls t) (node-at t) node.Post
-  node-requires c κs = omega (arith, above c, within c)
+  node-requires c κs = (omega (arith, above c), (c .before .pre .1 .0, omega (arith, above c, within c)))
 
   mul-node-2 : node-lts.Need-mul-node-2 (calls t) (node-at t) node.Post
   mul-node-2 c = omega (arith, small (c .before))
@@ -63,7 +64,7 @@ module _ (t : ℕ) where
   add-node c = omega (arith, small (c .before))
 
   node-requires-2 : node-lts.Need-node-requires-2 (calls t) (node-at t) node.Post
-  node-requires-2 c κs = omega (arith, above (c .before), within (c .before))
+  node-requires-2 c κs = let e = c .before in (omega (arith, above e), (e .before .pre .1 .0, omega (arith, above e, within e)))
 
   parent-requires : node-lts.Need-parent-requires (calls t) (node-at t) node.Post
   parent-requires c κs = search needs
@@ -73,7 +74,7 @@ module _ (t : ℕ) where
       let right = c .before in
       let left = right .before in
       let a = left .before .before .args in
-      λ seed long e. node-above seed (a .secret) (a .layer) (a .tree) (a .width) (a .chains) (a .height) (a .index) (above (left .before)) (left .node .ensures seed long e) (right .node2 .ensures seed long e) (c .parent .ensures seed long e)
+      node-above (a .h .domain) (leafKey (a .h .domain) (a .secret) (a .width) (a .chains)) (a .height) (a .index) (above (left .before)) (left .node .ensures) (right .node2 .ensures) (c .parent .ensures)
 
 pub +node-spec : {M : Type 1} → statement M
 +node-spec =

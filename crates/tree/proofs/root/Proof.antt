@@ -1,10 +1,8 @@
 -- `tree::root` meets its contract: refused, the root is zero; granted, it is the node of the profile's height.
-use mathlib.Core.Path.{_≡_}
 use mathlib.Core.List.{[]}
 use Prim.Native.Nat.{_-_}
 use native.Mathlib.Omega.{arith}
 use borrow.Author.Needs.{needs}
-use lib.ListN.{length}
 use lib.Pow.{pow-mono}
 use Rattle.refusal.proofs.Causes.{granted-none}
 use Rattle.profile.specs.Checks.{profileCauses}
@@ -20,7 +18,7 @@ node-requires c κs =
     let p = checked .before .args .p in
     let limits = profile-limits p (granted-none (profileCauses p) [] _ (checked .check-profile .ensures) (granted .enum-told2 .given .1)) in
     let room = pow-mono {i = 1} {j = 31 - p .height} (omega (arith, limits .1)) in
-    omega (arith, limits .0, limits .1)
+    (c .first-hasher .ensures .1, omega (arith, limits .0, limits .1))
 
 returns : tie.Need-returns
 returns c =
@@ -28,17 +26,13 @@ returns c =
     let a = checked .before .args in
     root-refused (a .p) (a .seed) (a .secret) _ (checked .check-profile .ensures) _ (c .enum-told .given .1)
 
-seed-length : (c : tie.Start) → length (c .args .seed) ≡ 16
-seed-length c = search needs
-
 returns-2 : tie.Need-returns-2
 returns-2 c =
     let begun = c .before in
     let granted = begun .before .before in
     let checked = granted .before .before in
-    let start = checked .before in
-    let a = start .args in
-    root-granted (a .p) (a .seed) (a .secret) _ (checked .check-profile .ensures) _ (granted .enum-told2 .given .1) (c .node .ensures (a .seed) (seed-length start) (begun .seeded .ensures))
+    let a = checked .before .args in
+    root-granted (a .p) (a .seed) (a .secret) _ (checked .check-profile .ensures) _ (granted .enum-told2 .given .1) (rw (begun .first-hasher .ensures .0) at (c .node .ensures))
 
 pub root-spec : {M : Type 1} → statement M
 root-spec =

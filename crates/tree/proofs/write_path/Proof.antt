@@ -1,14 +1,14 @@
 -- `tree::write_path` meets its contract. The invariant: the first k siblings are written, and the index is that of the node of the height k above the leaf.
 use mathlib.Core.Path.{_≡_, refl, sym, ap, _∙_}
-use mathlib.Core.List.{List, _++_}
+use mathlib.Core.List.{_++_}
 use Prim.Native.Nat.{ℕ, _-_, _*_, _/_, _^_, _≤_}
 use native.Mathlib.Nat.{div-one}
 use native.Mathlib.Omega.{arith}
 use borrow.Author.Needs.{needs}
 use denote.Ref.{now}
 use lib.ListN.{length, drop}
-use Rattle.sha256.specs.Running.{hashed}
-use Rattle.tweak.specs.Tweak.{seedBlock}
+use Rattle.chains.specs.Leaves.{leafKey}
+use Rattle.chains.proofs.LeafLaws.{length-leaf-key}
 use Rattle.tree.specs.Tree.{sibling, path}
 use Rattle.tree.proofs.Indices.{index-small, half-place, place-within, sibling-place-within}
 use Rattle.tree.proofs.PathLaws.{path-start, path-next}
@@ -16,46 +16,31 @@ use Rattle.tree.proofs.write_path.Statement.{statement}
 use Rattle.tree.proofs.write_path.Tie as tie
 
 abbrev Inv-loop : tie.InvT-loop
-Inv-loop state layer tree secret width chains height leaf out₀ index₀ k₀ out index k =
-    (k ≤ height) × (index ≡ leaf / 2 ^ k) × (length out ≡ length out₀) × ((seed : List ℕ) → length seed ≡ 16 → state ≡ hashed (seedBlock seed) → out ≡ path seed secret layer tree width chains k leaf ++ drop (16 * k) out₀)
+Inv-loop h secret width chains height leaf out₀ index₀ k₀ out index k =
+    (k ≤ height) × (index ≡ leaf / 2 ^ k) × (length out ≡ length out₀) × (out ≡ path (h .domain) (leafKey (h .domain) secret width chains) k leaf ++ drop (16 * k) out₀)
 
 abbrev μ-loop : tie.MeasureT-loop
-μ-loop state layer tree secret width chains height leaf out₀ index₀ k₀ out index k = height - k
+μ-loop h secret width chains height leaf out₀ index₀ k₀ out index k = height - k
 
 loop-holds : tie.Need-loop-holds Inv-loop μ-loop
 loop-holds c =
     let a = c .before .args in
-    (omega arith, sym (div-one (a .leaf)), refl, λ seed long e. path-start seed (a .secret) (a .layer) (a .tree) (a .width) (a .chains) (a .leaf) (now (a .out)))
+    (omega arith, sym (div-one (a .leaf)), refl, path-start (a .h .domain) (leafKey (a .h .domain) (a .secret) (a .width) (a .chains)) (a .leaf) (now (a .out)))
 
 sibling-requires : tie.Need-sibling-requires Inv-loop μ-loop
 sibling-requires c κs =
     let at-loop = c .before in
     let start = at-loop .before .before in
     let k = at-loop .loop .k in
-    omega (arith, index-small k (place-within (start .args .leaf) (start .args .height) k (start .pre .2) (start .pre .3) (c .loop-test .taken)))
+    omega (arith, index-small k (place-within (start .args .leaf) (start .args .height) k (start .pre .1 .2) (start .pre .1 .3) (c .loop-test .taken)))
 
 node-requires : tie.Need-node-requires Inv-loop μ-loop
 node-requires c κs =
     let at-loop = c .before .before in
     let start = at-loop .before .before in
     let k = at-loop .loop .k in
-    let within = sibling-place-within (start .args .leaf) (start .args .height) k (start .pre .2) (start .pre .3) (c .before .loop-test .taken) in
-    (start .pre .0, start .pre .1, omega arith, omega (arith, within, ap sibling (at-loop .loop .inv .1)))
-
-cast-write-16 : tie.Need-cast-write-16 Inv-loop μ-loop
-cast-write-16 c = search needs
-
-mul-write-16 : tie.Need-mul-write-16 Inv-loop μ-loop
-mul-write-16 c = search needs
-
-write-16-requires : tie.Need-write-16-requires Inv-loop μ-loop
-write-16-requires c κs = search needs
-
-add-k : tie.Need-add-k Inv-loop μ-loop
-add-k c = search needs
-
-loop-less : tie.Need-loop-less Inv-loop μ-loop
-loop-less c = search needs
+    let within = sibling-place-within (start .args .leaf) (start .args .height) k (start .pre .1 .2) (start .pre .1 .3) (c .before .loop-test .taken) in
+    (start .pre .0, omega (arith, within, ap sibling (at-loop .loop .inv .1)))
 
 loop-again : tie.Need-loop-again Inv-loop μ-loop
 loop-again c =
@@ -66,7 +51,7 @@ loop-again c =
     let start = at-loop .before .before in
     let a = start .args in
     let place = at-loop .loop .inv .1 in
-    (omega arith, ap (λ (i : ℕ). i / 2) place ∙ half-place (a .leaf) (at-loop .loop .k), written .write-16 .kept .0 ∙ at-loop .loop .inv .2, λ seed long e. path-next seed (a .secret) (a .layer) (a .tree) (a .width) (a .chains) (a .leaf) (now (a .out)) (a .height) (at-loop .loop .k) (at-loop .loop .index) (start .pre .4) (omega arith) place (sided .sibling .ensures) (valued .node .ensures seed long e) (at-loop .loop .inv .3 seed long e) (written .write-16 .ensures))
+    (omega arith, ap (λ (i : ℕ). i / 2) place ∙ half-place (a .leaf) (at-loop .loop .k), written .write-16 .kept .0 ∙ at-loop .loop .inv .2, path-next (a .h .domain) (leafKey (a .h .domain) (a .secret) (a .width) (a .chains)) (a .leaf) (now (a .out)) (length-leaf-key (a .h .domain) (a .secret) (a .width) (a .chains)) (a .height) (at-loop .loop .k) (at-loop .loop .index) (start .pre .1 .4) (omega arith) place (sided .sibling .ensures) (valued .node .ensures) (at-loop .loop .inv .3) (written .write-16 .ensures))
 
 same-length : tie.Need-same-length Inv-loop μ-loop
 same-length c = c .before .loop .inv .2
@@ -83,11 +68,11 @@ write-path-spec =
     loop-holds
     sibling-requires
     node-requires
-    cast-write-16
-    mul-write-16
-    write-16-requires
-    add-k
-    loop-less
+    (λ c. search needs)
+    (λ c. search needs)
+    (λ c κs. search needs)
+    (λ c. search needs)
+    (λ c. search needs)
     loop-again
     same-length
     returns)

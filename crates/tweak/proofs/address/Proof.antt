@@ -13,7 +13,7 @@ returns : tie.Need-returns
 unfolding address toBytes
 returns c =
     let a = c .before .before .before .args in
-    let layer : a .layer % 256 ≡ a .layer = omega arith in
+    let layer : a .d .layer % 256 ≡ a .d .layer = omega arith in
     let kind : a .kind % 256 ≡ a .kind = omega arith in
     rw (c .word-bytes3 .ensures, c .before .word-bytes2 .ensures, c .before .before .word-bytes .ensures) (simp (div-one, layer, kind))
 

@@ -14,11 +14,11 @@ returns : tie.Need-returns
 returns c =
     let compressed = c .before in
     let made = compressed .before .before .before in
-    let a = made .before .args in
-    let long = longs (made .before) in
-    λ seed short e.
-    block-compressed seed (a .address) (a .value) short (long .0) (long .1) e
-    (compressed .compress .ensures ∙ ap (compress (a .state .words)) (made .last-block .ensures)) (c .front .ensures)
+    let start = made .before in
+    let a = start .args in
+    let long = longs start in
+    block-compressed (a .h .domain) (a .address) (a .value) (start .pre .long) (long .0) (long .1) (start .pre .words)
+    (compressed .compress .ensures ∙ ap (compress (a .h .words)) (made .last-block .ensures)) (c .front .ensures)
 
 pub tweaked-hash-spec : {M : Type 1} → statement M
 tweaked-hash-spec =

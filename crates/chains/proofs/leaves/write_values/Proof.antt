@@ -8,58 +8,29 @@ use denote.Ref.{now}
 use lib.ListN.{length, getD, take, drop}
 use Rattle.words.specs.Joined.{joinTo}
 use Rattle.words.proofs.Joins.{write-start, write-next}
-use Rattle.sha256.specs.Running.{hashed}
-use Rattle.tweak.specs.Tweak.{seedBlock}
-use Rattle.chains.specs.Leaves.{chainValue, revealed}
-use Rattle.chains.proofs.LeafLaws.{length-value}
+use Rattle.tweak.specs.declared.Domain.{Domain}
+use Rattle.chains.specs.Chains.{chainValue}
+use Rattle.chains.specs.Leaves.{revealed}
+use Rattle.chains.proofs.ChainLaws.{length-value}
 use Rattle.chains.proofs.leaves.write_values.Statement.{statement}
 use Rattle.chains.proofs.leaves.write_values.Tie as tie
 
--- what is shown of the chain d
-abbrev shown : (seed secret : List ℕ) (layer tree leaf : ℕ) (row : List ℕ) (d : ℕ) → List ℕ
-shown seed secret layer tree leaf row d = chainValue seed secret layer tree leaf d (getD row d 0)
+-- what is shown of the chain c
+abbrev shown : Domain → (secret : List ℕ) (leaf : ℕ) (row : List ℕ) (c : ℕ) → List ℕ
+shown d secret leaf row c = chainValue d secret leaf c (getD row c 0)
 
 abbrev Inv-loop : tie.InvT-loop
-Inv-loop state layer tree leaf secret chains out₀ at row c₀ out c =
-    (c ≤ chains) × (length out ≡ length out₀) × ((seed : List ℕ) → length seed ≡ 16 → state ≡ hashed (seedBlock seed) → out ≡ take at out₀ ++ joinTo (shown seed secret layer tree (leaf .0) row) c ++ drop (at + 16 * c) out₀)
+Inv-loop h leaf secret chains out₀ at row c₀ out c =
+    (c ≤ chains) × (length out ≡ length out₀)
+    × (out ≡ take at out₀ ++ joinTo (shown (h .domain) secret (leaf .0) row) c ++ drop (at + 16 * c) out₀)
 
 abbrev μ-loop : tie.MeasureT-loop
-μ-loop state layer tree leaf secret chains out₀ at row c₀ out c = chains - c
+μ-loop h leaf secret chains out₀ at row c₀ out c = chains - c
 
 loop-holds : tie.Need-loop-holds Inv-loop μ-loop
 loop-holds c =
     let a = c .before .args in
-    (omega arith, refl, λ seed long e. write-start (shown seed (a .secret) (a .layer) (a .tree) (a .leaf .0) (a .t6)) 16 (a .at) (now (a .out)))
-
-cast-height : tie.Need-cast-height Inv-loop μ-loop
-cast-height c = search needs
-
-array-read-height : tie.Need-array-read-height Inv-loop μ-loop
-array-read-height c = search needs
-
-cast-height-2 : tie.Need-cast-height-2 Inv-loop μ-loop
-cast-height-2 c = search needs
-
-chain-value-requires : tie.Need-chain-value-requires Inv-loop μ-loop
-chain-value-requires c κs = search needs
-
-cast-write-16 : tie.Need-cast-write-16 Inv-loop μ-loop
-cast-write-16 c = search needs
-
-mul-write-16 : tie.Need-mul-write-16 Inv-loop μ-loop
-mul-write-16 c = search needs
-
-add-write-16 : tie.Need-add-write-16 Inv-loop μ-loop
-add-write-16 c = search needs
-
-write-16-requires : tie.Need-write-16-requires Inv-loop μ-loop
-write-16-requires c κs = search needs
-
-add-c : tie.Need-add-c Inv-loop μ-loop
-add-c c = search needs
-
-loop-less : tie.Need-loop-less Inv-loop μ-loop
-loop-less c = search needs
+    (omega arith, refl, write-start (shown (a .h .domain) (a .secret) (a .leaf .0) (a .t4)) 16 (a .at) (now (a .out)))
 
 loop-again : tie.Need-loop-again Inv-loop μ-loop
 loop-again c =
@@ -68,7 +39,8 @@ loop-again c =
     let at-loop = valued .before .before in
     let start = at-loop .before .before in
     let a = start .args in
-    (omega arith, written .write-16 .kept .0 ∙ at-loop .loop .inv .1, λ seed long e. write-next (shown seed (a .secret) (a .layer) (a .tree) (a .leaf .0) (a .t6)) 16 (a .chains) (λ d _. length-value seed (a .secret) (a .layer) (a .tree) (a .leaf .0) d (getD (a .t6) d 0)) (a .at) (now (a .out)) (start .pre .1) (at-loop .loop .c) (omega arith) (valued .chain-value .ensures seed long e) (at-loop .loop .inv .2 seed long e) (written .write-16 .ensures))
+    let d = a .h .domain in
+    (omega arith, written .write-16 .kept .0 ∙ at-loop .loop .inv .1, write-next (shown d (a .secret) (a .leaf .0) (a .t4)) 16 (a .chains) (λ i _. length-value d (a .leaf .0) i (a .secret) (getD (a .t4) i 0)) (a .at) (now (a .out)) (start .pre .1 .1) (at-loop .loop .c) (omega arith) (valued .chain-value .ensures) (at-loop .loop .inv .2) (written .write-16 .ensures))
 
 same-length : tie.Need-same-length Inv-loop μ-loop
 same-length c = c .before .loop .inv .1
@@ -86,16 +58,16 @@ write-values-spec =
     Inv-loop
     μ-loop
     loop-holds
-    cast-height
-    array-read-height
-    cast-height-2
-    chain-value-requires
-    cast-write-16
-    mul-write-16
-    add-write-16
-    write-16-requires
-    add-c
-    loop-less
+    (λ c. search needs)
+    (λ c. search needs)
+    (λ c. search needs)
+    (λ c κs. search needs)
+    (λ c. search needs)
+    (λ c. search needs)
+    (λ c. search needs)
+    (λ c κs. search needs)
+    (λ c. search needs)
+    (λ c. search needs)
     loop-again
     same-length
     returns)
