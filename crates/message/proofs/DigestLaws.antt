@@ -2,18 +2,16 @@
 use mathlib.Core.Path.{_≡_, _∙_, ap}
 use mathlib.Core.List.{List, [], _∷_, _++_}
 use Prim.Native.Nat.{ℕ, _+_, _*_, _^_, _≤_}
-use native.Mathlib.Nat.{add-mul, mul-assoc}
 use native.Mathlib.Omega.{arith}
 use lib.ListN.{length, take, drop, length-append, length-drop}
-use lib.Pow.{pow-add}
 use lib.Seq.{length-take-le, take-add}
 use Rattle.words.specs.Bytes.{fromBytes}
 use Rattle.words.specs.Number.{value}
+use Rattle.words.proofs.ByteLaws.{from-append}
 use Rattle.sha256.specs.Digest.{wordBytes, digest}
 use Rattle.sha256.specs.Running.{started, addState, finished, hashed}
 use Rattle.sha256.specs.declared.running.Hash.{Hash}
-use Rattle.sha256.proofs.Joined.{started-hashed, finished-hashed}
-use Rattle.tweak.proofs.TweakLaws.{more-taken}
+use Rattle.sha256.proofs.Joined.{started-hashed, finished-hashed, more-taken}
 use Rattle.message.specs.Message.{messageDigest, numberOfDigest}
 
 -- start, and four adds
@@ -32,14 +30,6 @@ pub digest-made : (r seed root message : List ℕ) {s : Hash} {d : List ℕ} →
     → d ≡ wordBytes (finished s .words) → d ≡ messageDigest r seed root message
 unfolding digest messageDigest
 digest-made r seed root message e f = f ∙ rw e (ap wordBytes (finished-hashed (r ++ seed ++ root ++ message)))
-
-from-append : (xs ys : List ℕ) → fromBytes (xs ++ ys) ≡ fromBytes xs * 256 ^ length ys + fromBytes ys
-unfolding fromBytes
-from-append [] ys = omega arith
-from-append (b ∷ xs) ys =
-    rw
-    (length-append xs ys, pow-add 256 (length xs) (length ys), from-append xs ys, add-mul (b * 256 ^ length xs) (fromBytes xs) (256 ^ length ys), mul-assoc b (256 ^ length xs) (256 ^ length ys))
-    (omega arith)
 
 -- four bytes more
 from-word : (l : List ℕ) (n : ℕ) → n + 4 ≤ length l → fromBytes (take (n + 4) l) ≡ fromBytes (take n l) * 2 ^ 32 + fromBytes (take 4 (drop n l))

@@ -16,8 +16,9 @@ messageDigest r seed root message = digest (r ++ seed ++ root ++ message)
 unfoldable pub numberOfDigest : List ℕ → ℕ
 numberOfDigest bytes = fromBytes (take 16 bytes)
 
-unfoldable pub messageNumber : (r seed root message : List ℕ) → ℕ
-messageNumber r seed root message = numberOfDigest (messageDigest r seed root message)
+-- the number that a leaf of a profile signs: what it is depends neither on the profile nor on the leaf
+unfoldable pub messageNumber : Profile → (leaf : ℕ) (r seed root message : List ℕ) → ℕ
+messageNumber p leaf r seed root message = numberOfDigest (messageDigest r seed root message)
 
 -- "order text (1 to 200 bytes)": 16 where it is "empty or over 200 bytes"
 unfoldable pub outsideText : (bytes : ℕ) → Bool

@@ -37,10 +37,17 @@ fn number_of_digest(digest: [u8; 32]) -> [u32; 5]
     ]
 }
 
-// The message number.
-pub fn message_number(r: [u8; 16], seed: [u8; 16], root: [u8; 16], message: &[u8]) -> [u32; 5]
+// The message number that a leaf of a profile signs.
+pub fn message_number(
+    p: Profile,
+    leaf: u32,
+    r: [u8; 16],
+    seed: [u8; 16],
+    root: [u8; 16],
+    message: &[u8],
+) -> [u32; 5]
     requires { ⌜ length (now message) ≤ 200 ⌝ }
-    ensures { λ n. ⌜ value n ≡ messageNumber r seed root (now (message .entry)) ⌝ }
+    ensures { λ n. ⌜ value n ≡ messageNumber p leaf r seed root (now (message .entry)) ⌝ }
 {
     number_of_digest(message_digest(r, seed, root, message))
 }
@@ -57,7 +64,6 @@ pub fn outside_text(bytes: usize) -> bool
 
 // How long a signature is.
 pub fn signature_length(p: Profile) -> usize
-    requires { ⌜ (p .shape .chains ≤ 40) × (p .height ≤ 10) ⌝ }
     ensures { λ r. ⌜ r ≡ signatureLength p ⌝ }
 {
     let shape = p.shape;

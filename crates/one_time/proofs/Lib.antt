@@ -1,5 +1,5 @@
 -- The laws that belong to no one function.
 pub mod Answers
-pub mod PlaceLaws
-pub mod RowLaws
+pub mod PlaceAnswer
 pub mod RecoverLaws
+pub mod RowLaws

@@ -8,23 +8,23 @@ use Rattle.profile.specs.declared.Shape.{Shape}
 use Rattle.counts.specs.Counts.{count}
 use Rattle.codewords.specs.Codeword.{stepsLeft}
 use Rattle.codewords.specs.Operations.{rowOf}
-use Rattle.codewords.proofs.AfterChecks.{row-at, row-front}
-use Rattle.chains.specs.Chains.{climb}
-use Rattle.chains.specs.Leaves.{chainValue, revealed, keyOfTops, recovered}
+use Rattle.codewords.proofs.RowLaws.{row-at, row-front}
+use Rattle.tweak.specs.declared.Domain.{Domain}
+use Rattle.chains.specs.Chains.{walked, chainValue}
+use Rattle.chains.specs.Leaves.{revealed, keyOfTops, recovered}
 
 module _ (p : Shape) (n : ℕ) (more : List ℕ) (below : n < count p) where
-  pub revealed-row : (seed secret : List ℕ) (layer tree leaf : ℕ)
-      → revealed seed secret layer tree leaf (p .chains) (rowOf p n ++ more) ≡ revealed seed secret layer tree leaf (p .chains) (rowOf p n)
+  pub revealed-row : (d : Domain) (secret : List ℕ) (leaf : ℕ)
+      → revealed d secret leaf (p .chains) (rowOf p n ++ more) ≡ revealed d secret leaf (p .chains) (rowOf p n)
   unfolding revealed
-  revealed-row seed secret layer tree leaf =
-      joinTo-cong _ _ (p .chains) (λ c h. ap (chainValue seed secret layer tree leaf c) (row-at p n more below c h))
+  revealed-row d secret leaf = joinTo-cong _ _ (p .chains) (λ c h. ap (chainValue d secret leaf c) (row-at p n below more c h))
 
-  pub recovered-row : (seed values : List ℕ) (layer tree leaf : ℕ)
-      → recovered seed layer tree (p .width) (p .chains) leaf (rowOf p n ++ more) values ≡ recovered seed layer tree (p .width) (p .chains) leaf (rowOf p n) values
+  pub recovered-row : (d : Domain) (values : List ℕ) (leaf : ℕ)
+      → recovered d (p .width) (p .chains) leaf (rowOf p n ++ more) values ≡ recovered d (p .width) (p .chains) leaf (rowOf p n) values
   unfolding recovered
-  recovered-row seed values layer tree leaf =
-      ap (keyOfTops seed layer tree leaf)
-      (joinTo-cong _ _ (p .chains) (λ c h. ap (λ k. climb seed layer tree leaf c k (p .width - 1 - k) (take 16 (drop (16 * c) values))) (row-at p n more below c h)))
+  recovered-row d values leaf =
+      ap (keyOfTops d leaf)
+      (joinTo-cong _ _ (p .chains) (λ c h. ap (λ k. walked d leaf c k (p .width - 1 - k) (take 16 (drop (16 * c) values))) (row-at p n below more c h)))
 
   pub steps-row : stepsLeft (p .width) (take (p .chains) (rowOf p n ++ more)) ≡ stepsLeft (p .width) (rowOf p n)
-  steps-row = ap (stepsLeft (p .width)) (row-front p n more below)
+  steps-row = ap (stepsLeft (p .width)) (row-front p n below more)

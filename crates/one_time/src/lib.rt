@@ -1,27 +1,28 @@
 // The one-time signatures of a leaf: Leaf key, Reveal and Recover.
 ghost use mathlib.Core.Path.{_≡_};
-ghost use mathlib.Core.Logic.{_⊎_};
-ghost use mathlib.Core.List.{[], _∷_, _++_};
-ghost use Prim.Native.Nat.{_^_, _≤_};
-ghost use lib.Dec.{leb};
+ghost use mathlib.Core.Bool.{false};
+ghost use mathlib.Core.List.{_++_};
 ghost use lib.ListN.{length};
 ghost use Rattle.refusal.specs.Code.{code, outcomeCode, firstCause};
 ghost use Rattle.words.specs.Number.{value};
-ghost use Rattle.counts.specs.Table.{tableCauses};
-ghost use Rattle.one_time.specs.Operations.{leafKeyCode, LeafKeys, Reveals, Recovers};
+ghost use Rattle.counts.specs.Table.{tableCauses, leavesTable};
+ghost use Rattle.one_time.specs.Operations.{leafKeyCode, LeafKeys, ownCauses, Reveals, Recovers};
 ghost use Rattle.one_time.specs.Placing.{Places};
 use chains::leaves::key_of_leaf;
 use chains::leaves::recover_key;
 use chains::leaves::write_values;
-use codewords::unrank;
+use codewords::unranking::write_codeword;
+use counts::table::fill;
 use counts::table::table_outcome;
 use profile::Profile;
-use profile::capacity;
 use profile::check_profile;
+use profile::leaf_beyond;
 use refusal::Outcome;
 use refusal::Refusal;
+use refusal::then;
 use tweak::Leaf;
-use tweak::seeded;
+use tweak::first_hasher;
+use words::number::less;
 
 // What Leaf key answers. Refused, the key is zero.
 pub struct LeafKey {
@@ -36,48 +37,26 @@ pub struct Recovered {
     pub steps: u32,
 }
 
-// 11, past the causes before it.
-fn leaf_outcome(leaf: u32, height: u32) -> Outcome
-    requires { ⌜ height ≤ 10 ⌝ }
-    ensures { λ r. ⌜ outcomeCode r ≡ firstCause ((leb (2 ^ height) leaf, 11) ∷ []) ⌝ }
-{
-    if leaf < capacity(height) {
-        Outcome::Granted
-    } else {
-        Outcome::Refused(Refusal::LeafOutOfRange)
-    }
-}
-
 // The causes of Leaf key.
 fn leaf_key_outcome(p: Profile, leaf: u32) -> Outcome
     ensures { λ r. ⌜ outcomeCode r ≡ leafKeyCode p leaf ⌝ }
 {
-    let checked = check_profile(p);
-    match checked {
-        Outcome::Refused(_) => checked,
-        Outcome::Granted => {
-            let height = p.height;
-            leaf_outcome(leaf, height)
-        }
-    }
+    let height = p.height;
+    then(
+        check_profile(p),
+        leaf_beyond(height, leaf),
+        Refusal::LeafOutOfRange,
+    )
 }
 
 // The causes before the table is filled: those of the table, `refusal` where the size of the values is wrong, and 11.
 fn early_outcome(p: Profile, leaf: u32, words: usize, wrong: bool, refusal: Refusal) -> Outcome
-    ensures { λ r. ⌜ outcomeCode r ≡ firstCause (tableCauses p words ++ ((wrong, code refusal) ∷ (leb (2 ^ p .height) leaf, 11) ∷ [])) ⌝ }
+    ensures { λ r. ⌜ outcomeCode r ≡ firstCause (tableCauses p words ++ ownCauses p leaf wrong (code refusal)) ⌝ }
 {
-    let checked = table_outcome(p, words);
-    match checked {
-        Outcome::Refused(_) => checked,
-        Outcome::Granted => {
-            let height = p.height;
-            if wrong {
-                Outcome::Refused(refusal)
-            } else {
-                leaf_outcome(leaf, height)
-            }
-        }
-    }
+    let height = p.height;
+    let beyond = leaf_beyond(height, leaf);
+    let sized = then(table_outcome(p, words), wrong, refusal);
+    then(sized, beyond, Refusal::LeafOutOfRange)
 }
 
 // What Reveal and Recover share, which differ in the refusal of a wrong size: every cause, and where none holds the
@@ -91,7 +70,7 @@ fn place_row(
     table: &mut [u32],
     row: &mut [u8],
 ) -> Outcome
-    requires { ⌜ ((code refusal ≡ 6) ⊎ (code refusal ≡ 13)) × (length (now row) ≡ 40) ⌝ }
+    requires { ⌜ (leavesTable (code refusal) ≡ false) × (length (now row) ≡ 40) ⌝ }
     ensures { λ r. ⌜ Places p leaf (value number) wrong (code refusal) (now (table .entry)) (now (row .entry)) (now (table .exit)) (now (row .exit)) r ⌝ }
 {
     let early = early_outcome(p, leaf, table.len(), wrong, refusal);
@@ -99,7 +78,13 @@ fn place_row(
         Outcome::Refused(_) => early,
         Outcome::Granted => {
             let shape = p.shape;
-            unrank(shape, number, table, row)
+            let count = fill(shape, table);
+            if less(number, count) {
+                write_codeword(shape, number, table, row);
+                Outcome::Granted
+            } else {
+                Outcome::Refused(Refusal::NumberTooLarge)
+            }
         }
     }
 }
@@ -112,14 +97,14 @@ pub fn leaf_key(p: Profile, seed: [u8; 16], secret: [u8; 16], leaf: u32) -> Leaf
     match outcome {
         Outcome::Refused(_) => LeafKey {
             outcome: outcome,
-            key: [0; 16],
+            key: [0u8; 16],
         },
         Outcome::Granted => {
             let shape = p.shape;
-            let state = seeded(seed);
+            let h = first_hasher(seed);
             LeafKey {
                 outcome: outcome,
-                key: key_of_leaf(state, 0, 0, Leaf(leaf), secret, shape.width, shape.chains),
+                key: key_of_leaf(h, Leaf(leaf), secret, shape.width, shape.chains),
             }
         }
     }
@@ -140,31 +125,14 @@ pub fn one_time_sign(
     let shape = p.shape;
     let chains = shape.chains as usize;
     let short = values.len() < 16 * chains;
+    let cause = Refusal::OutputTooShort;
     let mut row = [0u8; 40];
-    let outcome = place_row(
-        p,
-        leaf,
-        number,
-        short,
-        Refusal::OutputTooShort,
-        table,
-        &mut row,
-    );
+    let outcome = place_row(p, leaf, number, short, cause, table, &mut row);
     match outcome {
         Outcome::Refused(_) => outcome,
         Outcome::Granted => {
-            let state = seeded(seed);
-            write_values(
-                state,
-                0,
-                0,
-                Leaf(leaf),
-                secret,
-                row,
-                shape.chains,
-                values,
-                0,
-            );
+            let h = first_hasher(seed);
+            write_values(h, Leaf(leaf), secret, row, shape.chains, values, 0);
             outcome
         }
     }
@@ -184,16 +152,9 @@ pub fn one_time_recover(
     let shape = p.shape;
     let chains = shape.chains as usize;
     let other = values.len() != 16 * chains;
+    let cause = Refusal::SignatureLength;
     let mut row = [0u8; 40];
-    let outcome = place_row(
-        p,
-        leaf,
-        number,
-        other,
-        Refusal::SignatureLength,
-        table,
-        &mut row,
-    );
+    let outcome = place_row(p, leaf, number, other, cause, table, &mut row);
     match outcome {
         Outcome::Refused(_) => Recovered {
             outcome: outcome,
@@ -201,18 +162,8 @@ pub fn one_time_recover(
             steps: 0,
         },
         Outcome::Granted => {
-            let state = seeded(seed);
-            let found = recover_key(
-                state,
-                0,
-                0,
-                Leaf(leaf),
-                row,
-                shape.width,
-                shape.chains,
-                values,
-                0,
-            );
+            let h = first_hasher(seed);
+            let found = recover_key(h, Leaf(leaf), row, shape.width, shape.chains, values, 0);
             let key = found.key;
             let steps = found.steps;
             Recovered {

@@ -6,13 +6,17 @@ use native.Mathlib.Omega.{arith}
 use lib.ListN.{length, length-append}
 use Rattle.words.proofs.ByteLaws.{length-toBytes}
 use Rattle.profile.specs.declared.Profile.{Profile}
+use Rattle.tweak.specs.declared.Domain.{Domain}
+use Rattle.chains.specs.Leaves.{leafKeyOf}
+use Rattle.chains.proofs.LeafLaws.{length-leaf-key}
 use Rattle.one_time.proofs.RecoverLaws.{length-revealedBy}
 use Rattle.tree.proofs.ClimbLaws.{length-path}
 use Rattle.message.specs.Message.{signatureLength}
 use Rattle.signer.specs.Signing.{signatureOf}
 
-pub length-signature : (p : Profile) (seed secret : List ℕ) (leaf n : ℕ) (r : List ℕ) → length r ≡ 16
-    → length (signatureOf p seed secret leaf n r) ≡ signatureLength p
+pub length-signature : (d : Domain) (p : Profile) (secret : List ℕ) (leaf n : ℕ) (r : List ℕ) → length r ≡ 16
+    → length (signatureOf d p secret leaf n r) ≡ signatureLength p
 unfolding signatureOf signatureLength
-length-signature p seed secret leaf n r sixteen =
-    simp (length-append, length-toBytes, sixteen, length-revealedBy, length-path) (omega arith)
+length-signature d p secret leaf n r sixteen =
+    let each = length-leaf-key d secret (p .shape .width) (p .shape .chains) in
+    simp (length-append, length-toBytes, sixteen, length-revealedBy, length-path d (leafKeyOf d p secret) each) (omega arith)

@@ -1,36 +1,38 @@
 // The issuing key: Issue.
 ghost use mathlib.Core.Path.{_≡_};
-ghost use mathlib.Core.List.{[], _∷_, _++_};
+ghost use mathlib.Core.List.{_++_};
 ghost use Prim.Native.Nat.{_+_, _*_, _^_, _≤_, _<_};
-ghost use lib.Dec.{ltb};
 ghost use lib.ListN.{length, take, drop};
-ghost use lib.Seq.{paste};
 ghost use Rattle.refusal.specs.Code.{outcomeCode, firstCause};
 ghost use Rattle.words.specs.Bytes.{toBytes};
 ghost use Rattle.profile.specs.Checks.{InLimits};
 ghost use Rattle.counts.specs.Table.{tableCauses};
-ghost use Rattle.tweak.specs.Tweak.{noLayer, noTree};
-ghost use Rattle.chains.specs.Leaves.{revealed};
+ghost use Rattle.tweak.specs.Tweak.{firstDomain};
+ghost use Rattle.chains.specs.Leaves.{leafKeyOf, revealed};
 ghost use Rattle.tree.specs.Tree.{rootOf, path};
-ghost use Rattle.message.specs.Message.{outsideText, signatureLength};
+ghost use Rattle.message.specs.Message.{signatureLength};
 ghost use Rattle.signer.specs.Signing as spec;
 use chains::leaves::key_of_leaf;
 use chains::leaves::write_values;
-use codewords::unrank;
+use codewords::unranking::write_codeword;
+use counts::table::fill;
 use counts::table::table_outcome;
 use message::message_number;
 use message::outside_text;
 use message::signature_length;
 use profile::Profile;
-use profile::capacity;
+use profile::leaf_beyond;
 use refusal::Outcome;
 use refusal::Refusal;
+use refusal::then;
 use tree::climb_path;
 use tree::write_path;
 use tweak::Leaf;
-use tweak::seeded;
+use tweak::first_hasher;
+use words::bytes::copy;
 use words::bytes::word_bytes;
 use words::bytes::write_16;
+use words::number::less;
 
 // A key (document 01): its profile, both seeds, and the next leaf that it will use.
 pub struct SigningKey {
@@ -48,13 +50,12 @@ pub struct Signed {
 
 // Whether a key has no leaf left.
 fn spent(key: SigningKey) -> bool
-    requires { ⌜ key .profile .height ≤ 10 ⌝ }
     ensures { λ r. ⌜ r ≡ spec.spent key ⌝ }
 {
     let p = key.profile;
     let height = p.height;
     let next = key.next;
-    capacity(height) <= next
+    leaf_beyond(height, next)
 }
 
 // The key with its next leaf taken.
@@ -73,34 +74,18 @@ fn advance(key: SigningKey) -> SigningKey
     }
 }
 
-// 16, 6 and 12, past the causes before them.
-fn order_outcome(key: SigningKey, text: usize, bytes: usize) -> Outcome
-    requires { ⌜ (key .profile .shape .chains ≤ 40) × (key .profile .height ≤ 10) ⌝ }
-    ensures { λ r. ⌜ outcomeCode r ≡ firstCause ((outsideText text, 16) ∷ (ltb bytes (signatureLength (key .profile)), 6) ∷ (spec.spent key, 12) ∷ []) ⌝ }
-{
-    let p = key.profile;
-    if outside_text(text) {
-        return Outcome::Refused(Refusal::MessageLength);
-    }
-    if bytes < signature_length(p) {
-        return Outcome::Refused(Refusal::OutputTooShort);
-    }
-    if spent(key) {
-        return Outcome::Refused(Refusal::KeySpent);
-    }
-    Outcome::Granted
-}
-
 // The causes of Issue before the table is filled.
 fn sign_outcome(key: SigningKey, words: usize, text: usize, bytes: usize) -> Outcome
-    ensures { λ r. ⌜ outcomeCode r ≡ firstCause (tableCauses (key .profile) words ++ ((outsideText text, 16) ∷ (ltb bytes (signatureLength (key .profile)), 6) ∷ (spec.spent key, 12) ∷ [])) ⌝ }
+    ensures { λ r. ⌜ outcomeCode r ≡ firstCause (tableCauses (key .profile) words ++ spec.orderCauses key text bytes) ⌝ }
 {
     let p = key.profile;
+    let outside = outside_text(text);
+    let short = bytes < signature_length(p);
+    let used = spent(key);
     let checked = table_outcome(p, words);
-    match checked {
-        Outcome::Refused(_) => checked,
-        Outcome::Granted => order_outcome(key, text, bytes),
-    }
+    let worded = then(checked, outside, Refusal::MessageLength);
+    let roomy = then(worded, short, Refusal::OutputTooShort);
+    then(roomy, used, Refusal::KeySpent)
 }
 
 // Writes the four bytes of a leaf's number at the front.
@@ -115,18 +100,6 @@ fn write_leaf(out: &mut [u8], leaf: u32)
     out[3] = bytes[3];
 }
 
-// Writes the first n bytes of others from index `at` on.
-fn copy_bytes(bytes: &[u8], n: usize, out: &mut [u8], at: usize)
-    requires { ⌜ (n ≤ length (now bytes)) × (at + n ≤ length (now out)) ⌝ }
-    ensures { λ _. ⌜ now (out .exit) ≡ paste (now (out .entry)) at (now (bytes .entry)) n ⌝ }
-{
-    let mut i = 0;
-    while i < n {
-        out[at + i] = bytes[i];
-        i += 1;
-    }
-}
-
 // The siblings on the way up from a leaf, from the bottom, and the root above them.
 struct Way {
     siblings: [u8; 160],
@@ -137,8 +110,8 @@ struct Way {
 // climbed from them.
 fn way_up(key: SigningKey) -> Way
     requires { ⌜ InLimits (key .profile .shape) × (key .profile .height ≤ 10) × (key .next < 2 ^ key .profile .height) ⌝ }
-    ensures siblings { λ r. ⌜ take (16 * key .profile .height) (r .siblings) ≡ path (key .seed) (key .secret) noLayer noTree (key .profile .shape .width) (key .profile .shape .chains) (key .profile .height) (key .next) ⌝ }
-    ensures root { λ r. ⌜ r .root ≡ rootOf (key .profile) (key .seed) (key .secret) ⌝ }
+    ensures siblings { λ r. ⌜ take (16 * key .profile .height) (r .siblings) ≡ path (firstDomain (key .seed)) (leafKeyOf (firstDomain (key .seed)) (key .profile) (key .secret)) (key .profile .height) (key .next) ⌝ }
+    ensures root { λ r. ⌜ r .root ≡ rootOf (firstDomain (key .seed)) (key .profile) (key .secret) ⌝ }
 {
     let p = key.profile;
     let shape = p.shape;
@@ -148,21 +121,11 @@ fn way_up(key: SigningKey) -> Way
     let seed = key.seed;
     let secret = key.secret;
     let next = key.next;
-    let state = seeded(seed);
+    let h = first_hasher(seed);
     let mut siblings = [0u8; 160];
-    write_path(
-        state,
-        0,
-        0,
-        secret,
-        width,
-        chains,
-        height,
-        next,
-        &mut siblings,
-    );
-    let own = key_of_leaf(state, 0, 0, Leaf(next), secret, width, chains);
-    let root = climb_path(state, 0, 0, next, own, height, &siblings, 0);
+    write_path(h, secret, width, chains, height, next, &mut siblings);
+    let own = key_of_leaf(h, Leaf(next), secret, width, chains);
+    let root = climb_path(h, next, own, height, &siblings, 0);
     Way {
         siblings: siblings,
         root: root,
@@ -172,7 +135,7 @@ fn way_up(key: SigningKey) -> Way
 // Writes a signature: the leaf, R, the values that the codeword shows, and the siblings.
 fn write_signature(key: SigningKey, r: [u8; 16], row: [u8; 40], siblings: [u8; 160], out: &mut [u8])
     requires { ⌜ (key .profile .shape .chains ≤ 40) × (key .profile .height ≤ 10) × (signatureLength (key .profile) ≤ length (now out)) ⌝ }
-    ensures { λ _. ⌜ now (out .exit) ≡ (toBytes 4 (key .next) ++ r ++ revealed (key .seed) (key .secret) noLayer noTree (key .next) (key .profile .shape .chains) row ++ take (16 * key .profile .height) siblings) ++ drop (signatureLength (key .profile)) (now (out .entry)) ⌝ }
+    ensures { λ _. ⌜ now (out .exit) ≡ (toBytes 4 (key .next) ++ r ++ revealed (firstDomain (key .seed)) (key .secret) (key .next) (key .profile .shape .chains) row ++ take (16 * key .profile .height) siblings) ++ drop (signatureLength (key .profile)) (now (out .entry)) ⌝ }
 {
     let p = key.profile;
     let shape = p.shape;
@@ -181,11 +144,11 @@ fn write_signature(key: SigningKey, r: [u8; 16], row: [u8; 40], siblings: [u8; 1
     let seed = key.seed;
     let secret = key.secret;
     let next = key.next;
-    let state = seeded(seed);
+    let h = first_hasher(seed);
     write_leaf(out, next);
     write_16(out, 4, r);
-    write_values(state, 0, 0, Leaf(next), secret, row, chains, out, 20);
-    copy_bytes(
+    write_values(h, Leaf(next), secret, row, chains, out, 20);
+    copy(
         &siblings,
         16 * (height as usize),
         out,
@@ -213,24 +176,25 @@ pub fn sign(
             let p = key.profile;
             let shape = p.shape;
             let seed = key.seed;
+            let next = key.next;
             let after = advance(key);
             let way = way_up(key);
             let root = way.root;
-            let number = message_number(r, seed, root, message);
-            let mut row = [0u8; 40];
-            let placed = unrank(shape, number, table, &mut row);
-            match placed {
-                Outcome::Refused(_) => Signed {
-                    outcome: placed,
+            let number = message_number(p, next, r, seed, root, message);
+            let count = fill(shape, table);
+            if less(number, count) {
+                let mut row = [0u8; 40];
+                write_codeword(shape, number, table, &mut row);
+                let siblings = way.siblings;
+                write_signature(key, r, row, siblings, signature);
+                Signed {
+                    outcome: outcome,
+                    key: after,
+                }
+            } else {
+                Signed {
+                    outcome: Outcome::Refused(Refusal::NumberTooLarge),
                     key: key,
-                },
-                Outcome::Granted => {
-                    let siblings = way.siblings;
-                    write_signature(key, r, row, siblings, signature);
-                    Signed {
-                        outcome: placed,
-                        key: after,
-                    }
                 }
             }
         }

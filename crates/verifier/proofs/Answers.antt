@@ -5,159 +5,142 @@ use mathlib.Core.List.{List, [], _∷_, _++_, append-assoc}
 use Prim.Native.Nat.{ℕ, _^_, _<_, _≤_}
 use native.Mathlib.Nat.{lt-of-lt-of-le}
 use native.Mathlib.Omega.{arith}
-use borrow.Author.Tests.{leb-false, eqb-true, not-false}
+use borrow.Author.Tests.{eqb-true, not-false}
 use lib.Dec.{leb, eqb}
-use lib.ListN.{length, take, drop}
+use lib.ListN.{length, take}
 use lib.Pow.{pow-mono}
 use Rattle.refusal.specs.Code.{outcomeCode, firstCause}
 use Rattle.refusal.specs.declared.Refusal.{Refusal}
-use Rattle.refusal.specs.declared.Refusal.the-variants.{RootDiffers}
+use Rattle.refusal.specs.declared.Refusal.the-variants.{NumberTooLarge, RootDiffers}
 use Rattle.refusal.specs.declared.Outcome.{Outcome}
 use Rattle.refusal.specs.declared.Outcome.the-variants.{Granted, Refused}
-use Rattle.refusal.proofs.Causes.{none-here}
-use Rattle.profile.specs.Checks.{InLimits}
+use Rattle.refusal.proofs.Causes.{Avoids, none-here}
+use Rattle.profile.specs.Checks.{InLimits, leafBeyond}
+use Rattle.profile.specs.declared.Shape.{Shape}
+use Rattle.profile.proofs.Limits.{leaf-within}
 use Rattle.counts.specs.Counts.{count}
-use Rattle.counts.specs.Table.{tableCauses}
+use Rattle.counts.specs.Table.{tableLength, withTable, tableCauses, leavesTable}
+use Rattle.counts.proofs.Answer.{table-left}
+use Rattle.counts.proofs.Room.{table-early, table-passed}
 use Rattle.codewords.specs.Codeword.{stepsLeft}
-use Rattle.codewords.specs.Operations.{Unranks}
-use Rattle.codewords.proofs.TableOperation.{Between, Passes, filled-table, early-passed, refused-early, refused-seven, passed-unrank}
-use Rattle.tweak.specs.Tweak.{noLayer, noTree}
+use Rattle.codewords.specs.Operations.{rowOf}
+use Rattle.codewords.proofs.TableOperation.{none-before, refused-before, refused-by-seven, past-seven}
+use Rattle.tweak.specs.Tweak.{firstDomain}
 use Rattle.chains.specs.Leaves.{recovered}
 use Rattle.one_time.specs.Operations.{recoveredBy, stepsOf}
 use Rattle.one_time.proofs.RowLaws.{recovered-row, steps-row}
 use Rattle.tree.specs.Tree.{climbed}
 use Rattle.message.specs.Message.{outsideText, signatureLength}
 use Rattle.message.proofs.Fits.{short-text}
-use Rattle.verifier.specs.Verifying.{passed, taken, leafIn, valuesIn, siblingsIn, numberIn, recoveredRoot, same, causesBeforeRoot, verifyCode, verifierAfter, stepsMade, Verifies}
+use Rattle.verifier.specs.Verifying.{passed, taken, leafIn, valuesIn, siblingsIn, numberIn, recoveredRoot, rootIn, same, orderCauses, causesBeforeRoot, verifyCode, verifierAfter, stepsMade, Verifies}
 use Rattle.verifier.specs.declared.Verifier.{Verifier}
 
--- the causes of Check between 5 and 7
-abbrev pub verifyOwn : Verifier → (text : ℕ) (signature : List ℕ) → List (Bool × ℕ)
-verifyOwn v text signature =
-    (outsideText text, 16) ∷ (not (eqb (length signature) (signatureLength (v .profile))), 13)
-    ∷ (leb (2 ^ v .profile .height) (leafIn signature), 11) ∷ (passed v (leafIn signature), 14) ∷ []
-
-verify-between : (v : Verifier) (text : ℕ) (signature : List ℕ) → Between (verifyOwn v text signature)
-verify-between v text signature =
-    record {
-      numbered = (refl, (refl, (refl, (refl, tt))));
-      not-seven = (refl, (refl, (refl, (refl, tt))));
-      not-fifteen = (refl, (refl, (refl, (refl, tt))));
-    }
-
--- past these causes: everything is within its limits, the signature has its length, and the leaf that it names is small
-pub record VerifyFits (v : Verifier) (text : ℕ) (signature : List ℕ) : Type 0 where
+-- past the causes before the table: everything is within its limits, the work slice has room, the signature has its length, and the leaf that it names is small
+pub record VerifyFits (v : Verifier) (words text : ℕ) (signature : List ℕ) : Type 0 where
   pub limits : InLimits (v .profile .shape)
   pub low : v .profile .height ≤ 10
+  pub table : tableLength (v .profile .shape) ≤ words
   pub short : text ≤ 200
   pub long : length signature ≡ signatureLength (v .profile)
   pub front : 20 ≤ length signature
   pub small : leafIn signature < 2 ^ 10
 
 module _ (v : Verifier) (message signature work : List ℕ) (o : Outcome)
-    (e : outcomeCode o ≡ firstCause (tableCauses (v .profile) (length work) ++ verifyOwn v (length message) signature)) where
-  pub verify-fits : o ≡ Granted → VerifyFits v (length message) signature
+    (e : outcomeCode o ≡ firstCause (tableCauses (v .profile) (length work) ++ orderCauses v (length message) signature)) where
+  abbrev shape : Shape
+  shape = v .profile .shape
+
+  abbrev first : List (Bool × ℕ)
+  first = tableCauses (v .profile) (length work)
+
+  abbrev own : List (Bool × ℕ)
+  own = orderCauses v (length message) signature
+
+  abbrev code : ℕ
+  code = verifyCode v message signature work
+
+  abbrev number : ℕ
+  number = numberIn v message signature
+
+  early : Avoids leavesTable first
+  early = table-early (v .profile) (length work)
+
+  between : Avoids leavesTable own
+  between = (refl, (refl, (refl, (refl, tt))))
+
+  pub verify-fits : o ≡ Granted → VerifyFits v (length work) (length message) signature
   unfolding signatureLength
   verify-fits q =
-      let own = verifyOwn v (length message) signature in
-      let early = early-passed (v .profile) work own (verify-between v (length message) signature) o e q in
+      let none = none-before shape work first own early between o e q in
+      let within = table-passed (v .profile) (length work) (none .0) in
       let last : List (Bool × ℕ) = (passed v (leafIn signature), 14) ∷ [] in
-      let outside = leb (2 ^ v .profile .height) (leafIn signature) in
+      let beyond = leafBeyond (v .profile .height) (leafIn signature) in
       let exact = eqb (length signature) (signatureLength (v .profile)) in
-      let text = none-here (outsideText (length message)) 16 ((not exact, 13) ∷ (outside, 11) ∷ last) refl (early .1) in
-      let long = none-here (not exact) 13 ((outside, 11) ∷ last) refl (text .1) in
-      let leaf = none-here outside 11 last refl (long .1) in
+      let text = none-here (outsideText (length message)) 16 ((not exact, 13) ∷ (beyond, 11) ∷ last) refl (none .1) in
+      let long = none-here (not exact) 13 ((beyond, 11) ∷ last) refl (text .1) in
+      let leaf = none-here beyond 11 last refl (long .1) in
       let exactly = eqb-true (length signature) (signatureLength (v .profile)) (not-false exact (long .0)) in
       record {
-        limits = early .0 .limits;
-        low = early .0 .low;
+        limits = within .limits;
+        low = within .low;
+        table = within .room;
         short = short-text (length message) (text .0);
         long = exactly;
         front = omega (arith, exactly);
-        small = lt-of-lt-of-le (leb-false (2 ^ v .profile .height) (leafIn signature) (leaf .0)) (pow-mono {j = 10} (early .0 .low));
+        small = lt-of-lt-of-le (leaf-within (v .profile .height) (leafIn signature) (leaf .0)) (pow-mono {j = 10} (within .low));
       }
 
   -- the cause behind 7
   abbrev differs : List (Bool × ℕ)
-  differs = (not (same (recoveredRoot v message signature) (v .root)), 15) ∷ []
+  differs = (not (same (rootIn v message signature) (v .root)), 15) ∷ []
 
-  -- all causes, where n is the message number
-  verify-causes : (n : ℕ) → n ≡ numberIn v message signature
-      → verifyCode v message signature work
-      ≡ firstCause (tableCauses (v .profile) (length work) ++ (verifyOwn v (length message) signature ++ ((leb (count (v .profile .shape)) n, 7) ∷ differs)))
+  -- all causes
+  causes : code ≡ firstCause (first ++ (own ++ ((leb (count shape) number, 7) ∷ differs)))
   unfolding verifyCode causesBeforeRoot
-  verify-causes n e-n =
-      rw e-n
-      (ap firstCause
-      (append-assoc (tableCauses (v .profile) (length work)) (verifyOwn v (length message) signature ++ ((leb (count (v .profile .shape)) (numberIn v message signature), 7) ∷ [])) differs))
+  causes = ap firstCause (append-assoc first (own ++ ((leb (count shape) number, 7) ∷ [])) differs)
 
   pub verify-refused : (x : Refusal) → o ≡ Refused x → Verifies v message signature work work (record { outcome = o; verifier = v; steps = 0 })
   unfolding verifierAfter stepsMade
   verify-refused x q =
-      let n = numberIn v message signature in
-      let refused =
-      refused-early (v .profile) work (verifyOwn v (length message) signature) (verify-between v (length message) signature) o e n differs
-      (verifyCode v message signature work) (verify-causes n refl) x q in
-      record { number = refused .answer; verifier = rw (refused .some); steps = rw (refused .some, refused .not-fifteen); table = refused .table }
+      let refused = refused-before shape work first own early between o e number differs code causes x q in
+      record { code = refused .answer; verifier = rw (refused .some); steps = rw (refused .some, refused .not-fifteen); table = refused .table }
 
-  -- past Spread of the message number, with a row of 40 bytes
-  module _ (q : o ≡ Granted) {n : ℕ} (e-n : n ≡ numberIn v message signature) {row work′ row′ : List ℕ} {placed : Outcome}
-      (u : Unranks (v .profile .shape) n work row work′ row′ placed) (long : length row ≡ 40) where
-    pub verify-seven : (x : Refusal) → placed ≡ Refused x → Verifies v message signature work work′ (record { outcome = placed; verifier = v; steps = 0 })
+  -- the table is filled, and the number compared with the count
+  module _ (q : o ≡ Granted) {left : List ℕ} (filled : left ≡ withTable shape work) where
+    pub verify-seven : count shape ≤ number → Verifies v message signature work left (record { outcome = Refused NumberTooLarge; verifier = v; steps = 0 })
     unfolding verifierAfter stepsMade
-    verify-seven x s =
-        let refused =
-        refused-seven (v .profile) work (verifyOwn v (length message) signature) (verify-between v (length message) signature) o e n differs
-        (verifyCode v message signature work) (verify-causes n e-n) q u long x s in
-        record { number = refused .answer; verifier = rw (refused .some); steps = rw (refused .some, refused .not-fifteen); table = refused .table }
+    verify-seven h =
+        let refused = refused-by-seven shape work first own early between o e number differs code causes q h filled in
+        record { code = refused .answer; verifier = rw (refused .some); steps = rw (refused .some, refused .not-fifteen); table = refused .table }
 
-    -- the number's codeword in the row, with the root and the steps found over that row
-    module _ (s : placed ≡ Granted) {leaf steps : ℕ} {top : List ℕ} (e-leaf : leaf ≡ leafIn signature)
+    -- the number's codeword in the row, in front of what else it has, with the root and the steps found over that row
+    module _ {n : ℕ} {row : List ℕ} (more : List ℕ) (same-number : n ≡ number) (below : number < count shape) (placed : row ≡ rowOf shape n ++ more)
+        {leaf steps : ℕ} {top : List ℕ} (own-leaf : leaf ≡ leafIn signature)
         (climb : top
-        ≡ climbed (v .seed) noLayer noTree leaf
-        (recovered (v .seed) noLayer noTree (v .profile .shape .width) (v .profile .shape .chains) leaf row′ (valuesIn signature))
-        (siblingsIn (v .profile) signature) (v .profile .height))
-        (made : steps ≡ stepsLeft (v .profile .shape .width) (take (v .profile .shape .chains) row′)) where
-      unranked : Passes (verifyCode v message signature work) (v .profile .shape) n differs work row work′ row′
-      unranked =
-          passed-unrank (v .profile) work (verifyOwn v (length message) signature) (verify-between v (length message) signature) o e n differs
-          (verifyCode v message signature work) (verify-causes n e-n) q u long s
+        ≡ climbed (firstDomain (v .seed)) leaf (recovered (firstDomain (v .seed)) (shape .width) (shape .chains) leaf row (valuesIn (v .profile) signature)) (siblingsIn (v .profile) signature) (v .profile .height))
+        (made : steps ≡ stepsLeft (shape .width) (take (shape .chains) row)) where
+      top-recovered : top ≡ rootIn v message signature
+      unfolding rootIn recoveredRoot recoveredBy
+      top-recovered = climb ∙ rw (own-leaf, placed, same-number, recovered-row shape number more below (firstDomain (v .seed)) (valuesIn (v .profile) signature) (leafIn signature))
 
-      top-recovered : top ≡ recoveredRoot v message signature
-      unfolding recoveredRoot recoveredBy
-      top-recovered =
-          climb
-          ∙ rw
-          (e-leaf, unranked .placed, recovered-row (v .profile .shape) n (drop (v .profile .shape .chains) row) (unranked .below) (v .seed) (valuesIn signature) noLayer noTree (leafIn signature), e-n)
-
-      steps-full : steps ≡ stepsOf (v .profile .shape) (numberIn v message signature)
+      steps-full : steps ≡ stepsOf shape number
       unfolding stepsOf
-      steps-full = made ∙ rw (unranked .placed, steps-row (v .profile .shape) n (drop (v .profile .shape .chains) row) (unranked .below), e-n)
+      steps-full = made ∙ rw (placed, same-number, steps-row shape number more below)
 
       -- 15 or granted, as the comparison of the roots answers
-      compared : (b : Bool) → b ≡ same top (v .root) → verifyCode v message signature work ≡ firstCause ((not b, 15) ∷ [])
-      compared b c = unranked .left ∙ rw (c, top-recovered)
+      compared : (b : Bool) → b ≡ same top (v .root) → code ≡ firstCause ((not b, 15) ∷ [])
+      compared b c = past-seven shape work first own early between o e number differs code causes q below ∙ rw (c, top-recovered)
 
       pub verify-differs : {b : Bool} → b ≡ same top (v .root) → b ≡ false
-          → Verifies v message signature work work′ (record { outcome = Refused RootDiffers; verifier = v; steps = steps })
+          → Verifies v message signature work left (record { outcome = Refused RootDiffers; verifier = v; steps = steps })
       unfolding verifierAfter stepsMade
       verify-differs {b} c unequal =
-          let fifteen : verifyCode v message signature work ≡ 15 = compared b c ∙ rw unequal in
-          record {
-            number = sym fifteen;
-            verifier = rw fifteen;
-            steps = rw fifteen steps-full;
-            table = filled-table (v .profile .shape) work 15 fifteen refl (unranked .filled);
-          }
+          let fifteen : code ≡ 15 = compared b c ∙ rw unequal in
+          record { code = sym fifteen; verifier = rw fifteen; steps = rw fifteen steps-full; table = table-left shape work 15 fifteen refl filled }
 
       pub verify-granted : {b : Bool} {after : Verifier} → b ≡ same top (v .root) → b ≡ true → after ≡ taken v leaf
-          → Verifies v message signature work work′ (record { outcome = placed; verifier = after; steps = steps })
+          → Verifies v message signature work left (record { outcome = o; verifier = after; steps = steps })
       unfolding verifierAfter stepsMade
       verify-granted {b} c equal a =
-          let zero : verifyCode v message signature work ≡ 0 = compared b c ∙ rw equal in
-          record {
-            number = ap outcomeCode s ∙ sym zero;
-            verifier = rw zero (a ∙ ap (taken v) e-leaf);
-            steps = rw zero steps-full;
-            table = filled-table (v .profile .shape) work 0 zero refl (unranked .filled);
-          }
+          let zero : code ≡ 0 = compared b c ∙ rw equal in
+          record { code = rw q (sym zero); verifier = rw zero (a ∙ ap (taken v) own-leaf); steps = rw zero steps-full; table = table-left shape work 0 zero refl filled }

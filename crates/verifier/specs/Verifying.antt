@@ -2,15 +2,17 @@
 use mathlib.Core.Path.{_≡_}
 use mathlib.Core.Bool.{Bool, true, false, not, _&&_, _||_, cond}
 use mathlib.Core.List.{List, [], _∷_, _++_}
-use Prim.Native.Nat.{ℕ, _+_, _*_, _^_}
+use Prim.Native.Nat.{ℕ, _+_, _*_}
 use lib.Dec.{ltb, leb, eqb}
 use lib.ListN.{length, take, drop}
 use Rattle.refusal.specs.Code.{outcomeCode, firstCause}
 use Rattle.words.specs.Bytes.{fromBytes}
+use Rattle.profile.specs.Checks.{leafBeyond}
 use Rattle.profile.specs.declared.Profile.{Profile}
 use Rattle.counts.specs.Counts.{count}
 use Rattle.counts.specs.Table.{tableCauses, tableAfter}
-use Rattle.tweak.specs.Tweak.{noLayer, noTree}
+use Rattle.tweak.specs.Tweak.{firstDomain}
+use Rattle.tweak.specs.declared.Domain.{Domain}
 use Rattle.one_time.specs.Operations.{recoveredBy, stepsOf}
 use Rattle.tree.specs.Tree.{climbed}
 use Rattle.message.specs.Message.{messageNumber, outsideText, signatureLength}
@@ -36,23 +38,26 @@ leafIn signature = fromBytes (take 4 signature)
 unfoldable pub randomIn : (signature : List ℕ) → List ℕ
 randomIn signature = take 16 (drop 4 signature)
 
-unfoldable pub valuesIn : (signature : List ℕ) → List ℕ
-valuesIn signature = drop 20 signature
+unfoldable pub valuesIn : Profile → (signature : List ℕ) → List ℕ
+valuesIn p signature = take (16 * p .shape .chains) (drop 20 signature)
 
 unfoldable pub siblingsIn : Profile → (signature : List ℕ) → List ℕ
 siblingsIn p signature = drop (20 + 16 * p .shape .chains) signature
 
--- the message number, with the root that the cabinet holds
+-- the message number, with the leaf and R that the signature has and the root that the cabinet holds
 unfoldable pub numberIn : Verifier → (message signature : List ℕ) → ℕ
-numberIn v message signature = messageNumber (randomIn signature) (v .seed) (v .root) message
+numberIn v message signature =
+    messageNumber (v .profile) (leafIn signature) (randomIn signature) (v .seed) (v .root) message
 
 -- "recovered root": the climb from the leaf key that Recover finds
-unfoldable pub recoveredRoot : Verifier → (message signature : List ℕ) → List ℕ
-recoveredRoot v message signature =
-    let leaf = leafIn signature in
-    climbed (v .seed) noLayer noTree leaf
-    (recoveredBy (v .profile) (v .seed) leaf (numberIn v message signature) (valuesIn signature))
-    (siblingsIn (v .profile) signature) (v .profile .height)
+unfoldable pub recoveredRoot : Domain → Profile → (leaf n : ℕ) (values siblings : List ℕ) → List ℕ
+recoveredRoot d p leaf n values siblings = climbed d leaf (recoveredBy d p leaf n values) siblings (p .height)
+
+-- the root that a signature leads to under the cabinet's seed
+unfoldable pub rootIn : Verifier → (message signature : List ℕ) → List ℕ
+rootIn v message signature =
+    recoveredRoot (firstDomain (v .seed)) (v .profile) (leafIn signature) (numberIn v message signature) (valuesIn (v .profile) signature)
+    (siblingsIn (v .profile) signature)
 
 -- whether two byte strings are the same
 unfoldable pub same : List ℕ → List ℕ → Bool
@@ -61,19 +66,23 @@ same [] (y ∷ ys) = false
 same (x ∷ xs) [] = false
 same (x ∷ xs) (y ∷ ys) = eqb x y && same xs ys
 
--- "Check: profile checks, 5, 16; 13 signature not 20 + 16 × l + 16 × h bytes; 11; 14 leaf below the lowest still taken; 7; …"
+-- "16; 13 signature not 20 + 16 × l + 16 × h bytes; 11; 14 leaf below the lowest still taken"
+abbrev pub orderCauses : Verifier → (text : ℕ) (signature : List ℕ) → List (Bool × ℕ)
+orderCauses v text signature =
+    (outsideText text, 16) ∷ (not (eqb (length signature) (signatureLength (v .profile))), 13)
+    ∷ (leafBeyond (v .profile .height) (leafIn signature), 11) ∷ (passed v (leafIn signature), 14) ∷ []
+
+-- "Check: profile checks, 5, 16; 13 …; 11; 14 …; 7; …"
 unfoldable pub causesBeforeRoot : Verifier → (message signature work : List ℕ) → List (Bool × ℕ)
 causesBeforeRoot v message signature work =
     tableCauses (v .profile) (length work)
-    ++ ((outsideText (length message), 16) ∷ (not (eqb (length signature) (signatureLength (v .profile))), 13)
-    ∷ (leb (2 ^ v .profile .height) (leafIn signature), 11) ∷ (passed v (leafIn signature), 14)
-    ∷ (leb (count (v .profile .shape)) (numberIn v message signature), 7) ∷ [])
+    ++ (orderCauses v (length message) signature ++ ((leb (count (v .profile .shape)) (numberIn v message signature), 7) ∷ []))
 
 -- "… 15 recovered root differs"
 unfoldable pub verifyCode : Verifier → (message signature work : List ℕ) → ℕ
 verifyCode v message signature work =
     firstCause
-    (causesBeforeRoot v message signature work ++ ((not (same (recoveredRoot v message signature) (v .root)), 15) ∷ []))
+    (causesBeforeRoot v message signature work ++ ((not (same (rootIn v message signature) (v .root)), 15) ∷ []))
 
 -- the cabinet that comes back; refused, as it was
 unfoldable pub verifierAfter : Verifier → (message signature work : List ℕ) → Verifier
@@ -88,7 +97,7 @@ stepsMade v message signature work =
 
 -- what Check answers and leaves
 pub record Verifies (v : Verifier) (message signature work work′ : List ℕ) (answer : Verdict) : Type 0 where
-  pub number : outcomeCode (answer .outcome) ≡ verifyCode v message signature work
+  pub code : outcomeCode (answer .outcome) ≡ verifyCode v message signature work
   pub verifier : answer .verifier ≡ verifierAfter v message signature work
   pub steps : answer .steps ≡ stepsMade v message signature work
   pub table : work′ ≡ tableAfter (verifyCode v message signature work) (v .profile .shape) work

@@ -1,35 +1,36 @@
 // The checking cabinet: Check.
 ghost use mathlib.Core.Path.{_≡_};
-ghost use mathlib.Core.Bool.{not};
-ghost use mathlib.Core.List.{[], _∷_, _++_};
+ghost use mathlib.Core.List.{_++_};
 ghost use Prim.Native.Nat.{_+_, _^_, _≤_, _<_};
-ghost use lib.Dec.{leb, eqb};
 ghost use lib.ListN.{length, take};
 ghost use Rattle.refusal.specs.Code.{outcomeCode, firstCause};
 ghost use Rattle.words.specs.Number.{value};
 ghost use Rattle.profile.specs.Checks.{InLimits};
 ghost use Rattle.counts.specs.Table.{tableCauses};
 ghost use Rattle.codewords.specs.Codeword.{stepsLeft};
-ghost use Rattle.tweak.specs.Tweak.{noLayer, noTree};
+ghost use Rattle.tweak.specs.Tweak.{firstDomain};
 ghost use Rattle.chains.specs.Leaves.{recovered};
 ghost use Rattle.tree.specs.Tree.{climbed};
-ghost use Rattle.message.specs.Message.{outsideText, signatureLength};
+ghost use Rattle.message.specs.Message.{signatureLength};
 ghost use Rattle.verifier.specs.Verifying as spec;
 use chains::leaves::recover_key;
-use codewords::unrank;
+use codewords::unranking::write_codeword;
+use counts::table::fill;
 use counts::table::table_outcome;
 use message::message_number;
 use message::outside_text;
 use message::signature_length;
 use profile::Profile;
-use profile::capacity;
+use profile::leaf_beyond;
 use refusal::Outcome;
 use refusal::Refusal;
+use refusal::then;
 use tree::climb_path;
 use tweak::Leaf;
-use tweak::seeded;
+use tweak::first_hasher;
+use words::bytes::front_word;
 use words::bytes::read_16;
-use words::bytes::word_at;
+use words::number::less;
 
 // A cabinet (document 01): its profile, the public seed, the root, and the lowest leaf that it will still take.
 pub struct Verifier {
@@ -85,10 +86,9 @@ fn same_root(a: [u8; 16], b: [u8; 16]) -> bool
 
 // The leaf that a signature names.
 fn leaf_in(signature: &[u8]) -> u32
-    requires { ⌜ 4 ≤ length (now signature) ⌝ }
     ensures { λ r. ⌜ r ≡ spec.leafIn (now (signature .entry)) ⌝ }
 {
-    word_at(signature, 0)
+    front_word(signature)
 }
 
 // The message number, with the signature's R and the cabinet's root.
@@ -96,53 +96,30 @@ fn number_in(v: Verifier, message: &[u8], signature: &[u8]) -> [u32; 5]
     requires { ⌜ (length (now message) ≤ 200) × (20 ≤ length (now signature)) ⌝ }
     ensures { λ r. ⌜ value r ≡ spec.numberIn v (now (message .entry)) (now (signature .entry)) ⌝ }
 {
-    let r = read_16(signature, 4);
+    let p = v.profile;
     let seed = v.seed;
     let root = v.root;
-    message_number(r, seed, root, message)
+    let leaf = leaf_in(signature);
+    let r = read_16(signature, 4);
+    message_number(p, leaf, r, seed, root, message)
 }
 
-// 11 and 14, past the causes before them.
-fn leaf_outcome(v: Verifier, leaf: u32) -> Outcome
-    requires { ⌜ v .profile .height ≤ 10 ⌝ }
-    ensures { λ r. ⌜ outcomeCode r ≡ firstCause ((leb (2 ^ v .profile .height) leaf, 11) ∷ (spec.passed v leaf, 14) ∷ []) ⌝ }
+// The causes of Check before the table is filled. A signature of the wrong length is refused before its leaf counts.
+fn verify_outcome(v: Verifier, words: usize, text: usize, signature: &[u8]) -> Outcome
+    ensures { λ r. ⌜ outcomeCode r ≡ firstCause (tableCauses (v .profile) words ++ spec.orderCauses v text (now (signature .entry))) ⌝ }
 {
     let p = v.profile;
     let height = p.height;
-    if capacity(height) <= leaf {
-        return Outcome::Refused(Refusal::LeafOutOfRange);
-    }
-    if passed(v, leaf) {
-        return Outcome::Refused(Refusal::LeafPassed);
-    }
-    Outcome::Granted
-}
-
-// 16, 13, 11 and 14, past the causes before them.
-fn order_outcome(v: Verifier, text: usize, signature: &[u8]) -> Outcome
-    requires { ⌜ (v .profile .shape .chains ≤ 40) × (v .profile .height ≤ 10) ⌝ }
-    ensures { λ r. ⌜ outcomeCode r ≡ firstCause ((outsideText text, 16) ∷ (not (eqb (length (now (signature .entry))) (signatureLength (v .profile))), 13) ∷ (leb (2 ^ v .profile .height) (spec.leafIn (now (signature .entry))), 11) ∷ (spec.passed v (spec.leafIn (now (signature .entry))), 14) ∷ []) ⌝ }
-{
-    let p = v.profile;
-    if outside_text(text) {
-        return Outcome::Refused(Refusal::MessageLength);
-    }
-    if signature.len() != signature_length(p) {
-        return Outcome::Refused(Refusal::SignatureLength);
-    }
-    leaf_outcome(v, leaf_in(signature))
-}
-
-// The causes of Check before the table is filled.
-fn verify_outcome(v: Verifier, words: usize, text: usize, signature: &[u8]) -> Outcome
-    ensures { λ r. ⌜ outcomeCode r ≡ firstCause (tableCauses (v .profile) words ++ ((outsideText text, 16) ∷ (not (eqb (length (now (signature .entry))) (signatureLength (v .profile))), 13) ∷ (leb (2 ^ v .profile .height) (spec.leafIn (now (signature .entry))), 11) ∷ (spec.passed v (spec.leafIn (now (signature .entry))), 14) ∷ [])) ⌝ }
-{
-    let p = v.profile;
+    let leaf = leaf_in(signature);
+    let outside = outside_text(text);
+    let other = signature.len() != signature_length(p);
+    let beyond = leaf_beyond(height, leaf);
+    let low = passed(v, leaf);
     let checked = table_outcome(p, words);
-    match checked {
-        Outcome::Refused(_) => checked,
-        Outcome::Granted => order_outcome(v, text, signature),
-    }
+    let worded = then(checked, outside, Refusal::MessageLength);
+    let whole = then(worded, other, Refusal::SignatureLength);
+    let inside = then(whole, beyond, Refusal::LeafOutOfRange);
+    then(inside, low, Refusal::LeafPassed)
 }
 
 // The root that a signature leads to, and the chain steps made on the way.
@@ -154,7 +131,7 @@ struct Found {
 // The root above the leaf key that the codeword and the signature's values give, along the signature's siblings.
 fn recover_root(v: Verifier, leaf: u32, row: [u8; 40], signature: &[u8]) -> Found
     requires { ⌜ InLimits (v .profile .shape) × (v .profile .height ≤ 10) × (length (now signature) ≡ signatureLength (v .profile)) ⌝ }
-    ensures root { λ r. ⌜ r .root ≡ climbed (v .seed) noLayer noTree leaf (recovered (v .seed) noLayer noTree (v .profile .shape .width) (v .profile .shape .chains) leaf row (spec.valuesIn (now (signature .entry)))) (spec.siblingsIn (v .profile) (now (signature .entry))) (v .profile .height) ⌝ }
+    ensures root { λ r. ⌜ r .root ≡ climbed (firstDomain (v .seed)) leaf (recovered (firstDomain (v .seed)) (v .profile .shape .width) (v .profile .shape .chains) leaf row (spec.valuesIn (v .profile) (now (signature .entry)))) (spec.siblingsIn (v .profile) (now (signature .entry))) (v .profile .height) ⌝ }
     ensures steps { λ r. ⌜ r .steps ≡ stepsLeft (v .profile .shape .width) (take (v .profile .shape .chains) row) ⌝ }
 {
     let p = v.profile;
@@ -163,12 +140,20 @@ fn recover_root(v: Verifier, leaf: u32, row: [u8; 40], signature: &[u8]) -> Foun
     let chains = shape.chains;
     let height = p.height;
     let seed = v.seed;
-    let state = seeded(seed);
-    let found = recover_key(state, 0, 0, Leaf(leaf), row, width, chains, signature, 20);
+    let h = first_hasher(seed);
+    let siblings = 20 + 16 * (chains as usize);
+    let found = recover_key(
+        h,
+        Leaf(leaf),
+        row,
+        width,
+        chains,
+        &signature[20..siblings],
+        0,
+    );
     let key = found.key;
     let steps = found.steps;
-    let siblings = 20 + 16 * (chains as usize);
-    let root = climb_path(state, 0, 0, leaf, key, height, signature, siblings);
+    let root = climb_path(h, leaf, key, height, signature, siblings);
     Found {
         root: root,
         steps: steps,
@@ -190,34 +175,34 @@ pub fn verify(v: Verifier, message: &[u8], signature: &[u8], table: &mut [u32]) 
             let p = v.profile;
             let shape = p.shape;
             let number = number_in(v, message, signature);
-            let mut row = [0u8; 40];
-            let placed = unrank(shape, number, table, &mut row);
-            match placed {
-                Outcome::Refused(_) => Verdict {
-                    outcome: placed,
+            let count = fill(shape, table);
+            if less(number, count) {
+                let mut row = [0u8; 40];
+                write_codeword(shape, number, table, &mut row);
+                let leaf = leaf_in(signature);
+                let after = take_leaf(v, leaf);
+                let found = recover_root(v, leaf, row, signature);
+                let top = found.root;
+                let steps = found.steps;
+                let root = v.root;
+                if same_root(top, root) {
+                    Verdict {
+                        outcome: outcome,
+                        verifier: after,
+                        steps: steps,
+                    }
+                } else {
+                    Verdict {
+                        outcome: Outcome::Refused(Refusal::RootDiffers),
+                        verifier: v,
+                        steps: steps,
+                    }
+                }
+            } else {
+                Verdict {
+                    outcome: Outcome::Refused(Refusal::NumberTooLarge),
                     verifier: v,
                     steps: 0,
-                },
-                Outcome::Granted => {
-                    let leaf = leaf_in(signature);
-                    let after = take_leaf(v, leaf);
-                    let found = recover_root(v, leaf, row, signature);
-                    let top = found.root;
-                    let steps = found.steps;
-                    let root = v.root;
-                    if same_root(top, root) {
-                        Verdict {
-                            outcome: placed,
-                            verifier: after,
-                            steps: steps,
-                        }
-                    } else {
-                        Verdict {
-                            outcome: Outcome::Refused(Refusal::RootDiffers),
-                            verifier: v,
-                            steps: steps,
-                        }
-                    }
                 }
             }
         }

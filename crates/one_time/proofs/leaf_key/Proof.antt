@@ -1,8 +1,6 @@
 -- `one_time::leaf_key` meets its contract: refused, the key is zero; granted, it is that of the leaf.
-use mathlib.Core.Path.{_≡_}
 use native.Mathlib.Omega.{arith}
 use borrow.Author.Needs.{needs}
-use lib.ListN.{length}
 use Rattle.one_time.proofs.Answers.{leaf-key-limits, leaf-key-refused, leaf-key-granted}
 use Rattle.one_time.proofs.leaf_key.Statement.{statement}
 use Rattle.one_time.proofs.leaf_key.Tie as tie
@@ -12,7 +10,7 @@ key-of-leaf-requires c κs =
     let g = c .before .before in
     let a = g .before .before .before .args in
     let h = leaf-key-limits (a .p) (a .leaf) _ (g .before .before .leaf-key-outcome .ensures) (g .enum-told2 .given .1) in
-    (omega (arith, h .wide), h .few-chains)
+    (c .first-hasher .ensures .1, omega (arith, h .wide, h .few-chains))
 
 returns : tie.Need-returns
 returns c =
@@ -23,8 +21,7 @@ returns-2 : tie.Need-returns-2
 returns-2 c =
     let g = c .before .before .before in
     let a = g .before .before .before .args in
-    let long : length (a .seed) ≡ 16 = search needs in
-    leaf-key-granted (a .p) (a .leaf) _ (g .before .before .leaf-key-outcome .ensures) (a .seed) (a .secret) (g .enum-told2 .given .1) _ (c .key-of-leaf .ensures (a .seed) long (c .before .seeded .ensures))
+    leaf-key-granted (a .p) (a .leaf) _ (g .before .before .leaf-key-outcome .ensures) (a .seed) (a .secret) (g .enum-told2 .given .1) _ (rw (c .before .first-hasher .ensures .0) at (c .key-of-leaf .ensures))
 
 pub leaf-key-spec : {M : Type 1} → statement M
 leaf-key-spec =

@@ -1,40 +1,37 @@
--- `signer::sign_outcome` meets its contract: the causes of the table, then those of the order.
-use mathlib.Core.List.{[]}
+-- `signer::sign_outcome` meets its contract: the causes of the table, and one after another those of the order.
+use mathlib.Core.Path.{refl, ap}
 use borrow.Author.Needs.{needs}
-use Rattle.refusal.proofs.Causes.{refused-then, granted-none, granted-then}
+use lib.Dec.{ltb}
+use Rattle.refusal.proofs.Causes.{chain-begins, chain-next}
 use Rattle.counts.specs.Table.{tableCauses}
-use Rattle.counts.proofs.Room.{table-numbered, table-passed}
-use Rattle.signer.proofs.Answers.{signOwn}
+use Rattle.counts.proofs.Room.{table-numbered}
 use Rattle.signer.proofs.sign_outcome.Statement.{statement}
 use Rattle.signer.proofs.sign_outcome.Tie as tie
 
-order-outcome-requires : tie.Need-order-outcome-requires
-order-outcome-requires c κs =
-    let a = c .before .before .before .before .args in
-    let passed = table-passed (a .key .profile) (a .words) (granted-none (tableCauses (a .key .profile) (a .words)) [] _ (c .before .before .table-outcome .ensures) (c .enum-told2 .given .1)) in
-    (passed .limits .few-chains, passed .low)
-
 returns : tie.Need-returns
 returns c =
-    let tabled = c .before .before in
-    let a = tabled .before .before .args in
-    refused-then (tableCauses (a .key .profile) (a .words)) _ _ (tabled .table-outcome .ensures) _ (c .enum-told .given .1)
-
-returns-2 : tie.Need-returns-2
-returns-2 c =
-    let g = c .before in
-    let tabled = g .before .before in
-    let a = tabled .before .before .args in
-    rw (granted-then (tableCauses (a .key .profile) (a .words)) (signOwn (a .key) (a .text) (a .bytes)) _ (tabled .table-outcome .ensures) (table-numbered (a .key .profile) (a .words)) (g .enum-told2 .given .1))
-    (c .order-outcome .ensures)
+    let roomy = c .before in
+    let worded = roomy .before in
+    let tabled = worded .before in
+    let used = tabled .before in
+    let sized = used .before in
+    let told = sized .before in
+    let a = told .before .before .args in
+    let p = a .key .profile in
+    let first = chain-begins (tableCauses p (a .words)) (table-numbered p (a .words)) (tabled .table-outcome .ensures) in
+    let second = chain-next 16 refl first (told .outside-text .ensures) (worded .then .ensures) in
+    let third = chain-next 6 refl second (ap (ltb (a .bytes)) (sized .signature-length .ensures)) (roomy .then2 .ensures) in
+    chain-next 12 refl third (used .spent .ensures) (c .then3 .ensures) .answer
 
 pub sign-outcome-spec : {M : Type 1} → statement M
 sign-outcome-spec =
     tie.close
     (tie.spec
     (λ c κs. search needs)
-    (λ c. search needs)
-    (λ c. search needs)
-    order-outcome-requires
-    returns
-    returns-2)
+    (λ c κs. search needs)
+    (λ c κs. search needs)
+    (λ c κs. search needs)
+    (λ c κs. search needs)
+    (λ c κs. search needs)
+    (λ c κs. search needs)
+    returns)

@@ -1,4 +1,4 @@
--- `signer::spent` meets its contract: the next leaf is compared with the number of leaves.
+-- `signer::spent` meets its contract: the next leaf against the number of leaves.
 use borrow.Author.Needs.{needs}
 use Rattle.signer.specs.Signing.{spent}
 use Rattle.signer.proofs.spent.Statement.{statement}
@@ -6,7 +6,7 @@ use Rattle.signer.proofs.spent.Tie as tie
 
 returns : tie.Need-returns
 unfolding spent
-returns c = rw (c .capacity .ensures)
+returns c = c .leaf-beyond .ensures
 
 pub spent-spec : {M : Type 1} → statement M
 spent-spec = tie.close (tie.spec (λ c κs. search needs) returns)

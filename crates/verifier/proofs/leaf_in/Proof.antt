@@ -6,7 +6,7 @@ use Rattle.verifier.proofs.leaf_in.Tie as tie
 
 returns : tie.Need-returns
 unfolding leafIn
-returns c = c .word-at .ensures
+returns c = c .front-word .ensures
 
 pub leaf-in-spec : {M : Type 1} → statement M
 leaf-in-spec = tie.close (tie.spec (λ c κs. search needs) returns)
