@@ -44,7 +44,7 @@ module _ (c : ℕ) where
       by false false false true i j k l = inr (ltb-false c 65 k, leb-true c 70 l)
       by false false false false i j k l = absurd (omega (arith, digit-above (leb-false c 70 l)))
 
-  pub not-line-end : digitOf c < 16 → c ≡ lineEnd → ⊥
+  not-line-end : digitOf c < 16 → c ≡ lineEnd → ⊥
   not-line-end h e = omega (arith, digit-below (omega arith))
 
 -- the character of a digit

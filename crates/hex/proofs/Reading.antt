@@ -140,7 +140,7 @@ module _ (front : List ℕ) (n : ℕ) where
         by (Byte b) e = rw (line-byte chars at e) (long-right h b (readLine (drop (at + 2) chars)))
 
 -- a line whose bytes have all been read
-pub whole-line : (front chars : List ℕ) (at : ℕ) → getD chars at 0 ≡ lineEnd → ahead front (readLine (drop at chars)) ≡ right front (drop (at + 1) chars)
+whole-line : (front chars : List ℕ) (at : ℕ) → getD chars at 0 ≡ lineEnd → ahead front (readLine (drop at chars)) ≡ right front (drop (at + 1) chars)
 whole-line front chars at e = rw (line-ends chars at e, append-nil)
 
 -- the loop that reads a line from index `at` on: where it begins, a turn, and where the line ends

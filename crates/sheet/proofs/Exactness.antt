@@ -5,17 +5,16 @@ use Prim.Native.Nat.{ℕ, zero, suc, _+_, _*_, _≤_, _<_}
 use native.Mathlib.Omega.{arith}
 use lib.Dec.{lit<}
 use lib.ListN.{length, take, drop, length-append, length-drop, take-append-drop}
-use lib.Seq.{take-at, drop-at, length-take-le, getD-drop}
+use lib.Seq.{take-at, drop-at, length-take-le}
 use Rattle.words.specs.Bytes.{toBytes}
 use Rattle.words.proofs.ByteLaws.{toBytes-lt}
-use Rattle.words.proofs.Lists.{Below, below-by-test}
-use Rattle.profile.specs.Checks.{InLimits}
+use Rattle.words.proofs.Lists.{Below, below-by-test, below-append, below-take, below-drop}
 use Rattle.profile.specs.declared.Profile.{Profile}
 use Rattle.hex.specs.Hex.{Line, wrong, right, lineOf}
 use Rattle.message.specs.Message.{signatureLength}
-use Rattle.sheet.specs.Frames.{Frame, sized, profileFrame, numbered, frames, textFrame}
+use Rattle.sheet.specs.Frames.{Within, Frame, sized, profileFrame, numbered, frames, textFrame}
 use Rattle.sheet.specs.Sheet.{linesOf, sheetOf, Reading, wrongLine, read, readFrame, inFront, followed, ended, readFrames, readSheet, Carried, Exact}
-use Rattle.sheet.proofs.FrameLaws.{below-append, frame-read, Framed, read-frame}
+use Rattle.sheet.proofs.FrameLaws.{frame-read, Framed, read-frame}
 
 -- what holds of every frame
 abbrev pub All : (Frame → Type 0) → List Frame → Type 0
@@ -23,7 +22,7 @@ All P [] = Unit {0}
 All P (f ∷ fs) = P f × All P fs
 
 -- each has one number of bytes behind its fixed ones
-abbrev pub Sized : List Frame → Type 0
+abbrev Sized : List Frame → Type 0
 Sized fs = All (λ f. f .low ≡ f .high) fs
 
 -- the fixed ones are bytes
@@ -35,19 +34,10 @@ abbrev pub total : List Frame → ℕ
 total [] = 0
 total (f ∷ fs) = f .high + total fs
 
-pub below-take : (m n : ℕ) (l : List ℕ) → 0 < m → Below m l → Below m (take n l)
-below-take m zero l h p i = h
-below-take m (suc n) [] h p i = h
-below-take m (suc n) (x ∷ l) h p zero = p 0
-below-take m (suc n) (x ∷ l) h p (suc i) = below-take m n l h (λ j. p (suc j)) i
-
 pair-below : (a b : ℕ) → a < 256 → b < 256 → Below 256 (a ∷ b ∷ [])
 pair-below a b h k zero = h
 pair-below a b h k (suc zero) = k
 pair-below a b h k (suc (suc i)) = lit< tt
-
-pub below-drop : (m n : ℕ) (l : List ℕ) → Below m l → Below m (drop n l)
-below-drop m n l p i = rw getD-drop (p (n + i))
 
 -- the lines of frames with their bytes, and the text's line, are read as they are
 lines-read : (fs : List Frame) (line : ℕ) (bytes text : List ℕ) → Sized fs → Bytes fs → length bytes ≡ total fs → Below 256 bytes
@@ -138,7 +128,7 @@ pub all-append : (P : Frame → Type 0) (fs gs : List Frame) → All P fs → Al
 all-append P [] gs a b = b
 all-append P (f ∷ fs) gs a b = (a .0, all-append P fs gs (a .1) b)
 
-pub all-numbered : (P : Frame → Type 0) (kind k n : ℕ) → ((i : ℕ) → i < k + n → P (sized (kind ∷ i ∷ []) 16)) → All P (numbered kind k n)
+all-numbered : (P : Frame → Type 0) (kind k n : ℕ) → ((i : ℕ) → i < k + n → P (sized (kind ∷ i ∷ []) 16)) → All P (numbered kind k n)
 unfolding numbered
 all-numbered P kind k zero each = tt
 all-numbered P kind k (suc n) each = (each k (omega arith), all-numbered P kind (suc k) n (λ i h. each i (omega arith)))
@@ -153,74 +143,54 @@ total-numbered kind k zero = refl
 total-numbered kind k (suc n) = omega (arith, total-numbered kind (suc k) n)
 
 module _ (p : Profile) where
+  -- the frames 04 and 05
+  all-values : (P : Frame → Type 0) → ((i : ℕ) → i < p .shape .chains → P (sized (4 ∷ i ∷ []) 16)) → ((i : ℕ) → i < p .height → P (sized (5 ∷ i ∷ []) 16))
+      → All P (numbered 4 0 (p .shape .chains) ++ numbered 5 0 (p .height))
+  all-values P value sibling =
+      all-append P (numbered 4 0 (p .shape .chains)) (numbered 5 0 (p .height)) (all-numbered P 4 0 (p .shape .chains) (λ i h. value i (omega arith)))
+      (all-numbered P 5 0 (p .height) (λ i h. sibling i (omega arith)))
+
   pub frames-sized : Sized (frames p)
   unfolding frames profileFrame
-  frames-sized = (
-    refl,
-    (
-      refl,
-      (
-        refl,
-        (
-          refl,
-          all-append (λ f. f .low ≡ f .high) (numbered 4 0 (p .shape .chains)) (numbered 5 0 (p .height))
-              (all-numbered (λ f. f .low ≡ f .high) 4 0 (p .shape .chains) (λ i h. refl))
-              (all-numbered (λ f. f .low ≡ f .high) 5 0 (p .height) (λ i h. refl)),
-        ),
-      ),
-    ),
-  )
+  frames-sized = (refl, (refl, (refl, (refl, all-values (λ f. f .low ≡ f .high) (λ i h. refl) (λ i h. refl)))))
 
   pub frames-total : total (frames p) ≡ signatureLength p
   unfolding frames profileFrame signatureLength
   frames-total =
       omega (arith, total-append (numbered 4 0 (p .shape .chains)) (numbered 5 0 (p .height)), total-numbered 4 0 (p .shape .chains), total-numbered 5 0 (p .height))
 
-  module _ (limits : InLimits (p .shape)) (height : p .height ≤ 10) where
-    frames-bytes : Bytes (frames p)
-    unfolding frames profileFrame
-    frames-bytes = (
-      below-by-test 256 (71 ∷ 79 ∷ 49 ∷ []) tt,
-      (
-        profile-bytes,
-        (
-          below-by-test 256 (2 ∷ []) tt,
-          (
-            below-by-test 256 (3 ∷ []) tt,
-            all-append (λ f. Below 256 (f .head)) (numbered 4 0 (p .shape .chains)) (numbered 5 0 (p .height))
-                (all-numbered (λ f. Below 256 (f .head)) 4 0 (p .shape .chains) (λ i h. pair-below 4 i (lit< tt) (omega (arith, limits .few-chains))))
-                (all-numbered (λ f. Below 256 (f .head)) 5 0 (p .height) (λ i h. pair-below 5 i (lit< tt) (omega arith))),
-          ),
-        ),
-      ),
-    )
-      where
-        profile-bytes : Below 256 (1 ∷ p .shape .chains ∷ p .shape .width ∷ p .height ∷ toBytes 2 (p .shape .sum))
-        profile-bytes zero = lit< tt
-        profile-bytes (suc zero) = omega (arith, limits .few-chains)
-        profile-bytes (suc (suc zero)) = omega (arith, limits .narrow)
-        profile-bytes (suc (suc (suc zero))) = omega arith
-        profile-bytes (suc (suc (suc (suc i)))) = toBytes-lt 2 (p .shape .sum) i
+  profile-bytes : Within p → Below 256 (1 ∷ p .shape .chains ∷ p .shape .width ∷ p .height ∷ toBytes 2 (p .shape .sum))
+  profile-bytes h zero = lit< tt
+  profile-bytes h (suc zero) = omega (arith, h .0 .few-chains)
+  profile-bytes h (suc (suc zero)) = omega (arith, h .0 .narrow)
+  profile-bytes h (suc (suc (suc zero))) = omega (arith, h .1)
+  profile-bytes h (suc (suc (suc (suc i)))) = toBytes-lt 2 (p .shape .sum) i
 
-    pub exact : Exact p
-    unfolding readSheet sheetOf
-    exact sheet signature text = (there, back)
-      where
-        there : readSheet p sheet ≡ read signature text → Carried p signature text × (sheet ≡ sheetOf p signature text)
-        there e =
-            let a = read-lines (frames p) 1 sheet signature text frames-sized e in (
-              record {
-                signature-bytes = a .below;
-                text-bytes = a .text-below;
-                whole = a .whole ∙ frames-total;
-                some-text = a .some-text;
-                short-text = a .short-text;
-              },
-              a .lines,
-            )
+  frames-bytes : Within p → Bytes (frames p)
+  unfolding frames profileFrame
+  frames-bytes h =
+      let values = all-values (λ f. Below 256 (f .head)) (λ i low. pair-below 4 i (lit< tt) (omega (arith, h .0 .few-chains))) (λ i low. pair-below 5 i (lit< tt) (omega (arith, h .1))) in
+      (below-by-test 256 (71 ∷ 79 ∷ 49 ∷ []) tt, (profile-bytes h, (below-by-test 256 (2 ∷ []) tt, (below-by-test 256 (3 ∷ []) tt, values))))
 
-        back : Carried p signature text × (sheet ≡ sheetOf p signature text) → readSheet p sheet ≡ read signature text
-        back c =
-            let d = c .0 in
-            let last = rw append-nil at (frame-read textFrame text [] (below-by-test 256 (6 ∷ []) tt) (d .text-bytes) (d .some-text) (d .short-text)) in
-            rw (c .1) (lines-read (frames p) 1 signature text frames-sized frames-bytes (d .whole ∙ sym frames-total) (d .signature-bytes) last)
+pub exact : Exact
+unfolding readSheet sheetOf
+exact p within sheet signature text = (there, back)
+  where
+    there : readSheet p sheet ≡ read signature text → Carried p signature text × (sheet ≡ sheetOf p signature text)
+    there e =
+        let a = read-lines (frames p) 1 sheet signature text (frames-sized p) e in (
+          record {
+            signature-bytes = a .below;
+            text-bytes = a .text-below;
+            whole = a .whole ∙ frames-total p;
+            some-text = a .some-text;
+            short-text = a .short-text;
+          },
+          a .lines,
+        )
+
+    back : Carried p signature text × (sheet ≡ sheetOf p signature text) → readSheet p sheet ≡ read signature text
+    back c =
+        let d = c .0 in
+        let last = rw append-nil at (frame-read textFrame text [] (below-by-test 256 (6 ∷ []) tt) (d .text-bytes) (d .some-text) (d .short-text)) in
+        rw (c .1) (lines-read (frames p) 1 signature text (frames-sized p) (frames-bytes p within) (d .whole ∙ sym (frames-total p)) (d .signature-bytes) last)

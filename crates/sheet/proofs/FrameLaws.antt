@@ -1,31 +1,24 @@
 -- A frame's line is read as what stands behind its fixed bytes, and no other line is read so.
-use mathlib.Core.Path.{_≡_, refl}
+use mathlib.Core.Path.{_≡_, refl, sym, ap, _∙_}
 use mathlib.Core.Bool.{Bool, true, false, cond}
 use mathlib.Core.List.{List, [], _∷_, _++_}
-use Prim.Native.Nat.{ℕ, zero, suc, _≤_}
+use Prim.Native.Nat.{ℕ, _+_, _*_, _≤_}
 use native.Mathlib.Omega.{arith}
 use borrow.Author.Tests.{eq-eqb, eqb-true}
 use lib.Dec.{eqb}
-use lib.ListN.{length}
-use Rattle.words.proofs.Lists.{Below}
+use lib.ListN.{length, drop, length-append, length-drop}
+use lib.Seq.{drop-at, drop-drop}
+use Rattle.words.proofs.Lists.{Below, below-append, below-behind}
 use Rattle.profile.specs.Checks.{outside}
 use Rattle.profile.proofs.Limits.{inside, not-outside}
 use Rattle.hex.specs.Hex.{Line, wrong, right, lineOf, readLine}
 use Rattle.hex.proofs.HexLaws.{read-line-of, line-of-read}
+use Rattle.hex.proofs.Writing.{length-lineOf}
 use Rattle.sheet.specs.Frames.{Frame}
 use Rattle.sheet.specs.Sheet.{without, within, readFrame}
 
-pub below-append : (m : ℕ) (a b : List ℕ) → Below m a → Below m b → Below m (a ++ b)
-below-append m [] b p q i = q i
-below-append m (x ∷ a) b p q zero = p 0
-below-append m (x ∷ a) b p q (suc i) = below-append m a b (λ j. p (suc j)) q i
-
-pub below-behind : (m : ℕ) (a b : List ℕ) → Below m (a ++ b) → Below m b
-below-behind m [] b p = p
-below-behind m (x ∷ a) b p = below-behind m a b (λ j. p (suc j))
-
 -- nothing is both wrong and right
-pub not-right : {A : Type 0} (bytes rest : List ℕ) → wrong ≡ right bytes rest → A
+not-right : {A : Type 0} (bytes rest : List ℕ) → wrong ≡ right bytes rest → A
 not-right bytes rest e = let z : _≡_ {A = ℕ} 0 1 = cc in absurd (omega arith)
 
 without-head : (head bytes rest : List ℕ) → without head (right (head ++ bytes) rest) ≡ right bytes rest
@@ -82,3 +75,18 @@ read-frame f sheet bytes rest e =
     let limits = inside-within (f .low) (f .high) (without (f .head) (readLine sheet)) bytes rest e in
     let line = line-of-read sheet (head-without (f .head) (readLine sheet) bytes rest (limits .0)) in
     record { line = line .line; below = below-behind 256 (f .head) bytes (line .below); some = limits .1; few = limits .2 }
+
+-- a line that begins at an index: what stands behind it
+module _ (sheet : List ℕ) (at : ℕ) (head bytes rest : List ℕ) (e : drop at sheet ≡ lineOf (head ++ bytes) ++ rest) where
+  line-long : length (lineOf (head ++ bytes)) ≡ 2 * (length head + length bytes) + 1
+  line-long = length-lineOf (head ++ bytes) ∙ ap (λ n. 2 * n + 1) (length-append head bytes)
+
+  pub line-behind : drop (at + 2 * (length head + length bytes) + 1) sheet ≡ rest
+  line-behind =
+      let same : at + 2 * (length head + length bytes) + 1 ≡ at + (2 * (length head + length bytes) + 1) = omega arith in
+      rw same
+      (sym (drop-drop (2 * (length head + length bytes) + 1) at sheet) ∙ ap (drop (2 * (length head + length bytes) + 1)) e
+      ∙ drop-at (lineOf (head ++ bytes)) rest (2 * (length head + length bytes) + 1) line-long)
+
+  pub line-within : at + 2 * (length head + length bytes) + 1 ≤ length sheet
+  line-within = omega (arith, line-long, length-drop at sheet, ap length e, length-append (lineOf (head ++ bytes)) rest)

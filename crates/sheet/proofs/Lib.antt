@@ -2,6 +2,7 @@
 pub mod Exactness
 pub mod Example
 pub mod FrameLaws
+pub mod FrameNumbers
 pub mod ParserLaws
 pub mod PayloadLaws
 pub mod PlaceLaws

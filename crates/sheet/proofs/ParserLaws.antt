@@ -1,5 +1,5 @@
 -- The frame parser: what a turn of each of its loops does, and the ways out.
-use mathlib.Core.Path.{_≡_, refl, sym, _∙_}
+use mathlib.Core.Path.{_≡_, refl, sym, ap, _∙_}
 use mathlib.Core.Bool.{Bool, true, false, cond}
 use mathlib.Core.List.{List, [], _∷_}
 use Prim.Native.Nat.{ℕ, _+_, _*_, _≤_, _<_}
@@ -8,17 +8,18 @@ use native.Mathlib.Numerals.{add-one}
 use native.Mathlib.Omega.{arith}
 use borrow.Author.Tests.{eq-eqb, ne-eqb, eqb-true, eqb-false, ltb-false, le-leb, lt-leb, leb-true, leb-false}
 use lib.Dec.{ltb, leb, eqb}
-use lib.ListN.{length, getD, take, drop, drop-of-length-le}
-use lib.Seq.{drop-cons, getD-take, length-take-le}
+use lib.ListN.{length, getD, drop, drop-of-length-le}
+use lib.Seq.{drop-cons}
 use Rattle.profile.specs.Checks.{outside}
 use Rattle.profile.proofs.Limits.{outside-low, outside-high, inside}
 use Rattle.hex.specs.Hex.{Line, wrong, right, behind, lineEnd, readLine}
 use Rattle.hex.specs.Digits.{byteAt}
 use Rattle.hex.specs.declared.Digits.the-variants as digits
 use Rattle.hex.proofs.Reading.{line-ends, line-byte, line-wrong}
-use Rattle.sheet.specs.Frames.{framed}
+use Rattle.sheet.specs.Frames.{Frame, framed}
 use Rattle.sheet.specs.Sheet.{without, within, readFrame}
-use Rattle.sheet.specs.Reader.{foundOf, stepOf}
+use Rattle.sheet.specs.Reader.{HasSize, foundOf, stepOf}
+use Rattle.sheet.specs.declared.frames.Size.{Size}
 use Rattle.sheet.specs.declared.frame.Found.{Found}
 use Rattle.sheet.specs.declared.frame.Found.the-variants as found
 use Rattle.sheet.specs.declared.frame.Step.the-variants as step
@@ -44,17 +45,17 @@ without-none h head rest = refl
 
 module _ (sheet : List ℕ) (at : ℕ) (h : ℕ) (head : List ℕ) (low high : ℕ) where
   -- the first fixed byte stands: the others are looked for behind it
-  pub head-same : byteAt sheet at ≡ digits.Byte h → readFrame (framed (h ∷ head) low high) (drop at sheet) ≡ readFrame (framed head low high) (drop (at + 2) sheet)
+  head-same : byteAt sheet at ≡ digits.Byte h → readFrame (framed (h ∷ head) low high) (drop at sheet) ≡ readFrame (framed head low high) (drop (at + 2) sheet)
   unfolding readFrame
   head-same e = rw (line-byte sheet at e, without-same h head (readLine (drop (at + 2) sheet)))
 
   -- another byte stands there
-  pub head-other : (b : ℕ) → byteAt sheet at ≡ digits.Byte b → (b ≡ h → ⊥) → readFrame (framed (h ∷ head) low high) (drop at sheet) ≡ wrong
+  head-other : (b : ℕ) → byteAt sheet at ≡ digits.Byte b → (b ≡ h → ⊥) → readFrame (framed (h ∷ head) low high) (drop at sheet) ≡ wrong
   unfolding readFrame within
   head-other b e other = rw (line-byte sheet at e, without-other h b head (readLine (drop (at + 2) sheet)) other)
 
   -- no byte stands there
-  pub head-none : byteAt sheet at ≡ digits.Wrong → readFrame (framed (h ∷ head) low high) (drop at sheet) ≡ wrong
+  head-none : byteAt sheet at ≡ digits.Wrong → readFrame (framed (h ∷ head) low high) (drop at sheet) ≡ wrong
   unfolding readFrame within
   head-none e = by (eqb (getD sheet at 0) lineEnd) refl
     where
@@ -63,39 +64,33 @@ module _ (sheet : List ℕ) (at : ℕ) (h : ℕ) (head : List ℕ) (low high : �
       by false q = rw (line-wrong sheet at e (eqb-false (getD sheet at 0) lineEnd q), without-wrong (h ∷ head))
 
 -- of the fixed bytes, i stand from `at` on, and the others are still to be looked for
-abbrev pub HeadLeft : (sheet : List ℕ) (at : ℕ) (head : List ℕ) (fixed i : ℕ) → Type 0
-HeadLeft sheet at head fixed i =
-    (low high : ℕ) → readFrame (framed (take fixed head) low high) (drop at sheet) ≡ readFrame (framed (drop i (take fixed head)) low high) (drop (at + 2 * i) sheet)
+abbrev pub HeadLeft : (sheet : List ℕ) (at : ℕ) (head : List ℕ) (i : ℕ) → Type 0
+HeadLeft sheet at head i = (low high : ℕ) → readFrame (framed head low high) (drop at sheet) ≡ readFrame (framed (drop i head) low high) (drop (at + 2 * i) sheet)
 
-pub head-start : (sheet : List ℕ) (at : ℕ) (head : List ℕ) (fixed : ℕ) → HeadLeft sheet at head fixed 0
-head-start sheet at head fixed low high = let same : at + 2 * 0 ≡ at = omega arith in rw same
+pub head-start : (sheet : List ℕ) (at : ℕ) (head : List ℕ) → HeadLeft sheet at head 0
+head-start sheet at head low high = let same : at + 2 * 0 ≡ at = omega arith in rw same
 
-module _ (sheet : List ℕ) (at : ℕ) (head : List ℕ) (fixed i : ℕ) (few : fixed ≤ length head) (left : HeadLeft sheet at head fixed i) where
-  module _ (more : i < fixed) where
-    head-at : drop i (take fixed head) ≡ getD head i 0 ∷ drop (i + 1) (take fixed head)
-    head-at = rw add-one (drop-cons (take fixed head) i 0 (omega (arith, length-take-le fixed head few)) ∙ rw (getD-take fixed head i 0 more))
+module _ (sheet : List ℕ) (at : ℕ) (head : List ℕ) (i : ℕ) (left : HeadLeft sheet at head i) where
+  module _ (more : i < length head) where
+    head-at : drop i head ≡ getD head i 0 ∷ drop (i + 1) head
+    head-at = rw add-one (drop-cons head i 0 more)
 
     -- a turn
-    pub head-next : byteAt sheet (at + 2 * i) ≡ digits.Byte (getD head i 0) → HeadLeft sheet at head fixed (i + 1)
+    pub head-next : byteAt sheet (at + 2 * i) ≡ digits.Byte (getD head i 0) → HeadLeft sheet at head (i + 1)
     head-next e low high =
         let next : at + 2 * i + 2 ≡ at + 2 * (i + 1) = omega arith in
-        left low high ∙ rw (head-at, ← next) (head-same sheet (at + 2 * i) (getD head i 0) (drop (i + 1) (take fixed head)) low high e)
+        left low high ∙ rw (head-at, ← next) (head-same sheet (at + 2 * i) (getD head i 0) (drop (i + 1) head) low high e)
 
     -- another byte, or none
-    pub head-differs : (b : ℕ) → byteAt sheet (at + 2 * i) ≡ digits.Byte b → (b ≡ getD head i 0 → ⊥)
-        → (low high : ℕ) → readFrame (framed (take fixed head) low high) (drop at sheet) ≡ wrong
-    head-differs b e other low high =
-        left low high ∙ rw head-at (head-other sheet (at + 2 * i) (getD head i 0) (drop (i + 1) (take fixed head)) low high b e other)
+    pub head-differs : (b : ℕ) → byteAt sheet (at + 2 * i) ≡ digits.Byte b → (b ≡ getD head i 0 → ⊥) → (low high : ℕ) → readFrame (framed head low high) (drop at sheet) ≡ wrong
+    head-differs b e other low high = left low high ∙ rw head-at (head-other sheet (at + 2 * i) (getD head i 0) (drop (i + 1) head) low high b e other)
 
-    pub head-ends : byteAt sheet (at + 2 * i) ≡ digits.Wrong → (low high : ℕ) → readFrame (framed (take fixed head) low high) (drop at sheet) ≡ wrong
-    head-ends e low high = left low high ∙ rw head-at (head-none sheet (at + 2 * i) (getD head i 0) (drop (i + 1) (take fixed head)) low high e)
+    pub head-ends : byteAt sheet (at + 2 * i) ≡ digits.Wrong → (low high : ℕ) → readFrame (framed head low high) (drop at sheet) ≡ wrong
+    head-ends e low high = left low high ∙ rw head-at (head-none sheet (at + 2 * i) (getD head i 0) (drop (i + 1) head) low high e)
 
   -- all stand
-  pub head-all : fixed ≤ i → i ≤ fixed → (low high : ℕ) → readFrame (framed (take fixed head) low high) (drop at sheet) ≡ readFrame (framed [] low high) (drop (at + 2 * fixed) sheet)
-  head-all h k low high =
-      let all : i ≡ fixed = omega arith in
-      let none : drop i (take fixed head) ≡ [] = drop-of-length-le (take fixed head) {i = i} (omega (arith, length-take-le fixed head few)) in
-      left low high ∙ rw (none, all)
+  pub head-all : (fixed : ℕ) → i ≡ fixed → length head ≤ i → (low high : ℕ) → readFrame (framed head low high) (drop at sheet) ≡ readFrame (framed [] low high) (drop (at + 2 * fixed) sheet)
+  head-all fixed all h low high = let none : drop i head ≡ [] = drop-of-length-le head {i = i} h in left low high ∙ rw (none, all)
 
 -- how many bytes a line has, of which i are passed
 unfoldable pub foundFrom : (i most : ℕ) → Line → Found
@@ -188,22 +183,26 @@ module _ (high : ℕ) where
             (λ some. rw (inside low high (length bytes) (omega arith) few, same), λ short. rw (outside-low low high (length bytes) (omega arith)))
         by false q e = not-found n e
 
-    -- a head stands in front, or it doesn't
-    module _ (head sheet behind : List ℕ) (r : Bool) (stands : (low high : ℕ) → readFrame (framed head low high) sheet ≡ cond r (readFrame (framed [] low high) behind) wrong) where
-      pub parsed-other : r ≡ false → stepOf at fixed (readFrame (framed head low high) sheet) ≡ step.Wrong
-      unfolding stepOf
-      parsed-other e = rw (stands low high, e)
+-- a frame's head stands in front of `behind`, or it doesn't: what the parser answers, going by the frame's size
+module _ (f : Frame) (size : Size) (has : HasSize f size) (at : ℕ) (sheet behind : List ℕ) (r : Bool)
+    (stands : (low high : ℕ) → readFrame (framed (f .head) low high) sheet ≡ cond r (readFrame (framed [] low high) behind) wrong) where
+  sized-step : stepOf at (length (f .head)) (readFrame f sheet) ≡ stepOf at (size .fixed) (cond r (readFrame (framed [] (size .low) (size .high)) behind) wrong)
+  sized-step = rw (has .fixed, has .low, has .high) (ap (stepOf at (length (f .head))) (stands (f .low) (f .high)))
 
-      parsed : r ≡ true → readFrame (framed head low high) sheet ≡ within low high (readLine behind)
-      unfolding readFrame without
-      parsed e = stands low high ∙ rw e
+  pub parsed-other : r ≡ false → step.Wrong ≡ stepOf at (length (f .head)) (readFrame f sheet)
+  unfolding stepOf
+  parsed-other e = sym (sized-step ∙ rw e)
 
-      pub parsed-none : r ≡ true → foundOf high (readLine behind) ≡ found.Wrong → stepOf at fixed (readFrame (framed head low high) sheet) ≡ step.Wrong
-      parsed-none e f = rw (parsed e) (step-none (readLine behind) f)
+  parsed : r ≡ true → stepOf at (length (f .head)) (readFrame f sheet) ≡ stepOf at (size .fixed) (within (size .low) (size .high) (readLine behind))
+  unfolding readFrame without
+  parsed e = sized-step ∙ rw e
 
-      pub parsed-short : (n : ℕ) → r ≡ true → foundOf high (readLine behind) ≡ found.Bytes n → n < low → stepOf at fixed (readFrame (framed head low high) sheet) ≡ step.Wrong
-      parsed-short n e f short = rw (parsed e) (step-found n (readLine behind) f .1 short)
+  pub parsed-none : r ≡ true → foundOf (size .high) (readLine behind) ≡ found.Wrong → step.Wrong ≡ stepOf at (length (f .head)) (readFrame f sheet)
+  parsed-none e none = sym (parsed e ∙ step-none (size .high) (size .low) at (size .fixed) (readLine behind) none)
 
-      pub parsed-right : (n : ℕ) → r ≡ true → foundOf high (readLine behind) ≡ found.Bytes n → low ≤ n
-          → stepOf at fixed (readFrame (framed head low high) sheet) ≡ step.Next (at + 2 * (fixed + n) + 1)
-      parsed-right n e f some = rw (parsed e) (step-found n (readLine behind) f .0 some)
+  pub parsed-found : (n : ℕ) → r ≡ true → foundOf (size .high) (readLine behind) ≡ found.Bytes n
+      → (size .low ≤ n → step.Next (at + 2 * (size .fixed + n) + 1) ≡ stepOf at (length (f .head)) (readFrame f sheet))
+      × (n < size .low → step.Wrong ≡ stepOf at (length (f .head)) (readFrame f sheet))
+  parsed-found n e some =
+      let steps = step-found (size .high) (size .low) at (size .fixed) n (readLine behind) some in
+      (λ h. sym (parsed e ∙ steps .0 h), λ h. sym (parsed e ∙ steps .1 h))

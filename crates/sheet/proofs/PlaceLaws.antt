@@ -1,143 +1,162 @@
--- Places of the reader: what a frame does to one, and frames taken one after another.
+-- Places of the reader: what a frame does to one, frames taken one after another, and the end of the sheet.
 use mathlib.Core.Path.{_≡_, refl, sym, ap, _∙_}
-use mathlib.Core.Bool.{true, false}
-use mathlib.Core.List.{List, [], _∷_, _++_, append-assoc, append-nil}
-use Prim.Native.Nat.{ℕ, zero, suc, _+_, _-_, _*_, _/_, _%_, _^_, _≤_, _<_}
+use mathlib.Core.Bool.{Bool, true, false, cond, true≢false}
+use mathlib.Core.List.{List, [], _∷_, _++_}
+use Prim.Native.Nat.{ℕ, zero, suc, _+_, _-_, _*_, _/_, _≤_, _<_}
 use native.Mathlib.Numerals.{add-one}
 use native.Mathlib.Omega.{arith}
 use lib.Dec.{lit<, lit≤}
-use lib.ListN.{length, getD, take, drop, length-append, length-drop, drop-of-length-le, take-append-drop}
-use lib.Seq.{drop-at, drop-drop, drop-cons, take-suc, take-all, getD-take}
-use Rattle.words.specs.Bytes.{toBytes}
+use lib.ListN.{length, getD, take, drop, drop-of-length-le, take-append-drop}
+use lib.Seq.{drop-cons, take-suc, take-all, getD-take}
 use Rattle.words.proofs.Lists.{below-by-test}
 use Rattle.hex.specs.Hex.{hexDigit, hexOf, lineEnd, Line, wrong, right, lineOf}
-use Rattle.hex.proofs.Writing.{length-lineOf}
 use Rattle.profile.specs.declared.Profile.{Profile}
-use Rattle.sheet.specs.Frames.{Frame, sized, firstCharacters, firstFrame, profileFrame, numbered, frames, textFrame}
+use Rattle.sheet.specs.Frames.{Frame, firstCharacters, firstFrame, frames, textFrame, frameAt}
 use Rattle.sheet.specs.Sheet.{Reading, wrongLine, read, readFrame, inFront, followed, ended, readFrames, readSheet}
-use Rattle.sheet.specs.Reader.{stepOf, start, readAt, judgement, Stands, Passed, framesOf}
+use Rattle.sheet.specs.Operation.{lineIn, textIn}
+use Rattle.sheet.specs.Reader.{stepOf, start, Stands, behindLine, taken, readAt, judgement}
 use Rattle.sheet.specs.declared.frame.Step.the-variants as step
 use Rattle.sheet.specs.declared.place.Place.{Place}
-use Rattle.sheet.specs.declared.place.Judged.the-variants as judged
-use Rattle.sheet.proofs.FrameLaws.{frame-read, read-frame}
-
--- nothing is taken
-pub passed-none : (sheet : List ℕ) (p : Place) → Stands sheet p → Passed sheet [] p p
-passed-none sheet p h = record { same = λ more. refl; stands = h }
-
--- frames behind others
-pub passed-then : (sheet : List ℕ) (fs gs : List Frame) (a b c : Place) → Passed sheet fs a b → Passed sheet gs b c → Passed sheet (fs ++ gs) a c
-passed-then sheet fs gs a b c first second =
-    record { same = λ more. rw (append-assoc fs gs more) (first .same (gs ++ more) ∙ second .same more); stands = second .stands }
-
--- behind a wrong line
-pub passed-wrong : (sheet : List ℕ) (fs : List Frame) (here : Place) → Stands sheet here → here .right ≡ false → Passed sheet fs here here
-unfolding readAt
-passed-wrong sheet fs here h e = record { same = λ more. rw e; stands = h }
+use Rattle.sheet.proofs.FrameLaws.{frame-read, read-frame, line-behind, line-within}
 
 judgement-front : (bytes : List ℕ) (r : Reading) → judgement (inFront bytes r) ≡ judgement r
-unfolding judgement inFront
+unfolding judgement lineIn textIn inFront
 judgement-front bytes (wrongLine n) = refl
 judgement-front bytes (read signature text) = refl
 
--- what the parser's answer tells
-module _ (at fixed : ℕ) where
-  step-wrong : (line : Line) → stepOf at fixed line ≡ step.Wrong → line ≡ wrong
-  unfolding stepOf
+-- what the parser's answer makes of a place
+module _ (here : Place) (fixed : ℕ) where
+  step-wrong : (line : Line) → stepOf (here .at) fixed line ≡ step.Wrong → behindLine here fixed line ≡ record { at = here .at; line = here .line; right = false }
+  unfolding stepOf behindLine
   step-wrong wrong e = refl
   step-wrong (right bytes rest) e = let z : _≡_ {A = ℕ} 0 1 = cc in absurd (omega arith)
 
-  -- the bytes behind the fixed ones, and what stands behind the line
-  pub record Behind (sheet : List ℕ) (line : Line) (next : ℕ) : Type 0 where
-    pub bytes : List ℕ
-    pub read : line ≡ right bytes (drop next sheet)
-    pub index : next ≡ at + 2 * (fixed + length bytes) + 1
-    pub low : at < next
-    pub high : next ≤ length sheet
+  step-next : (line : Line) (next : ℕ) → stepOf (here .at) fixed line ≡ step.Next next → behindLine here fixed line ≡ record { at = next; line = here .line + 1; right = true }
+  unfolding stepOf behindLine
+  step-next wrong next e = let z : _≡_ {A = ℕ} 0 1 = cc in absurd (omega arith)
+  step-next (right bytes rest) next e = let index : here .at + 2 * (fixed + length bytes) + 1 ≡ next = cc in rw index
 
-  step-next : (sheet : List ℕ) (f : Frame) (next : ℕ) (line : Line) → length (f .head) ≡ fixed → readFrame f (drop at sheet) ≡ line → stepOf at fixed line ≡ step.Next next → Behind sheet line next
-  unfolding stepOf
-  step-next sheet f next wrong long q e = let z : _≡_ {A = ℕ} 0 1 = cc in absurd (omega arith)
-  step-next sheet f next (right bytes rest) long q e =
-      let index : at + 2 * (fixed + length bytes) + 1 ≡ next = cc in
-      let framed = read-frame f (drop at sheet) bytes rest q in
-      let line-long : length (lineOf (f .head ++ bytes)) ≡ 2 * (fixed + length bytes) + 1 =
-      length-lineOf (f .head ++ bytes) ∙ ap (λ n. 2 * n + 1) (length-append (f .head) bytes ∙ ap (λ n. n + length bytes) long) in
-      let whole = length-drop at sheet in
-      let parts = ap length (framed .line) ∙ length-append (lineOf (f .head ++ bytes)) rest in
-      let behind : drop (2 * (fixed + length bytes) + 1) (drop at sheet) ≡ rest =
-      ap (drop (2 * (fixed + length bytes) + 1)) (framed .line) ∙ drop-at (lineOf (f .head ++ bytes)) rest (2 * (fixed + length bytes) + 1) line-long in
-      let same : at + (2 * (fixed + length bytes) + 1) ≡ next = omega arith in
-      let rest-is : rest ≡ drop next sheet = sym behind ∙ drop-drop (2 * (fixed + length bytes) + 1) at sheet ∙ ap (λ n. drop n sheet) same in
-      record { bytes = bytes; read = rw (← rest-is); index = sym index; low = omega arith; high = omega (arith, whole, parts, line-long) }
+module _ (sheet : List ℕ) (f : Frame) (here : Place) where
+  abbrev line-here : Line
+  line-here = readFrame f (drop (here .at) sheet)
 
--- a frame's line at a place
-module _ (sheet : List ℕ) (f : Frame) (fixed : ℕ) (here : Place) (stands : Stands sheet here) (e : here .right ≡ true) where
-  pub frame-wrong : step.Wrong ≡ stepOf (here .at) fixed (readFrame f (drop (here .at) sheet)) → Passed sheet (f ∷ []) here (record { at = here .at; line = here .line; right = false })
-  unfolding readAt readFrames followed
-  frame-wrong q =
-      let w = step-wrong (here .at) fixed (readFrame f (drop (here .at) sheet)) (sym q) in
-      record { same = λ more. rw (e, w); stands = stands }
+  taken-line : here .right ≡ true → taken sheet f here ≡ behindLine here (length (f .head)) line-here
+  unfolding taken
+  taken-line e = ap (λ t. cond t (behindLine here (length (f .head)) line-here) here) e
 
-  pub frame-next : (next : ℕ) → length (f .head) ≡ fixed → step.Next next ≡ stepOf (here .at) fixed (readFrame f (drop (here .at) sheet))
-      → Passed sheet (f ∷ []) here (record { at = next; line = here .line + 1; right = true })
-  unfolding readAt readFrames followed
-  frame-next next long q =
-      let b = step-next (here .at) fixed sheet f next (readFrame f (drop (here .at) sheet)) long refl (sym q) in
-      record {
-        same = λ more. rw (e, b .read, add-one) (judgement-front (b .bytes) (readFrames more (suc (here .line)) (drop next sheet)));
-        stands = (b .high, omega (arith, b .low, stands .1));
-      }
+  pub taken-wrong : here .right ≡ true → step.Wrong ≡ stepOf (here .at) (length (f .head)) line-here → record { at = here .at; line = here .line; right = false } ≡ taken sheet f here
+  taken-wrong e q = sym (taken-line e ∙ step-wrong here (length (f .head)) line-here (sym q))
 
--- one numbered frame more
-pub numbered-more : (kind k n : ℕ) → numbered kind k (n + 1) ≡ numbered kind k n ++ (sized (kind ∷ (k + n) ∷ []) 16 ∷ [])
-unfolding numbered
-numbered-more kind k zero = let same : k + 0 ≡ k = omega arith in rw same
-numbered-more kind k (suc n) =
-    let more : suc n + 1 ≡ suc (n + 1) = omega arith in
-    let same : suc k + n ≡ k + suc n = omega arith in
-    rw (more, ← same) (ap (λ fs. sized (kind ∷ k ∷ []) 16 ∷ fs) (numbered-more kind (suc k) n))
+  pub taken-next : (next : ℕ) → here .right ≡ true → step.Next next ≡ stepOf (here .at) (length (f .head)) line-here
+      → record { at = next; line = here .line + 1; right = true } ≡ taken sheet f here
+  taken-next next e q = sym (taken-line e ∙ step-next here (length (f .head)) line-here next (sym q))
 
-pub passed-more : (sheet : List ℕ) (kind k : ℕ) (a b c : Place) → Passed sheet (numbered kind 0 k) a b → Passed sheet (sized (kind ∷ k ∷ []) 16 ∷ []) b c
-    → Passed sheet (numbered kind 0 (k + 1)) a c
-passed-more sheet kind k a b c first second =
-    let same : 0 + k ≡ k = omega arith in
-    rw (numbered-more kind 0 k, same) (passed-then sheet (numbered kind 0 k) (sized (kind ∷ k ∷ []) 16 ∷ []) a b c first second)
+  pub taken-kept : here .right ≡ false → here ≡ taken sheet f here
+  unfolding taken
+  taken-kept e = sym (ap (λ t. cond t (behindLine here (length (f .head)) line-here) here) e)
 
-pub of-number : (sheet : List ℕ) (kind : ℕ) {k n : ℕ} {a b : Place} → k ≡ n → Passed sheet (numbered kind 0 k) a b → Passed sheet (numbered kind 0 n) a b
-of-number sheet kind e passed = rw e at passed
+  -- the sheet is judged the same from the next place on, whatever is to come
+  taken-judged : (fs : List Frame) → judgement (readAt sheet here (f ∷ fs)) ≡ judgement (readAt sheet (taken sheet f here) fs)
+  unfolding readAt taken behindLine readFrames followed
+  taken-judged fs = by (here .right) line-here refl refl
+    where
+      by : (t : Bool) (l : Line) → here .right ≡ t → line-here ≡ l → judgement (readAt sheet here (f ∷ fs)) ≡ judgement (readAt sheet (taken sheet f here) fs)
+      by false l e q = rw e
+      by true wrong e q = rw (e, q)
+      by true (right bytes rest) e q =
+          let behind = line-behind sheet (here .at) (f .head) bytes rest (read-frame f (drop (here .at) sheet) bytes rest q .line) in
+          rw (e, q, behind, add-one) (judgement-front bytes (readFrames fs (suc (here .line)) rest))
 
-pub of-kind : (p : Profile) (sheet : List ℕ) {k n : ℕ} {a b : Place} → n ≡ k → Passed sheet (framesOf p k) a b → Passed sheet (framesOf p n) a b
-of-kind p sheet e passed = rw e passed
+  taken-stands : Stands sheet here → Stands sheet (taken sheet f here)
+  unfolding taken behindLine
+  taken-stands h = by (here .right) line-here refl refl
+    where
+      by : (t : Bool) (l : Line) → here .right ≡ t → line-here ≡ l → Stands sheet (taken sheet f here)
+      by false l e q = rw e h
+      by true wrong e q = rw (e, q) h
+      by true (right bytes rest) e q =
+          let within = line-within sheet (here .at) (f .head) bytes rest (read-frame f (drop (here .at) sheet) bytes rest q .line) in
+          rw (e, q) (within, omega arith)
 
--- the text's line at a place, and the end of the sheet
-module _ (sheet : List ℕ) (here : Place) (e : here .right ≡ true) where
-  pub finish-wrong : step.Wrong ≡ stepOf (here .at) 1 (readFrame textFrame (drop (here .at) sheet)) → judged.Wrong (here .line) ≡ judgement (readAt sheet here [])
-  unfolding readAt readFrames ended judgement
-  finish-wrong q = rw (e, step-wrong (here .at) 1 (readFrame textFrame (drop (here .at) sheet)) (sym q))
+-- the reader's way over the frames of a profile
+module _ (p : Profile) (sheet : List ℕ) where
+  -- before frame k
+  pub record Reached (k : ℕ) (here : Place) : Type 0 where
+    pub same : judgement (readSheet p sheet) ≡ judgement (readAt sheet here (drop k (frames p)))
+    pub stands : Stands sheet here
 
-  module _ (next : ℕ) (q : step.Next next ≡ stepOf (here .at) 1 (readFrame textFrame (drop (here .at) sheet))) where
-    text-behind : Behind (here .at) 1 sheet (readFrame textFrame (drop (here .at) sheet)) next
-    text-behind = step-next (here .at) 1 sheet textFrame next (readFrame textFrame (drop (here .at) sheet)) refl refl (sym q)
+  pub reached-first : {here : Place} → here ≡ taken sheet firstFrame start → Reached 1 here
+  unfolding readSheet readAt frames
+  reached-first e =
+      rw e (record { same = taken-judged sheet firstFrame start (drop 1 (frames p)); stands = taken-stands sheet firstFrame start (omega arith, lit≤ tt) })
 
-    pub finish-room : here .at + 3 ≤ next
-    finish-room = omega (arith, text-behind .index)
+  pub reached-next : (k : ℕ) (here : Place) {next : Place} → k < length (frames p) → Reached k here → next ≡ taken sheet (frameAt p k) here → Reached (k + 1) next
+  reached-next k here h r e =
+      let cut : drop k (frames p) ≡ frameAt p k ∷ drop (k + 1) (frames p) = rw add-one (drop-cons (frames p) k textFrame h) in
+      rw e
+      (record {
+        same = r .same ∙ ap (λ fs. judgement (readAt sheet here fs)) cut ∙ taken-judged sheet (frameAt p k) here (drop (k + 1) (frames p));
+        stands = taken-stands sheet (frameAt p k) here (r .stands);
+      })
 
-    pub finish-more : next < length sheet → judged.Wrong (here .line + 1) ≡ judgement (readAt sheet here [])
-    unfolding readAt readFrames ended judgement
-    finish-more h = rw (e, text-behind .read, add-one, drop-cons sheet next 0 h)
+  pub reached-text : (k : ℕ) (here : Place) → length (frames p) ≤ k → Reached k here → judgement (readSheet p sheet) ≡ judgement (readAt sheet here [])
+  reached-text k here h r = r .same ∙ ap (λ fs. judgement (readAt sheet here fs)) (drop-of-length-le (frames p) {i = k} h)
 
-    pub finish-right : length sheet ≤ next → judged.Right ((next - here .at - 3) / 2) ≡ judgement (readAt sheet here [])
-    unfolding readAt readFrames ended judgement
-    finish-right h =
-        let none : drop next sheet ≡ [] = drop-of-length-le sheet {i = next} h in
-        let count : (next - here .at - 3) / 2 ≡ length (text-behind .bytes) = omega (arith, text-behind .index) in
-        rw (e, text-behind .read, none, count)
+-- the text's line: a line is wrong, or the text is read
+data Ending (sheet : List ℕ) (here last : Place) : Type 0 where
+  broken : last .right ≡ false → judgement (readAt sheet here []) ≡ record { line = last .line; length = 0 } → Ending sheet here last
+  whole : (text : List ℕ) → last .right ≡ true → last .line ≡ suc (here .line) → last .at ≡ here .at + 2 * (1 + length text) + 1
+      → readAt sheet here [] ≡ ended (here .line) (right text (drop (last .at) sheet)) → Ending sheet here last
 
--- behind a wrong line the sheet is judged by it
-pub finish-kept : (sheet : List ℕ) (here : Place) → here .right ≡ false → judged.Wrong (here .line) ≡ judgement (readAt sheet here [])
-unfolding readAt judgement
-finish-kept sheet here e = rw e
+-- the text's line, and the end of the sheet
+module _ (sheet : List ℕ) (here last : Place) (e : last ≡ taken sheet textFrame here) where
+  ending : Ending sheet here last
+  unfolding readAt behindLine readFrames ended judgement lineIn textIn
+  ending = by (here .right) (readFrame textFrame (drop (here .at) sheet)) refl refl
+    where
+      by : (t : Bool) (l : Line) → here .right ≡ t → readFrame textFrame (drop (here .at) sheet) ≡ l → Ending sheet here last
+      by false l t q = let kept : last ≡ here = e ∙ sym (taken-kept sheet textFrame here t) in broken (ap (λ r. r .right) kept ∙ t) (rw (kept, t))
+      by true l t q = line l q (e ∙ taken-line sheet textFrame here t ∙ ap (behindLine here 1) q)
+        where
+          line : (l : Line) → readFrame textFrame (drop (here .at) sheet) ≡ l → last ≡ behindLine here 1 l → Ending sheet here last
+          line wrong q s = broken (rw s) (rw (s, t, q))
+          line (right text rest) q s =
+              let behind = line-behind sheet (here .at) (6 ∷ []) text rest (read-frame textFrame (drop (here .at) sheet) text rest q .line) in
+              whole text (rw s) (rw (s, add-one)) (rw s) (rw (s, t, q, behind))
+
+  pub end-wrong : last .right ≡ false → record { line = last .line; length = 0 } ≡ judgement (readAt sheet here [])
+  end-wrong h = by ending
+    where
+      by : Ending sheet here last → record { line = last .line; length = 0 } ≡ judgement (readAt sheet here [])
+      by (broken t j) = sym j
+      by (whole text t l a r) = absurd (true≢false (sym t ∙ h))
+
+  module _ (here-right : last .right ≡ true) where
+    pub end-room : here .at + 3 ≤ last .at
+    end-room = by ending
+      where
+        by : Ending sheet here last → here .at + 3 ≤ last .at
+        by (broken t j) = absurd (true≢false (sym here-right ∙ t))
+        by (whole text t l a r) = omega arith
+
+    pub end-more : last .at < length sheet → record { line = last .line; length = 0 } ≡ judgement (readAt sheet here [])
+    unfolding ended judgement lineIn textIn
+    end-more h = by ending
+      where
+        by : Ending sheet here last → record { line = last .line; length = 0 } ≡ judgement (readAt sheet here [])
+        by (broken t j) = sym j
+        by (whole text t l a r) = rw (r, drop-cons sheet (last .at) 0 h, l)
+
+    pub end-right : length sheet ≤ last .at → record { line = 0; length = (last .at - here .at - 1) / 2 - 1 } ≡ judgement (readAt sheet here [])
+    unfolding ended judgement lineIn textIn
+    end-right h = by ending
+      where
+        by : Ending sheet here last → record { line = 0; length = (last .at - here .at - 1) / 2 - 1 } ≡ judgement (readAt sheet here [])
+        by (broken t j) = absurd (true≢false (sym here-right ∙ t))
+        by (whole text t l a r) =
+            let none : drop (last .at) sheet ≡ [] = drop-of-length-le sheet {i = last .at} h in
+            let count : (last .at - here .at - 1) / 2 - 1 ≡ length text = omega arith in
+            rw (r, none, count)
 
 -- a line that ends at an index ends within the sheet
 getD-inside : (sheet : List ℕ) (at : ℕ) → getD sheet at 0 ≡ lineEnd → at < length sheet
@@ -155,9 +174,9 @@ module _ (sheet : List ℕ) where
       ap (λ l. firstCharacters ++ l) (sym rest) ∙ ap (λ l. l ++ drop 6 sheet) (sym e) ∙ take-append-drop 6 sheet in
       rw whole at (frame-read firstFrame [] (drop 7 sheet) (below-by-test 256 (71 ∷ 79 ∷ 49 ∷ []) tt) (λ i. lit< tt) (lit≤ tt) (lit≤ tt))
 
-  pub first-right : take 6 sheet ≡ firstCharacters → getD sheet 6 0 ≡ lineEnd → Passed sheet (firstFrame ∷ []) start (record { at = 7; line = 2; right = true })
-  unfolding stepOf
-  first-right e end = frame-next sheet firstFrame 3 start (omega arith, lit≤ tt) refl 7 refl (rw (begun e end))
+  pub first-right : take 6 sheet ≡ firstCharacters → getD sheet 6 0 ≡ lineEnd → record { at = 7; line = 2; right = true } ≡ taken sheet firstFrame start
+  unfolding taken behindLine
+  first-right e end = rw (begun e end)
 
   first-apart : (line : Line) → readFrame firstFrame sheet ≡ line → (take 6 sheet ≡ firstCharacters → getD sheet 6 0 ≡ lineEnd → ⊥) → line ≡ wrong
   unfolding lineOf hexOf hexDigit
@@ -167,32 +186,9 @@ module _ (sheet : List ℕ) where
       absurd (other (ap (take 6) line) (ap (λ l. getD l 6 0) line))
   first-apart (right (b ∷ bytes) rest) q other = absurd (omega (arith, read-frame firstFrame sheet (b ∷ bytes) rest q .few))
 
-  pub first-wrong : (take 6 sheet ≡ firstCharacters → getD sheet 6 0 ≡ lineEnd → ⊥) → Passed sheet (firstFrame ∷ []) start (record { at = 0; line = 1; right = false })
-  unfolding stepOf
-  first-wrong other = frame-wrong sheet firstFrame 3 start (omega arith, lit≤ tt) refl (rw (first-apart (readFrame firstFrame sheet) refl other))
-
--- all frames, by their kinds
-pub judged-all : (p : Profile) (sheet : List ℕ) (here : Place)
-    → Passed sheet ((firstFrame ∷ []) ++ framesOf p 1 ++ framesOf p 2 ++ framesOf p 3 ++ framesOf p 4 ++ framesOf p 5) start here
-    → judgement (readAt sheet here []) ≡ judgement (readSheet p sheet)
-unfolding readSheet readAt frames
-judged-all p sheet here passed = sym (passed .same []) ∙ ap (λ fs. judgement (readFrames fs 1 sheet)) (append-nil (frames p))
-
-pub last-kind : (k : ℕ) → 1 ≤ k → k ≤ 5 → (k ≡ 1 → ⊥) → (k ≡ 2 → ⊥) → (k ≡ 3 → ⊥) → (k ≡ 4 → ⊥) → k ≡ 5
-last-kind k low high a b c d = omega arith
-
--- the profile's frame, by its fixed bytes
-pub of-head : (p : Profile) (sheet : List ℕ) {head : List ℕ} {a b : Place} → head ≡ 1 ∷ p .shape .chains ∷ p .shape .width ∷ p .height ∷ toBytes 2 (p .shape .sum)
-    → Passed sheet (sized (take 6 head) 0 ∷ []) a b → Passed sheet (framesOf p 1) a b
-unfolding profileFrame toBytes
-of-head p sheet e passed = rw e at passed
-
-pub two-bytes : (sum : ℕ) (a b c d : ℕ) → sum ≤ 600 → _≡_ {A = List ℕ} (a ∷ b ∷ c ∷ d ∷ sum / 256 ∷ sum % 256 ∷ []) (a ∷ b ∷ c ∷ d ∷ toBytes 2 sum)
-unfolding toBytes
-two-bytes sum a b c d h =
-    let high : sum / 256 ^ 1 % 256 ≡ sum / 256 = omega arith in
-    let low : sum / 256 ^ 0 % 256 ≡ sum % 256 = omega arith in
-    rw (high, low)
+  pub first-wrong : (take 6 sheet ≡ firstCharacters → getD sheet 6 0 ≡ lineEnd → ⊥) → record { at = 0; line = 1; right = false } ≡ taken sheet firstFrame start
+  unfolding taken behindLine
+  first-wrong other = rw (first-apart (readFrame firstFrame sheet) refl other)
 
 -- the first characters, compared one by one
 module _ (sheet characters : List ℕ) where

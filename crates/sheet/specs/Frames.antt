@@ -1,8 +1,14 @@
 -- Document 01, Sheet: "one frame a line", and the frames in their order.
 use mathlib.Core.List.{List, [], _∷_, _++_}
-use Prim.Native.Nat.{ℕ, zero, suc}
+use Prim.Native.Nat.{ℕ, zero, suc, _≤_}
+use lib.ListN.{getD}
 use Rattle.words.specs.Bytes.{toBytes}
+use Rattle.profile.specs.Checks.{InLimits}
 use Rattle.profile.specs.declared.Profile.{Profile}
+
+-- a profile within its limits
+abbrev pub Within : Profile → Type 0
+Within p = InLimits (p .shape) × (p .height ≤ 10)
 
 -- a frame: its fixed bytes, "kind byte first", and behind them low to high bytes
 pub record Frame : Type 0 where
@@ -48,3 +54,7 @@ frames p = firstFrame ∷ profileFrame p ∷ leafFrame ∷ randomizerFrame ∷ (
 -- "06 order text", "text outside 1 to 200 bytes" being wrong
 abbrev pub textFrame : Frame
 textFrame = framed (6 ∷ []) 1 200
+
+-- frame k of a sheet, from 0: the first line, then the frames in their order, and behind them the text's
+abbrev pub frameAt : Profile → (k : ℕ) → Frame
+frameAt p k = getD (frames p) k textFrame

@@ -29,17 +29,19 @@ unfoldable pub isWrong : Reading → Bool
 isWrong (wrongLine n) = true
 isWrong (read signature text) = false
 
+-- "17 …; 6 signature slice; 6 text slice": the causes behind those of the profile
+abbrev pub sheetCauses : Profile → (sheet signature message : List ℕ) → List (Bool × ℕ)
+sheetCauses p sheet signature message =
+    (isWrong (readSheet p sheet), 17) ∷ (ltb (length signature) (signatureLength p), 6)
+    ∷ (ltb (length message) (length (textIn (readSheet p sheet))), 6) ∷ []
+
 -- "profile checks; 17 …; 6 signature slice; 6 text slice"
 unfoldable pub sheetCode : Profile → (sheet signature message : List ℕ) → ℕ
-sheetCode p sheet signature message =
-    firstCause
-    (profileCauses p
-    ++ ((isWrong (readSheet p sheet), 17) ∷ (ltb (length signature) (signatureLength p), 6)
-    ∷ (ltb (length message) (length (textIn (readSheet p sheet))), 6) ∷ []))
+sheetCode p sheet signature message = firstCause (profileCauses p ++ sheetCauses p sheet signature message)
 
 -- what Read sheet answers and leaves: "17 with the number, from 1, of the first line"; "Success writes the signature bytes and the text, and gives the text's length"
 pub record ReadsSheet (p : Profile) (sheet signature message signature′ message′ : List ℕ) (r : SheetRead) : Type 0 where
-  pub number : outcomeCode (r .outcome) ≡ sheetCode p sheet signature message
+  pub code : outcomeCode (r .outcome) ≡ sheetCode p sheet signature message
   pub line : r .line ≡ cond (eqb (sheetCode p sheet signature message) 17) (lineIn (readSheet p sheet)) 0
   pub text-length : r .length ≡ cond (eqb (sheetCode p sheet signature message) 0) (length (textIn (readSheet p sheet))) 0
   pub signature-written : signature′

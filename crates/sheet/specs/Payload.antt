@@ -1,10 +1,11 @@
--- Bytes that stand as hex in a sheet, and where those of a signature stand in a right one.
+-- Bytes that stand as hex in a sheet, and those behind the fixed ones of frames, line after line.
 use mathlib.Core.List.{List, [], _∷_, _++_}
 use Prim.Native.Nat.{ℕ, zero, suc, _+_, _*_}
-use Rattle.words.specs.Joined.{joinTo}
+use lib.ListN.{length}
 use Rattle.hex.specs.Digits.{byteAt}
 use Rattle.hex.specs.declared.Digits.{Digits}
 use Rattle.hex.specs.declared.Digits.the-variants.{Wrong, Byte}
+use Rattle.sheet.specs.Frames.{Frame}
 
 -- the byte that two characters are; 0 where they are none
 unfoldable pub byteOr : Digits → ℕ
@@ -16,6 +17,16 @@ unfoldable pub bytesIn : (sheet : List ℕ) (at n : ℕ) → List ℕ
 bytesIn sheet at zero = []
 bytesIn sheet at (suc n) = byteOr (byteAt sheet at) ∷ bytesIn sheet (at + 2) n
 
--- the leaf, R, and so many values and siblings
-unfoldable pub shown : (sheet : List ℕ) (count : ℕ) → List ℕ
-shown sheet count = bytesIn sheet 22 4 ++ bytesIn sheet 33 16 ++ joinTo (λ k. bytesIn sheet (70 + 37 * k) 16) count
+-- the place behind a frame's line that begins at `at`
+abbrev pub behindFrame : (at : ℕ) → Frame → ℕ
+behindFrame at f = at + 2 * (length (f .head) + f .high) + 1
+
+-- the place behind the lines of frames
+unfoldable pub behindAll : (at : ℕ) → List Frame → ℕ
+behindAll at [] = at
+behindAll at (f ∷ fs) = behindAll (behindFrame at f) fs
+
+-- the bytes behind the fixed ones, frame after frame
+unfoldable pub payloads : (sheet : List ℕ) (at : ℕ) → List Frame → List ℕ
+payloads sheet at [] = []
+payloads sheet at (f ∷ fs) = bytesIn sheet (at + 2 * length (f .head)) (f .high) ++ payloads sheet (behindFrame at f) fs

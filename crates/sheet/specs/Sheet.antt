@@ -10,7 +10,7 @@ use Rattle.hex.specs.Hex.{Line, wrong, right, lineOf, readLine}
 use Rattle.message.specs.Message.{signatureLength}
 use Rattle.profile.specs.Checks.{outside}
 use Rattle.profile.specs.declared.Profile.{Profile}
-use Rattle.sheet.specs.Frames.{Frame, frames, textFrame}
+use Rattle.sheet.specs.Frames.{Within, Frame, frames, textFrame}
 
 -- the lines of frames, with the bytes behind the fixed ones taken from the front of `bytes`
 unfoldable pub linesOf : List Frame → (bytes : List ℕ) → List ℕ
@@ -75,8 +75,8 @@ pub record Carried (p : Profile) (signature text : List ℕ) : Type 0 where
   pub some-text : 1 ≤ length text
   pub short-text : length text ≤ 200
 
--- the right sheets are those that are read, each as what it carries
-abbrev pub Exact : Profile → Type 0
-Exact p =
-    (sheet signature text : List ℕ)
+-- for every profile within its limits: what is read is a right sheet, and each right sheet is read as what it carries
+abbrev pub Exact : Type 0
+Exact =
+    (p : Profile) → Within p → (sheet signature text : List ℕ)
     → (readSheet p sheet ≡ read signature text) ↔ (Carried p signature text × (sheet ≡ sheetOf p signature text))

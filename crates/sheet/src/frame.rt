@@ -4,13 +4,16 @@ ghost use mathlib.Core.Bool.{cond};
 ghost use mathlib.Core.List.{[]};
 ghost use Prim.Native.Nat.{ℕ, _+_, _*_, _≤_};
 ghost use lib.Dec.{eqb};
-ghost use lib.ListN.{length, getD, take, drop};
+ghost use lib.ListN.{length, getD, drop};
 ghost use Rattle.hex.specs.Hex.{wrong, lineEnd, readLine};
-ghost use Rattle.sheet.specs.Frames.{framed};
+ghost use Rattle.sheet.specs.Frames.{Within, framed, frameAt};
 ghost use Rattle.sheet.specs.Sheet.{readFrame};
 ghost use Rattle.sheet.specs.Reader.{foundOf, stepOf};
+use super::frames::frame_size;
+use super::frames::head_byte;
 use hex::Digits;
 use hex::byte_at;
+use profile::Profile;
 
 // How many bytes a line has.
 pub enum Found {
@@ -35,10 +38,10 @@ pub fn ends_at(sheet: &[u8], at: usize) -> bool
     }
 }
 
-// Whether the fixed bytes, the first of the head, stand from an index on.
-fn head_stands(sheet: &[u8], at: usize, head: [u8; 6], fixed: usize) -> bool
-    requires { ⌜ (at ≤ length (now sheet)) × (fixed ≤ 6) ⌝ }
-    ensures { λ r. ⌜ ((low high : ℕ) → readFrame (framed (take fixed head) low high) (drop at (now (sheet .entry))) ≡ cond r (readFrame (framed [] low high) (drop (at + 2 * fixed) (now (sheet .entry)))) wrong) ⌝ }
+// Whether the fixed bytes of frame k stand from an index on.
+fn head_stands(sheet: &[u8], at: usize, p: Profile, k: usize, fixed: usize) -> bool
+    requires { ⌜ (at ≤ length (now sheet)) × Within p × (1 ≤ k) × (fixed ≡ length (frameAt p k .head)) × (fixed ≤ 6) ⌝ }
+    ensures { λ r. ⌜ ((low high : ℕ) → readFrame (framed (frameAt p k .head) low high) (drop at (now (sheet .entry))) ≡ cond r (readFrame (framed [] low high) (drop (at + 2 * fixed) (now (sheet .entry)))) wrong) ⌝ }
 {
     let mut i = 0;
     while i < fixed {
@@ -47,7 +50,7 @@ fn head_stands(sheet: &[u8], at: usize, head: [u8; 6], fixed: usize) -> bool
                 return false;
             }
             Digits::Byte(b) => {
-                if b != head[i] {
+                if b != head_byte(p, k, i) {
                     return false;
                 }
             }
@@ -79,12 +82,16 @@ fn line_bytes(sheet: &[u8], at: usize, most: usize) -> Found
     Found::Wrong
 }
 
-// The frame parser: a line with the fixed bytes and behind them low to high bytes.
-pub fn frame(sheet: &[u8], at: usize, head: [u8; 6], fixed: usize, low: usize, high: usize) -> Step
-    requires { ⌜ (at ≤ length (now sheet)) × (fixed ≤ 6) × (high ≤ 200) ⌝ }
-    ensures { λ r. ⌜ r ≡ stepOf at fixed (readFrame (framed (take fixed head) low high) (drop at (now (sheet .entry)))) ⌝ }
+// The frame parser: whether the line from an index on is frame k of a profile's sheet.
+pub fn frame(sheet: &[u8], at: usize, p: Profile, k: usize) -> Step
+    requires { ⌜ (at ≤ length (now sheet)) × Within p × (1 ≤ k) ⌝ }
+    ensures { λ r. ⌜ r ≡ stepOf at (length (frameAt p k .head)) (readFrame (frameAt p k) (drop at (now (sheet .entry)))) ⌝ }
 {
-    if head_stands(sheet, at, head, fixed) {
+    let size = frame_size(p, k);
+    let fixed = size.fixed;
+    let low = size.low;
+    let high = size.high;
+    if head_stands(sheet, at, p, k, fixed) {
         match line_bytes(sheet, at + 2 * fixed, high) {
             Found::Wrong => Step::Wrong,
             Found::Bytes(n) => {

@@ -5,18 +5,21 @@ ghost use Rattle.profile.specs.Checks.{profileCauses};
 ghost use Rattle.sheet.specs.Operation.{ReadsSheet};
 
 mod frame;
+mod frames;
+mod judge;
 mod payload;
 mod place;
 mod reader;
 
-use payload::copy;
+use judge::judge;
+use message::signature_length;
 use payload::copy_signature;
-use place::Judged;
+use payload::copy_text;
 use profile::Profile;
 use profile::check_profile;
-use reader::judge;
 use refusal::Outcome;
 use refusal::Refusal;
+use refusal::then;
 
 // What Read sheet answers. The line is 0 unless a line is wrong; refused, the length is 0.
 pub struct SheetRead {
@@ -31,33 +34,23 @@ fn read_checked(p: Profile, sheet: &[u8], signature: &mut [u8], message: &mut [u
     ensures { λ r. ⌜ ReadsSheet p (now (sheet .entry)) (now (signature .entry)) (now (message .entry)) (now (signature .exit)) (now (message .exit)) r ⌝ }
 {
     let judged = judge(sheet, p);
-    match judged {
-        Judged::Wrong(line) => SheetRead {
-            outcome: Outcome::Refused(Refusal::SheetLine),
+    let line = judged.line;
+    let length = judged.length;
+    let needed = signature_length(p);
+    let formed = then(Outcome::Granted, 0 < line, Refusal::SheetLine);
+    let held = then(formed, signature.len() < needed, Refusal::OutputTooShort);
+    let outcome = then(held, message.len() < length, Refusal::OutputTooShort);
+    match outcome {
+        Outcome::Refused(_) => SheetRead {
+            outcome,
             line: line as u32,
             length: 0,
         },
-        Judged::Right(length) => {
-            let shape = p.shape;
-            let count = shape.chains as usize + p.height as usize;
-            if signature.len() < 20 + 16 * count {
-                return SheetRead {
-                    outcome: Outcome::Refused(Refusal::OutputTooShort),
-                    line: 0,
-                    length: 0,
-                };
-            }
-            if message.len() < length {
-                return SheetRead {
-                    outcome: Outcome::Refused(Refusal::OutputTooShort),
-                    line: 0,
-                    length: 0,
-                };
-            }
-            copy_signature(sheet, count, signature);
-            copy(sheet, sheet.len() - 1 - 2 * length, length, message, 0);
+        Outcome::Granted => {
+            let at = copy_signature(sheet, p, signature);
+            copy_text(sheet, p, at, length, message);
             SheetRead {
-                outcome: Outcome::Granted,
+                outcome,
                 line: 0,
                 length: length as u32,
             }

@@ -3,11 +3,15 @@ ghost use mathlib.Core.Path.{_≡_};
 ghost use mathlib.Core.List.{_++_};
 ghost use Prim.Native.Nat.{_+_, _*_, _^_, _≤_, _<_};
 ghost use lib.ListN.{length, take, drop};
-ghost use Rattle.words.specs.Joined.{joinTo};
 ghost use Rattle.hex.specs.Digits.{byteAt};
-ghost use Rattle.sheet.specs.Payload.{byteOr, bytesIn, shown};
+ghost use Rattle.message.specs.Message.{signatureLength};
+ghost use Rattle.sheet.specs.Frames.{Within, frames, textFrame};
+ghost use Rattle.sheet.specs.Payload.{byteOr, bytesIn, behindAll, payloads};
+use super::frames::frame_count;
+use super::frames::frame_size;
 use hex::Digits;
 use hex::byte_at;
+use profile::Profile;
 
 // The byte at an index; 0 where none stands.
 fn byte_or_zero(sheet: &[u8], at: usize) -> u8
@@ -31,24 +35,33 @@ pub fn copy(sheet: &[u8], at: usize, n: usize, out: &mut [u8], from: usize)
     }
 }
 
-// Copies values and siblings, each of 16 bytes in a line of 37 characters.
-fn copy_values(sheet: &[u8], count: usize, signature: &mut [u8])
-    requires { ⌜ (count ≤ 50) × (20 + 16 * count ≤ length (now signature)) ⌝ }
-    ensures { λ _. ⌜ now (signature .exit) ≡ take 20 (now (signature .entry)) ++ joinTo (λ k. bytesIn (now (sheet .entry)) (70 + 37 * k) 16) count ++ drop (20 + 16 * count) (now (signature .entry)) ⌝ }
+// Copies the bytes behind the fixed ones of all frames in front of the text, and gives the place behind those frames.
+pub fn copy_signature(sheet: &[u8], p: Profile, signature: &mut [u8]) -> usize
+    requires { ⌜ Within p × (signatureLength p ≤ length (now signature)) ⌝ }
+    ensures { λ r. ⌜ (r ≡ behindAll 0 (frames p)) × (now (signature .exit) ≡ payloads (now (sheet .entry)) 0 (frames p) ++ drop (signatureLength p) (now (signature .entry))) ⌝ }
 {
+    let count = frame_count(p);
+    let mut at = 0;
+    let mut from = 0;
     let mut k = 0;
     while k < count {
-        copy(sheet, 70 + 37 * k, 16, signature, 20 + 16 * k);
+        let size = frame_size(p, k);
+        let fixed = size.fixed;
+        let n = size.high;
+        copy(sheet, at + 2 * fixed, n, signature, from);
+        at = at + 2 * (fixed + n) + 1;
+        from += n;
         k += 1;
     }
+    at
 }
 
-// Copies the leaf, R, and so many values and siblings out of a right sheet.
-pub fn copy_signature(sheet: &[u8], count: usize, signature: &mut [u8])
-    requires { ⌜ (count ≤ 50) × (20 + 16 * count ≤ length (now signature)) ⌝ }
-    ensures { λ _. ⌜ now (signature .exit) ≡ shown (now (sheet .entry)) count ++ drop (20 + 16 * count) (now (signature .entry)) ⌝ }
+// Copies a text of n bytes, whose frame begins at an index.
+pub fn copy_text(sheet: &[u8], p: Profile, at: usize, n: usize, message: &mut [u8])
+    requires { ⌜ (at + 2 * (length (textFrame .head) + n) < 2 ^ 64) × (n ≤ length (now message)) ⌝ }
+    ensures { λ _. ⌜ now (message .exit) ≡ bytesIn (now (sheet .entry)) (at + 2 * length (textFrame .head)) n ++ drop n (now (message .entry)) ⌝ }
 {
-    copy(sheet, 22, 4, signature, 0);
-    copy(sheet, 33, 16, signature, 4);
-    copy_values(sheet, count, signature);
+    let size = frame_size(p, frame_count(p));
+    let fixed = size.fixed;
+    copy(sheet, at + 2 * fixed, n, message, 0);
 }

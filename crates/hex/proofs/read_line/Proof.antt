@@ -45,21 +45,6 @@ loop-holds c =
     let args = c .before .before .args in
     (omega arith, omega arith, refl, read-begins (now (args .chars)) (args .at) (now (args .bytes)), into-begins (now (args .chars)) (args .at) (now (args .bytes)))
 
-mul-byte-at : tie.Need-mul-byte-at Inv-loop μ-loop
-mul-byte-at c = search needs
-
-add-byte-at : tie.Need-add-byte-at Inv-loop μ-loop
-add-byte-at c = search needs
-
-byte-at-requires : tie.Need-byte-at-requires Inv-loop μ-loop
-byte-at-requires c κs = search needs
-
-enum-known-b : tie.Need-enum-known-b Inv-loop μ-loop
-enum-known-b c = search needs
-
-enum-told : tie.Need-enum-told Inv-loop μ-loop
-enum-told c = search needs
-
 same-length : tie.Need-same-length Inv-loop μ-loop
 same-length c = c .before .before .before .before .loop .inv .2
 
@@ -70,12 +55,6 @@ returns c =
     let none = sym (called .byte-at .ensures) ∙ c .enum-told .given .1 in
     answer-no _ _ _ (into-wrong _ _ (q .loop .bytes) (q .loop .i) (q .loop .inv .4) none) (q .loop .inv .3)
     (short-line _ _ _ _ (omega (arith, read-long q)) none)
-
-slice-write-bytes : tie.Need-slice-write-bytes Inv-loop μ-loop
-slice-write-bytes c = search needs
-
-add-i : tie.Need-add-i Inv-loop μ-loop
-add-i c = search needs
 
 loop-less : tie.Need-loop-less Inv-loop μ-loop
 loop-less c = simp length-set (omega arith)
@@ -88,20 +67,11 @@ loop-again c =
     let byte = sym (called .byte-at .ensures) ∙ c .before .b .given .1 in
     (simp length-set (omega arith), omega (arith, byte-room (now (args .chars)) (args .at + 2 * q .loop .i) byte), simp length-set (q .loop .inv .2), read-next (now (args .chars)) (args .at) (q .loop .bytes) (q .loop .i) (omega arith) byte (q .loop .inv .3), into-next (now (args .chars)) (args .at) (q .loop .bytes) (q .loop .i) (q .loop .inv .4) (omega arith) byte)
 
-mul-end : tie.Need-mul-end Inv-loop μ-loop
-mul-end c = search needs
-
-add-end : tie.Need-add-end Inv-loop μ-loop
-add-end c = search needs
-
 same-length-2 : tie.Need-same-length-2 Inv-loop μ-loop
 same-length-2 c = c .before .before .loop .inv .2
 
 returns-2 : tie.Need-returns-2 Inv-loop μ-loop
 returns-2 c = not-ended (c .before .before) (c .before .loop-test .left) (past-end (now (start (c .before .before) .args .chars)) _ (c .if1 .taken))
-
-shared-slice-read-if2 : tie.Need-shared-slice-read-if2 Inv-loop μ-loop
-shared-slice-read-if2 c = search needs
 
 same-length-3 : tie.Need-same-length-3 Inv-loop μ-loop
 same-length-3 c = c .before .before .before .before .loop .inv .2
@@ -126,22 +96,22 @@ read-line-spec =
     Inv-loop
     μ-loop
     loop-holds
-    mul-byte-at
-    add-byte-at
-    byte-at-requires
-    enum-known-b
-    enum-told
+    (λ c. search needs)
+    (λ c. search needs)
+    (λ c κs. search needs)
+    (λ c. search needs)
+    (λ c. search needs)
     same-length
     returns
-    slice-write-bytes
-    add-i
+    (λ c. search needs)
+    (λ c. search needs)
     loop-less
     loop-again
-    mul-end
-    add-end
+    (λ c. search needs)
+    (λ c. search needs)
     same-length-2
     returns-2
-    shared-slice-read-if2
+    (λ c. search needs)
     same-length-3
     returns-3
     same-length-4

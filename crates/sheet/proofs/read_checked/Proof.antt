@@ -1,124 +1,124 @@
 -- `sheet::read_checked` meets its contract: the sheet is judged whole, then the slices, and only then anything is written.
-use mathlib.Core.Path.{_≡_, sym, _∙_}
+use mathlib.Core.Path.{_≡_, refl, sym, ap, _∙_}
+use mathlib.Core.List.{[]}
+use Prim.Native.Nat.{_+_, _*_, _^_, _<_}
 use native.Mathlib.Omega.{arith}
 use borrow.Author.Needs.{needs}
 use denote.Ref.{now}
+use lib.Dec.{ltb}
+use lib.ListN.{length}
+use Rattle.refusal.specs.Code.{outcomeCode, firstCause}
+use Rattle.refusal.proofs.Causes.{chain-begins, chain-next}
 use Rattle.profile.proofs.Limits.{profile-limits}
-use Rattle.sheet.specs.Sheet.{wrongLine, readSheet}
-use Rattle.sheet.proofs.PayloadLaws.{text-room}
-use Rattle.sheet.proofs.SheetAnswer.{Whole, judged-wrong, judged-right, whole-apart, wrong-few, wrong-line, signature-short, text-short, sheet-granted}
+use Rattle.sheet.specs.Sheet.{readSheet}
+use Rattle.sheet.specs.Operation.{lineIn, textIn, sheetCauses}
+use Rattle.sheet.specs.Reader.{judgement}
+use Rattle.sheet.proofs.PayloadLaws.{text-within}
+use Rattle.sheet.proofs.SheetAnswer.{whole-apart, wrong-told, line-small, late-refused, Open, late-open, sheet-granted}
 use Rattle.sheet.proofs.read_checked.Statement.{statement}
 use Rattle.sheet.proofs.read_checked.Tie as tie
 
--- a wrong line
-wrong-at : (c : tie.After-judged)
-    → readSheet (c .before .before .before .before .before .before .args .p) (now (c .before .before .before .before .before .before .args .sheet)) ≡ wrongLine (c .judged .given .0 .0)
-wrong-at c =
-    let j = c .before .before in
-    let a = j .before .before .before .before .args in
-    judged-wrong (readSheet (a .p) (now (a .sheet))) (c .judged .given .0 .0) (sym (c .judged .given .1) ∙ j .judge .ensures)
+-- what the sheet is judged as
+line-is : (c : tie.After-judge) → let a = c .before .before .before .before .args in c .judge .result .line ≡ lineIn (readSheet (a .p) (now (a .sheet)))
+unfolding judgement
+line-is c = ap (λ j. j .line) (c .judge .ensures)
 
--- a sheet that is read
-whole : (c : tie.After-judged2)
-    → Whole (c .before .before .before .before .before .before .args .p) (now (c .before .before .before .before .before .before .args .sheet)) (c .judged2 .given .0 .0)
-whole c =
-    let j = c .before .before in
+length-is : (c : tie.After-judge) → let a = c .before .before .before .before .args in c .judge .result .length ≡ length (textIn (readSheet (a .p) (now (a .sheet))))
+unfolding judgement
+length-is c = ap (λ j. j .length) (c .judge .ensures)
+
+-- the causes in their order
+answered : (c : tie.After-then3) → let a = c .before .before .before .before .before .before .before .before .args in
+    outcomeCode (c .then3 .result) ≡ firstCause (sheetCauses (a .p) (now (a .sheet)) (now (a .signature)) (now (a .message)))
+answered c =
+    let m = c .before .before .before in
+    let j = m .before in
     let a = j .before .before .before .before .args in
-    judged-right (a .p) (now (a .sheet)) (c .judged2 .given .0 .0) (sym (c .judged2 .given .1) ∙ j .judge .ensures)
+    let formed = chain-next 17 refl (chain-begins [] tt refl) (ap (ltb 0) (line-is j) ∙ wrong-told (a .p) (now (a .sheet))) (c .before .before .then .ensures) in
+    let held = chain-next 6 refl formed (ap (ltb (length (now (a .signature)))) (m .signature-length .ensures)) (c .before .then2 .ensures) in
+    chain-next 6 refl held (ap (ltb (length (now (a .message)))) (length-is j)) (c .then3 .ensures) .answer
+
+-- nothing is refused
+open-at : (c : tie.After-enum-told2) → let j = c .before .before .before .before .before .before in let s = j .before .before .before .before in
+    Open (s .args .p) (now (s .args .sheet)) (now (s .args .signature)) (now (s .args .message)) (s .pre) (j .judge .result .length)
+open-at c =
+    let t = c .before .before in
+    let j = t .before .before .before .before in
+    let s = j .before .before .before .before in
+    late-open (s .args .p) (now (s .args .sheet)) (now (s .args .signature)) (now (s .args .message)) (s .pre) (j .judge .result .length)
+    (sym (answered t) ∙ ap outcomeCode (c .enum-told2 .given .1)) (length-is j)
 
 judge-requires : tie.Need-judge-requires
 judge-requires c κs = let s = c .before .before .before in profile-limits (s .args .p) (s .pre)
 
-cast-t13 : tie.Need-cast-t13
-cast-t13 c =
-    let w = c .before in
-    let s = w .before .before .before .before .before .before in
-    let a = s .args in
-    omega (arith, wrong-few (a .p) (now (a .sheet)) (now (a .signature)) (now (a .message)) (s .pre) (w .judged .given .0 .0) (wrong-at w))
-
-returns : tie.Need-returns
-returns c =
-    let r = c .before .before .before .before .before in
-    let s = r .before .before .before .before .before .before in
-    let a = s .args in
-    signature-short (a .p) (now (a .sheet)) (now (a .signature)) (now (a .message)) (s .pre) (r .judged2 .given .0 .0) (whole r) (c .if1 .taken)
-
-returns-2 : tie.Need-returns-2
-returns-2 c =
-    let r = c .before .before .before .before .before .before in
-    let s = r .before .before .before .before .before .before in
-    let a = s .args in
-    text-short (a .p) (now (a .sheet)) (now (a .signature)) (now (a .message)) (s .pre) (r .judged2 .given .0 .0) (whole r) (c .before .if1 .left) (c .if2 .taken)
+cast-t18 : tie.Need-cast-t18
+cast-t18 c =
+    let j = c .before .before .before .before .before .before in
+    let s = j .before .before .before .before in
+    omega (arith, line-is j, line-small (s .args .p) (now (s .args .sheet)) (profile-limits (s .args .p) (s .pre)))
 
 copy-signature-requires : tie.Need-copy-signature-requires
 copy-signature-requires c κs =
-    let s = c .before .before .before .before .before .before .before .before .before .before .before .before .before in
-    let limits = profile-limits (s .args .p) (s .pre) in
-    omega (arith, limits .0 .few-chains, limits .1)
+    let o = c .before in
+    let s = o .before .before .before .before .before .before .before .before .before .before in
+    (profile-limits (s .args .p) (s .pre), open-at o .enough)
 
-sub-copy : tie.Need-sub-copy
-sub-copy c =
-    let r = c .before .before .before .before .before .before .before .before .before .before in
-    let a = r .before .before .before .before .before .before .args in
-    let n = r .judged2 .given .0 .0 in
-    let w = whole r in
-    omega (arith, text-room (a .p) (now (a .sheet)) (w .signature) (w .text) (whole-apart (a .p) (now (a .sheet)) n w), w .long)
+copy-text-requires : tie.Need-copy-text-requires
+copy-text-requires c κs =
+    let copied = c .before .before .before in
+    let o = copied .before .before in
+    let j = o .before .before .before .before .before .before in
+    let a = j .before .before .before .before .args in
+    let n = j .judge .result .length in
+    let w = open-at o .whole in
+    let inside = text-within (a .p) (now (a .sheet)) (w .signature) (w .text) (whole-apart (a .p) (now (a .sheet)) n w) in
+    let fits : copied .copy-signature .result + 2 * (1 + n) < 2 ^ 64 = omega (arith, copied .copy-signature .ensures .0, w .long, j .before .before .before .before .good .1 .0) in
+    (fits, open-at o .room)
 
-sub-copy-2 : tie.Need-sub-copy-2
-sub-copy-2 c =
-    let r = c .before .before .before .before .before .before .before .before .before .before in
-    let a = r .before .before .before .before .before .before .args in
-    let n = r .judged2 .given .0 .0 in
-    let w = whole r in
-    omega (arith, text-room (a .p) (now (a .sheet)) (w .signature) (w .text) (whole-apart (a .p) (now (a .sheet)) n w), w .long)
+cast-t24 : tie.Need-cast-t24
+cast-t24 c =
+    let o = c .before .before .before .before .before .before .before .before in
+    let j = o .before .before .before .before .before .before in
+    let a = j .before .before .before .before .args in
+    let w = open-at o .whole in
+    omega (arith, whole-apart (a .p) (now (a .sheet)) (j .judge .result .length) w .short-text, w .long)
 
-cast-t29 : tie.Need-cast-t29
-cast-t29 c =
-    let r = c .before .before .before .before .before .before .before .before .before .before .before .before .before .before in
-    let a = r .before .before .before .before .before .before .args in
-    let n = r .judged2 .given .0 .0 in
-    let w = whole r in
-    omega (arith, whole-apart (a .p) (now (a .sheet)) n w .short-text, w .long)
-
-returns-3 : tie.Need-returns-3
-returns-3 c =
-    let w = c .before in
-    let s = w .before .before .before .before .before .before in
+returns : tie.Need-returns
+returns c =
+    let t = c .before .before in
+    let j = t .before .before .before .before in
+    let s = j .before .before .before .before in
     let a = s .args in
-    wrong-line (a .p) (now (a .sheet)) (now (a .signature)) (now (a .message)) (s .pre) (w .judged .given .0 .0) (wrong-at w)
+    late-refused (a .p) (now (a .sheet)) (now (a .signature)) (now (a .message)) (s .pre) (t .then3 .result) _ (j .judge .result .line) (answered t) (c .enum-told .given .1) (line-is j)
 
-returns-4 : tie.Need-returns-4
-returns-4 c =
-    let copied = c .before .before in
-    let written = copied .before .before .before .before in
-    let tests = written .before .before in
-    let r = tests .before .before .before .before .before .before in
-    let s = r .before .before .before .before .before .before in
+returns-2 : tie.Need-returns-2
+returns-2 c =
+    let text = c .before .before in
+    let copied = text .before .before .before .before in
+    let o = copied .before .before in
+    let t = o .before .before in
+    let j = t .before .before .before .before in
+    let s = j .before .before .before .before in
     let a = s .args in
-    sheet-granted (a .p) (now (a .sheet)) (now (a .signature)) (now (a .message)) (s .pre) (r .judged2 .given .0 .0) (whole r) (tests .before .if1 .left) (tests .if2 .left) _ _ (written .copy-signature .ensures) (copied .copy .ensures)
+    sheet-granted (a .p) (now (a .sheet)) (now (a .signature)) (now (a .message)) (s .pre) (j .judge .result .length) (t .then3 .result) (answered t) (o .enum-told2 .given .1) (open-at o .whole)
+    (copied .copy-signature .ensures .0) (copied .copy-signature .ensures .1) (text .copy-text .ensures)
 
 pub read-checked-spec : {M : Type 1} → statement M
 read-checked-spec =
     tie.close
     (tie.spec
     judge-requires
-    (λ c. search needs)
-    cast-t13
-    (λ c. search needs)
-    (λ c. search needs)
-    (λ c. search needs)
-    (λ c. search needs)
-    (λ c. search needs)
-    (λ c. search needs)
-    returns
-    returns-2
-    copy-signature-requires
-    sub-copy
-    (λ c. search needs)
-    sub-copy-2
     (λ c κs. search needs)
-    cast-t29
-    returns-3
+    (λ c κs. search needs)
+    (λ c κs. search needs)
+    (λ c κs. search needs)
+    (λ c. search needs)
+    cast-t18
+    (λ c. search needs)
+    copy-signature-requires
+    copy-text-requires
+    cast-t24
+    returns
     (λ c. search needs)
     (λ c. search needs)
-    returns-4)
+    returns-2)

@@ -23,33 +23,12 @@ loop-holds c =
     let a = c .before .args in
     (omega arith, found-start (now (a .sheet)) (a .at) (a .most))
 
-mul-ends-at : tie.Need-mul-ends-at Inv-loop μ-loop
-mul-ends-at c = search needs
-
-add-ends-at : tie.Need-add-ends-at Inv-loop μ-loop
-add-ends-at c = search needs
-
-ends-at-requires : tie.Need-ends-at-requires Inv-loop μ-loop
-ends-at-requires c κs = search needs
-
 returns : tie.Need-returns Inv-loop μ-loop
 returns c =
     let l = c .before .before .before in
     let a = l .before .before .args in
     let i = l .loop .i in
     sym (l .loop .inv .1 ∙ found-end (now (a .sheet)) (a .at + 2 * i) i (a .most) (c .before .before .loop-test .taken) (eqb-true _ _ (sym (c .before .ends-at .ensures) ∙ c .if1 .taken)))
-
-mul-byte-at : tie.Need-mul-byte-at Inv-loop μ-loop
-mul-byte-at c = search needs
-
-add-byte-at : tie.Need-add-byte-at Inv-loop μ-loop
-add-byte-at c = search needs
-
-byte-at-requires : tie.Need-byte-at-requires Inv-loop μ-loop
-byte-at-requires c κs = search needs
-
-enum-told : tie.Need-enum-told Inv-loop μ-loop
-enum-told c = search needs
 
 returns-2 : tie.Need-returns-2 Inv-loop μ-loop
 returns-2 c =
@@ -59,15 +38,6 @@ returns-2 c =
     let a = l .before .before .args in
     let i = l .loop .i in
     sym (l .loop .inv .1 ∙ found-none (now (a .sheet)) (a .at + 2 * i) i (a .most) (sym (q .byte-at .ensures) ∙ c .enum-told .given .1) (eqb-false _ _ (sym (e .ends-at .ensures) ∙ q .before .if1 .left)))
-
-enum-told-2 : tie.Need-enum-told-2 Inv-loop μ-loop
-enum-told-2 c = search needs
-
-add-i : tie.Need-add-i Inv-loop μ-loop
-add-i c = search needs
-
-loop-less : tie.Need-loop-less Inv-loop μ-loop
-loop-less c = search needs
 
 loop-again : tie.Need-loop-again Inv-loop μ-loop
 loop-again c =
@@ -90,17 +60,17 @@ line-bytes-spec =
     Inv-loop
     μ-loop
     loop-holds
-    mul-ends-at
-    add-ends-at
-    ends-at-requires
+    (λ c. search needs)
+    (λ c. search needs)
+    (λ c κs. search needs)
     returns
-    mul-byte-at
-    add-byte-at
-    byte-at-requires
-    enum-told
+    (λ c. search needs)
+    (λ c. search needs)
+    (λ c κs. search needs)
+    (λ c. search needs)
     returns-2
-    enum-told-2
-    add-i
-    loop-less
+    (λ c. search needs)
+    (λ c. search needs)
+    (λ c. search needs)
     loop-again
     returns-3)

@@ -21,30 +21,12 @@ loop-holds c =
     let a = c .before .before .args in
     (omega arith, paste-zero (now (a .out)) (a .from) (bytesIn (now (a .sheet)) (a .at) (a .n)))
 
-mul-byte-or-zero : tie.Need-mul-byte-or-zero Inv-loop μ-loop
-mul-byte-or-zero c = search needs
-
-add-byte-or-zero : tie.Need-add-byte-or-zero Inv-loop μ-loop
-add-byte-or-zero c = search needs
-
-byte-or-zero-requires : tie.Need-byte-or-zero-requires Inv-loop μ-loop
-byte-or-zero-requires c κs = search needs
-
-add-out : tie.Need-add-out Inv-loop μ-loop
-add-out c = search needs
-
 slice-write-out : tie.Need-slice-write-out Inv-loop μ-loop
 slice-write-out c =
     let l = c .before .before in
     let s = l .before .before .before in
     let a = s .args in
     omega (arith, copy-long (now (a .sheet)) (a .at) (a .n) (now (a .out)) (a .from) (s .pre .1) (l .loop .i) (l .loop .inv .0) (l .loop .inv .1))
-
-add-i : tie.Need-add-i Inv-loop μ-loop
-add-i c = search needs
-
-loop-less : tie.Need-loop-less Inv-loop μ-loop
-loop-less c = search needs
 
 loop-again : tie.Need-loop-again Inv-loop μ-loop
 loop-again c =
@@ -74,13 +56,13 @@ copy-spec =
     Inv-loop
     μ-loop
     loop-holds
-    mul-byte-or-zero
-    add-byte-or-zero
-    byte-or-zero-requires
-    add-out
+    (λ c. search needs)
+    (λ c. search needs)
+    (λ c κs. search needs)
+    (λ c. search needs)
     slice-write-out
-    add-i
-    loop-less
+    (λ c. search needs)
+    (λ c. search needs)
     loop-again
     same-length
     returns)

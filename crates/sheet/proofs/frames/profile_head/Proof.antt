@@ -1,10 +1,10 @@
--- `sheet::place::profile_head` meets its contract: each part of the profile fits its bytes.
+-- `sheet::frames::profile_head` meets its contract: each part of the profile fits its bytes.
 use native.Mathlib.Omega.{arith}
 use borrow.Author.Needs.{needs}
 use Rattle.profile.proofs.Limits.{sum-small}
-use Rattle.sheet.proofs.PlaceLaws.{two-bytes}
-use Rattle.sheet.proofs.place.profile_head.Statement.{statement}
-use Rattle.sheet.proofs.place.profile_head.Tie as tie
+use Rattle.sheet.proofs.FrameNumbers.{two-bytes}
+use Rattle.sheet.proofs.frames.profile_head.Statement.{statement}
+use Rattle.sheet.proofs.frames.profile_head.Tie as tie
 
 cast-t8 : tie.Need-cast-t8
 cast-t8 c = let p = c .before .before .before .before in omega (arith, sum-small (p .args .p .shape) (p .pre .0))

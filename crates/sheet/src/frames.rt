@@ -1,0 +1,108 @@
+// The frames of a profile's sheet, numbered from 0: how many bytes each has, and its fixed ones.
+ghost use mathlib.Core.Path.{_≡_};
+ghost use mathlib.Core.List.{[], _∷_};
+ghost use Prim.Native.Nat.{_≤_, _<_};
+ghost use lib.ListN.{length, getD};
+ghost use Rattle.words.specs.Bytes.{toBytes};
+ghost use Rattle.sheet.specs.Frames.{Within, frames, frameAt};
+ghost use Rattle.sheet.specs.Reader.{HasSize};
+use profile::Profile;
+
+// How many bytes a frame has: the fixed ones, and behind them at least and at most so many.
+pub struct Size {
+    pub fixed: usize,
+    pub low: usize,
+    pub high: usize,
+}
+
+// The size of a frame with so many bytes behind the fixed ones.
+fn sized(fixed: usize, payload: usize) -> Size
+    ensures { λ r. ⌜ (r .fixed ≡ fixed) × (r .low ≡ payload) × (r .high ≡ payload) ⌝ }
+{
+    Size {
+        fixed,
+        low: payload,
+        high: payload,
+    }
+}
+
+// How many frames stand in front of the text, the first line among them.
+pub fn frame_count(p: Profile) -> usize
+    ensures { λ r. ⌜ r ≡ length (frames p) ⌝ }
+{
+    let shape = p.shape;
+    4 + shape.chains as usize + p.height as usize
+}
+
+// The size of frame k: the first line, the profile, the leaf, R, values and siblings, and behind them the text.
+pub fn frame_size(p: Profile, k: usize) -> Size
+    ensures { λ r. ⌜ HasSize (frameAt p k) r ⌝ }
+{
+    let count = frame_count(p);
+    match k {
+        0 => sized(3, 0),
+        1 => sized(6, 0),
+        2 => sized(1, 4),
+        3 => sized(1, 16),
+        _ => {
+            if k < count {
+                sized(2, 16)
+            } else {
+                Size {
+                    fixed: 1,
+                    low: 1,
+                    high: 200,
+                }
+            }
+        }
+    }
+}
+
+// The fixed bytes of the profile's frame.
+fn profile_head(p: Profile) -> [u8; 6]
+    requires { ⌜ Within p ⌝ }
+    ensures { λ r. ⌜ r ≡ 1 ∷ p .shape .chains ∷ p .shape .width ∷ p .height ∷ toBytes 2 (p .shape .sum) ⌝ }
+{
+    let shape = p.shape;
+    let sum = shape.sum;
+    [
+        1,
+        shape.chains as u8,
+        shape.width as u8,
+        p.height as u8,
+        (sum / 256) as u8,
+        (sum % 256) as u8,
+    ]
+}
+
+// Byte i of a head of a kind and a number.
+fn numbered_byte(kind: u8, number: usize, i: usize) -> u8
+    requires { ⌜ (number < 256) × (i < 2) ⌝ }
+    ensures { λ r. ⌜ r ≡ getD (kind ∷ number ∷ []) i 0 ⌝ }
+{
+    if i == 0 { kind } else { number as u8 }
+}
+
+// Byte i of the fixed ones of frame k, behind the first line. The kinds 02 and 03 stand in the frames of these numbers.
+pub fn head_byte(p: Profile, k: usize, i: usize) -> u8
+    requires { ⌜ Within p × (1 ≤ k) × (i < length (frameAt p k .head)) ⌝ }
+    ensures { λ r. ⌜ r ≡ getD (frameAt p k .head) i 0 ⌝ }
+{
+    let shape = p.shape;
+    let values = 4 + shape.chains as usize;
+    let count = frame_count(p);
+    if k == 1 {
+        let head = profile_head(p);
+        return head[i];
+    }
+    if k < 4 {
+        return k as u8;
+    }
+    if k < values {
+        return numbered_byte(4, k - 4, i);
+    }
+    if k < count {
+        return numbered_byte(5, k - values, i);
+    }
+    6
+}
