@@ -2,6 +2,6 @@
 pub mod Answers
 pub mod Example
 pub mod FirstLine
-pub mod Lines
+pub mod Reading
 pub mod Requests
 pub mod Rows

@@ -1,5 +1,5 @@
 -- The first line, as a request.
-use mathlib.Core.Path.{_≡_, refl, sym, ap, _∙_}
+use mathlib.Core.Path.{_≡_, refl}
 use mathlib.Core.Bool.{false}
 use mathlib.Core.List.{List}
 use Prim.Native.Nat.{ℕ, _+_, _*_}
@@ -9,10 +9,9 @@ use lib.ListN.{length, getD, drop, drop-of-length-le}
 use lib.Seq.{drop-cons}
 use Rattle.words.specs.Bytes.{fromBytes}
 use Rattle.hex.specs.Digits.{hasBytes}
-use Rattle.hex.specs.Hex.{Line, wrong, right, readLine}
+use Rattle.hex.specs.Hex.{Line, wrong, right}
 use Rattle.profile.specs.declared.Shape.{Shape}
-use Rattle.listing.specs.Listing.{requestOf, requestIn, answerTo, listingOf}
-use Rattle.listing.specs.declared.Request.{Request}
+use Rattle.listing.specs.Listing.{requestOf, requestIn}
 use Rattle.listing.specs.declared.Request.the-variants.{Malformed, Asked}
 
 -- a line that has not five bytes
@@ -37,8 +36,3 @@ module _ {l : Line} (bytes : List ℕ) {rest : List ℕ} (e : l ≡ right bytes 
   unfolding requestIn requestOf
   asked p kind five chains width sum =
       rw (e, eq-eqb (length bytes) 5 five, eq-eqb (getD bytes 0 0) 16 kind, sum-bytes five, ← chains, ← width, ← sum)
-
--- the listing that the request in the first line asks for
-pub listing-is : (input : List ℕ) {r q : Request} → r ≡ requestIn (readLine input) → r ≡ q → listingOf input ≡ answerTo q
-unfolding listingOf
-listing-is input e same = ap answerTo (sym e ∙ same)

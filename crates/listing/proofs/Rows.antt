@@ -5,13 +5,8 @@ use Prim.Native.Nat.{ℕ, _+_, _*_, _/_, _%_, _^_, _≤_, _<_, min}
 use native.Mathlib.Nat.{mul-le-mul, mul-suc}
 use native.Mathlib.Numerals.{add-three}
 use native.Mathlib.Omega.{arith}
-use borrow.Author.Tests.{le-ltb, lt-leb}
-use lib.Dec.{ltb, leb}
 use lib.ListN.{length, getD, take, drop, replicate, length-append}
 use lib.Seq.{take-at}
-use Rattle.refusal.specs.Code.{firstCause}
-use Rattle.refusal.specs.declared.Outcome.{Outcome}
-use Rattle.refusal.proofs.Causes.{none-then}
 use Rattle.words.specs.Bytes.{toBytes}
 use Rattle.words.specs.Joined.{joinTo}
 use Rattle.words.specs.Number.{value}
@@ -21,9 +16,7 @@ use Rattle.hex.specs.Hex.{lineOf}
 use Rattle.hex.proofs.Writing.{length-lineOf}
 use Rattle.profile.specs.declared.Shape.{Shape}
 use Rattle.counts.specs.Counts.{count}
-use Rattle.counts.specs.Table.{countCauses}
-use Rattle.counts.proofs.Room.{count-numbered, count-limits}
-use Rattle.codewords.specs.Operations.{rowOf, unrankCode, Unranks}
+use Rattle.codewords.specs.Operations.{rowOf}
 use Rattle.codewords.proofs.CodewordLaws.{codeword-valid}
 use Rattle.listing.specs.Listing.{rowLine, rowLines}
 
@@ -54,27 +47,14 @@ pub line-long : (p : Shape) (n : ℕ) → n < count p → length (rowLine p n) �
 unfolding rowLine
 line-long p n h = length-lineOf (17 ∷ toBytes 2 n ++ rowOf p n) ∙ rw (bytes-long p n h)
 
--- Spread grants a number below the count, where Count grants the shape and the row has room
-granted : (p : Shape) (n : ℕ) (work row : List ℕ) → firstCause (countCauses p (length work)) ≡ 0 → p .chains ≤ length row → n < count p → unrankCode p n work row ≡ 0
-unfolding unrankCode
-granted p n work row none room below =
-    none-then (countCauses p (length work)) ((ltb (length row) (p .chains), 6) ∷ (leb (count p) n, 7) ∷ []) none (count-numbered p (length work))
-    ∙ rw (le-ltb (length row) (p .chains) room, lt-leb (count p) n below)
-
--- what Spread leaves behind the kind and the number
-module _ (p : Shape) (n : ℕ) {m : ℕ} {work work′ row′ : List ℕ} {o : Outcome} (same : m ≡ n) (none : firstCause (countCauses p (length work)) ≡ 0) (below : n < count p) (small : n < 256)
-    (answer : Unranks p m work (replicate 40 0) work′ row′ o) where
-  few-chains : p .chains ≤ 40
-  few-chains = count-limits p (length work) none .few-chains
-
+-- the row behind the kind and the number
+module _ (p : Shape) (n : ℕ) {m : ℕ} {row′ : List ℕ} (same : m ≡ n) (below : n < count p) (small : n < 256) (placed : row′ ≡ rowOf p m ++ drop (p .chains) (replicate 40 0)) where
   row-bytes : take (p .chains + 3) (17 ∷ n / 256 ∷ n % 256 ∷ (row′ ++ [])) ≡ 17 ∷ toBytes 2 n ++ rowOf p n
   unfolding toBytes
   row-bytes =
-      let zero′ = granted p m work (replicate 40 0) none few-chains (omega arith) in
-      let written : row′ ≡ rowOf p n ++ drop (p .chains) (replicate 40 0) = answer .written ∙ rw (zero′, same) in
       let high : n / 256 % 256 ≡ n / 256 = omega arith in
       let low : n / 1 % 256 ≡ n % 256 = omega arith in
-      rw (append-nil, add-three, written, take-at (rowOf p n) (drop (p .chains) (replicate 40 0)) (p .chains) (row-long p n below), high, low)
+      rw (append-nil, add-three, placed, same, take-at (rowOf p n) (drop (p .chains) (replicate 40 0)) (p .chains) (row-long p n below), high, low)
 
   pub row-taken : length (take (p .chains + 3) (17 ∷ n / 256 ∷ n % 256 ∷ (row′ ++ []))) ≡ p .chains + 3
   row-taken = ap length row-bytes ∙ bytes-long p n below

@@ -1,2 +1,3 @@
--- What the listing program prints.
+-- What the listing program reads and prints.
+pub mod Input
 pub mod Listing

@@ -1,4 +1,5 @@
 -- Document 01, The listing program.
+use mathlib.Core.Path.{_≡_}
 use mathlib.Core.Bool.{cond, _&&_}
 use mathlib.Core.List.{List, [], _∷_, _++_}
 use Prim.Native.Nat.{ℕ, min}
@@ -10,8 +11,9 @@ use Rattle.words.specs.Joined.{joinTo}
 use Rattle.hex.specs.Hex.{lineOf, Line, wrong, right, readLine}
 use Rattle.profile.specs.declared.Shape.{Shape}
 use Rattle.counts.specs.Counts.{count}
-use Rattle.counts.specs.Table.{countCauses}
+use Rattle.counts.specs.Table.{countCauses, tableAfter}
 use Rattle.codewords.specs.Operations.{rowOf}
+use Rattle.listing.specs.Input.{readOf}
 use Rattle.listing.specs.declared.Request.{Request}
 use Rattle.listing.specs.declared.Request.the-variants.{Malformed, Asked}
 
@@ -36,7 +38,7 @@ unfoldable pub rowLines : Shape → List ℕ
 rowLines p = joinTo (rowLine p) (min (count p) 256)
 
 -- "A refusal prints 1F and its number in one hex byte"
-unfoldable pub refusalLine : (number : ℕ) → List ℕ
+unfoldable pub refusalLine : (code : ℕ) → List ℕ
 refusalLine n = lineOf (31 ∷ n ∷ [])
 
 -- "Its work slice has 16,000 words"
@@ -55,3 +57,35 @@ answerTo (Asked p) = cond (eqb (listingCode p) 0) (rowLines p) (refusalLine (lis
 -- all that is printed
 unfoldable pub listingOf : (input : List ℕ) → List ℕ
 listingOf input = answerTo (requestIn (readLine input))
+
+-- what the work slice then holds: what Count leaves there, and after a malformed line what stood there
+unfoldable pub workAfter : Request → (work : List ℕ) → List ℕ
+workAfter Malformed work = work
+workAfter (Asked p) work = tableAfter (listingCode p) p work
+
+-- what is printed of a line that was read, and what the slices hold afterwards
+pub record Lists (line work work′ out out′ : List ℕ) (given : ℕ) : Type 0 where
+  pub length-given : given ≡ length (listingOf line)
+  pub printed : out′ ≡ listingOf line ++ drop given out
+  pub table : work′ ≡ workAfter (requestIn (readLine line)) work
+
+-- "It reads one line from standard input": what is not read of an input changes nothing
+abbrev pub FirstEleven : Type 0
+FirstEleven = (input : List ℕ) → listingOf (readOf [] input) ≡ listingOf input
+
+-- "Input 1003030003 prints in full": the input, with its ending
+abbrev pub exampleInput : List ℕ
+exampleInput = 49 ∷ 48 ∷ 48 ∷ 51 ∷ 48 ∷ 51 ∷ 48 ∷ 48 ∷ 48 ∷ 51 ∷ 10 ∷ []
+
+abbrev pub exampleListing : List ℕ
+exampleListing =
+    lineOf (17 ∷ 0 ∷ 0 ∷ 0 ∷ 1 ∷ 2 ∷ [])
+    ++ lineOf (17 ∷ 0 ∷ 1 ∷ 0 ∷ 2 ∷ 1 ∷ [])
+    ++ lineOf (17 ∷ 0 ∷ 2 ∷ 1 ∷ 0 ∷ 2 ∷ [])
+    ++ lineOf (17 ∷ 0 ∷ 3 ∷ 1 ∷ 1 ∷ 1 ∷ [])
+    ++ lineOf (17 ∷ 0 ∷ 4 ∷ 1 ∷ 2 ∷ 0 ∷ [])
+    ++ lineOf (17 ∷ 0 ∷ 5 ∷ 2 ∷ 0 ∷ 1 ∷ [])
+    ++ lineOf (17 ∷ 0 ∷ 6 ∷ 2 ∷ 1 ∷ 0 ∷ [])
+
+abbrev pub Example : Type 0
+Example = listingOf exampleInput ≡ exampleListing

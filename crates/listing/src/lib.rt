@@ -3,19 +3,24 @@ ghost use mathlib.Core.Path.{_≡_};
 ghost use mathlib.Core.List.{_++_};
 ghost use Prim.Native.Nat.{_+_, _*_, _≤_, _<_, min};
 ghost use lib.ListN.{length, take, drop};
-ghost use Rattle.refusal.specs.Code.{firstCause};
 ghost use Rattle.words.specs.Number.{value};
 ghost use Rattle.hex.specs.Hex.{readLine};
+ghost use Rattle.profile.specs.Checks.{InLimits};
 ghost use Rattle.counts.specs.Counts.{count};
-ghost use Rattle.counts.specs.Table.{countCauses};
-ghost use Rattle.listing.specs.Listing.{requestIn, rowLine, rowLines, refusalLine, answerTo, listingOf};
-use codewords::unrank;
+ghost use Rattle.counts.specs.Table.{Holds};
+ghost use Rattle.listing.specs.Input.{lineRead, leftOf};
+ghost use Rattle.listing.specs.Listing.{requestIn, rowLine, rowLines, refusalLine, answerTo, workAfter, Lists};
+
+mod input;
+
+use codewords::unranking::write_codeword;
 use counts::codeword_count;
 use hex::read_line;
 use hex::write_line;
+pub use input::Input;
 use profile::Shape;
 use refusal::Outcome;
-use refusal::number;
+use refusal::code;
 use words::number::less;
 
 // What the first line asks.
@@ -50,11 +55,11 @@ fn read_request(input: &[u8]) -> Request
 }
 
 // Prints a refusal.
-fn write_refusal(number: u8, out: &mut [u8]) -> usize
+fn write_refusal(cause: u8, out: &mut [u8]) -> usize
     requires { ⌜ 5 ≤ length (now out) ⌝ }
-    ensures { λ r. ⌜ (r ≡ length (refusalLine number)) × (now (out .exit) ≡ refusalLine number ++ drop r (now (out .entry))) ⌝ }
+    ensures { λ r. ⌜ (r ≡ length (refusalLine cause)) × (now (out .exit) ≡ refusalLine cause ++ drop r (now (out .entry))) ⌝ }
 {
-    let bytes = [31, number];
+    let bytes = [31, cause];
     write_line(out, 0, &bytes)
 }
 
@@ -70,8 +75,8 @@ fn line_count(count: [u32; 5]) -> usize
 }
 
 // Prints the line of a number from index `at` on, and gives the index behind it.
-fn write_row(p: Shape, n: usize, table: &mut [u32], out: &mut [u8], at: usize) -> usize
-    requires { ⌜ (firstCause (countCauses p (length (now table))) ≡ 0) × (n < count p) × (n < 256) × (at + 87 ≤ length (now out)) ⌝ }
+fn write_row(p: Shape, n: usize, table: &[u32], out: &mut [u8], at: usize) -> usize
+    requires { ⌜ InLimits p × Holds p (now table) × (n < count p) × (n < 256) × (at + 87 ≤ length (now out)) ⌝ }
     ensures { λ r. ⌜ (r ≡ at + length (rowLine p n)) × (now (out .exit) ≡ take at (now (out .entry)) ++ rowLine p n ++ drop r (now (out .entry))) ⌝ }
 {
     let mut row = [0u8; 43];
@@ -79,14 +84,14 @@ fn write_row(p: Shape, n: usize, table: &mut [u32], out: &mut [u8], at: usize) -
     row[1] = (n / 256) as u8;
     row[2] = (n % 256) as u8;
     let number = [n as u32, 0, 0, 0, 0];
-    unrank(p, number, table, &mut row[3..]);
+    write_codeword(p, number, table, &mut row[3..]);
     let end = p.chains as usize + 3;
     write_line(out, at, &row[..end])
 }
 
 // Prints the lines of the first numbers.
-fn write_rows(p: Shape, lines: usize, table: &mut [u32], out: &mut [u8]) -> usize
-    requires { ⌜ (firstCause (countCauses p (length (now table))) ≡ 0) × (lines ≡ min (count p) 256) × (22272 ≤ length (now out)) ⌝ }
+fn write_rows(p: Shape, lines: usize, table: &[u32], out: &mut [u8]) -> usize
+    requires { ⌜ InLimits p × Holds p (now table) × (lines ≡ min (count p) 256) × (22272 ≤ length (now out)) ⌝ }
     ensures { λ r. ⌜ (r ≡ length (rowLines p)) × (now (out .exit) ≡ rowLines p ++ drop r (now (out .entry))) ⌝ }
 {
     let mut at = 0;
@@ -101,23 +106,25 @@ fn write_rows(p: Shape, lines: usize, table: &mut [u32], out: &mut [u8]) -> usiz
 // Prints the lines of a shape, or its refusal.
 fn write_answer(p: Shape, table: &mut [u32], out: &mut [u8]) -> usize
     requires { ⌜ (length (now table) ≡ 16000) × (22272 ≤ length (now out)) ⌝ }
-    ensures { λ r. ⌜ (r ≡ length (answerTo (Request.Asked p))) × (now (out .exit) ≡ answerTo (Request.Asked p) ++ drop r (now (out .entry))) ⌝ }
+    ensures { λ r. ⌜ (r ≡ length (answerTo (Request.Asked p))) × (now (out .exit) ≡ answerTo (Request.Asked p) ++ drop r (now (out .entry))) × (now (table .exit) ≡ workAfter (Request.Asked p) (now (table .entry))) ⌝ }
 {
     let counted = codeword_count(p, table);
     let outcome = counted.outcome;
     let count = counted.count;
     match outcome {
-        Outcome::Refused(cause) => write_refusal(number(cause), out),
+        Outcome::Refused(cause) => write_refusal(code(cause), out),
         Outcome::Granted => write_rows(p, line_count(count), table, out),
     }
 }
 
-// Prints the listing that the input asks for, and gives its length.
-pub fn listing(input: &[u8], table: &mut [u32], out: &mut [u8]) -> usize
-    requires { ⌜ (length (now table) ≡ 16000) × (22272 ≤ length (now out)) ⌝ }
-    ensures { λ r. ⌜ (r ≡ length (listingOf (now (input .entry)))) × (now (out .exit) ≡ listingOf (now (input .entry)) ++ drop r (now (out .entry))) ⌝ }
+// Prints the listing that the line asks for, and gives its length.
+pub fn listing(input: Input, table: &mut [u32], out: &mut [u8]) -> usize
+    requires { ⌜ (leftOf input ≡ 0) × (input .long ≤ 11) × (length (now table) ≡ 16000) × (22272 ≤ length (now out)) ⌝ }
+    ensures { λ r. ⌜ Lists (lineRead input) (now (table .entry)) (now (table .exit)) (now (out .entry)) (now (out .exit)) r ⌝ }
 {
-    let asked = read_request(input);
+    let bytes = input.bytes;
+    let long = input.long;
+    let asked = read_request(&bytes[..long]);
     match asked {
         Request::Malformed => write_refusal(17, out),
         Request::Asked(p) => write_answer(p, table, out),

@@ -2,10 +2,8 @@
 use mathlib.Core.Path.{sym, ap, _∙_}
 use native.Mathlib.Omega.{arith}
 use borrow.Author.Needs.{needs}
-use Rattle.refusal.specs.Code.{firstCause}
-use Rattle.counts.specs.Table.{countCauses}
 use Rattle.listing.specs.Listing.{refusalLine}
-use Rattle.listing.proofs.Answers.{refusal-answer, no-cause, rows-answer, lines-are}
+use Rattle.listing.proofs.Answers.{refusal-answer, table-left, rows-answer, granted-limits, lines-are, granted-table}
 use Rattle.listing.proofs.write_answer.Statement.{statement}
 use Rattle.listing.proofs.write_answer.Tie as tie
 
@@ -21,14 +19,9 @@ write-rows-requires c κs =
     let granted = counted .before in
     let q = granted .before .before .before .before .before in
     let p = start q .args .p in
-    let none = no-cause p _ _ _ (q .codeword-count .ensures) (start q .pre .0) (granted .enum-told .given .1) in
-    (ap (λ k. firstCause (countCauses p k)) (q .codeword-count .kept .1 .0) ∙ none, lines-are p _ _ _ (q .codeword-count .ensures) (start q .pre .0) (granted .enum-told .given .1) _ (counted .line-count .ensures), start q .pre .1)
-
-same-length : tie.Need-same-length
-same-length c = c .before .before .before .before .before .before .before .before .before .before .before .codeword-count .kept .1 .0
-
-same-length-2 : tie.Need-same-length-2
-same-length-2 c = c .before .before .write-refusal .kept .1 .0
+    let answer = q .codeword-count .ensures in
+    let told = granted .enum-told .given .1 in
+    (granted-limits p _ _ _ answer (start q .pre .0) told, granted-table p _ _ _ answer (start q .pre .0) told, lines-are p _ _ _ answer (start q .pre .0) told _ (counted .line-count .ensures), start q .pre .1)
 
 returns : tie.Need-returns
 returns c =
@@ -37,22 +30,18 @@ returns c =
     let refused = numbered .before .before in
     let q = refused .before .before .before .before .before in
     let answer = refusal-answer (start q .args .p) _ _ _ (q .codeword-count .ensures) (start q .pre .0) _ (refused .outcome .given .1) in
-    rw (answer ∙ ap refusalLine (sym (numbered .number .ensures))) (written .write-refusal .ensures)
-
-same-length-3 : tie.Need-same-length-3
-same-length-3 c =
-    let written = c .before .before .before .before in
-    written .write-rows .kept .1 .1 .0 ∙ written .before .before .before .before .before .before .before .before .before .codeword-count .kept .1 .0
-
-same-length-4 : tie.Need-same-length-4
-same-length-4 c = c .before .before .before .before .write-rows .kept .1 .1 .1 .0
+    let line = answer ∙ ap refusalLine (sym (numbered .code .ensures)) in
+    let w = written .write-refusal .ensures in
+    (rw line (w .0), rw line (w .1), table-left (start q .args .p) _ _ _ (q .codeword-count .ensures) (start q .pre .0))
 
 returns-2 : tie.Need-returns-2
 returns-2 c =
-    let written = c .before .before .before .before in
+    let written = c .before .before in
     let granted = written .before .before .before .before in
     let q = granted .before .before .before .before .before in
-    rw (rows-answer (start q .args .p) _ _ _ (q .codeword-count .ensures) (start q .pre .0) (granted .enum-told .given .1)) (written .write-rows .ensures)
+    let answer = rows-answer (start q .args .p) _ _ _ (q .codeword-count .ensures) (start q .pre .0) (granted .enum-told .given .1) in
+    let w = written .write-rows .ensures in
+    (rw answer (w .0), rw answer (w .1), table-left (start q .args .p) _ _ _ (q .codeword-count .ensures) (start q .pre .0))
 
 pub write-answer-spec : {M : Type 1} → statement M
 write-answer-spec =
@@ -65,9 +54,9 @@ write-answer-spec =
     (λ c. search needs)
     (λ c κs. search needs)
     write-rows-requires
-    same-length
-    same-length-2
+    (λ c. search needs)
+    (λ c. search needs)
     returns
-    same-length-3
-    same-length-4
+    (λ c. search needs)
+    (λ c. search needs)
     returns-2)
