@@ -9,10 +9,10 @@ use Rattle.refusal.specs.Code.{firstCause}
 use Rattle.refusal.proofs.Causes.{Numbered, without-append, none-here, none-then}
 use Rattle.counts.specs.Table.{tableCauses}
 use Rattle.counts.proofs.Room.{table-numbered}
-use Rattle.verifier.specs.Verifying.{recoveredRoot, same, causesBeforeRoot, verifyCode}
+use Rattle.verifier.specs.Verifying.{rootIn, same, causesBeforeRoot, verifyCode}
 use Rattle.verifier.specs.declared.Verifier.{Verifier}
 use Rattle.verifier.proofs.SameLaws.{same-refl, same-true}
-use Rattle.claims.specs.Orders.{JudgedByRoot}
+use Rattle.claims.specs.Judged.{JudgedByRoot}
 
 module _ (v : Verifier) (message signature work : List ℕ) where
   before-numbered : Numbered (causesBeforeRoot v message signature work)
@@ -22,16 +22,16 @@ module _ (v : Verifier) (message signature work : List ℕ) where
 
   -- the last cause: the recovered root differs
   abbrev differs : Bool
-  differs = not (same (recoveredRoot v message signature) (v .root))
+  differs = not (same (rootIn v message signature) (v .root))
 
   judged : firstCause (causesBeforeRoot v message signature work) ≡ 0 → verifyCode v message signature work ≡ firstCause ((differs, 15) ∷ [])
   unfolding verifyCode
   judged none = none-then (causesBeforeRoot v message signature work) ((differs, 15) ∷ []) none before-numbered
 
-  pub judged-by-root : JudgedByRoot v message signature work
-  judged-by-root none =
-      let to : verifyCode v message signature work ≡ 0 → recoveredRoot v message signature ≡ v .root =
-      λ accepted. same-true (recoveredRoot v message signature) (v .root) (not-false _ (none-here differs 15 [] refl (sym (judged none) ∙ accepted) .0)) in
-      let from : recoveredRoot v message signature ≡ v .root → verifyCode v message signature work ≡ 0 =
-      λ root. judged none ∙ rw (root, same-refl (v .root)) in
-      (to, from)
+pub judged-by-root : JudgedByRoot
+judged-by-root v message signature work none =
+    let to : verifyCode v message signature work ≡ 0 → rootIn v message signature ≡ v .root =
+    λ accepted. same-true (rootIn v message signature) (v .root) (not-false _ (none-here (differs v message signature work) 15 [] refl (sym (judged v message signature work none) ∙ accepted) .0)) in
+    let from : rootIn v message signature ≡ v .root → verifyCode v message signature work ≡ 0 =
+    λ root. judged v message signature work none ∙ rw (root, same-refl (v .root)) in
+    (to, from)

@@ -1,9 +1,10 @@
--- The claims proved.
+-- The laws behind the claims.
 pub mod Accepted
+pub mod Climb
+pub mod InOrder
 pub mod Judged
+pub mod LeafLaws
 pub mod Made
-pub mod OneTimeProved
 pub mod OrdersProved
-pub mod Proved
 pub mod ReadBack
-pub mod TrialValues
+pub mod Source

@@ -1,99 +1,108 @@
--- What a key issues: one signature after the other, each with the next leaf.
+-- The signature that a key makes of a message with a leaf, and that a granted call of Issue issues such a one.
 use mathlib.Core.Path.{_≡_, refl}
-use mathlib.Core.Bool.{Bool, true, false, cond}
-use mathlib.Core.List.{List, [], _∷_, _++_}
-use Prim.Native.Nat.{ℕ, _^_, _<_}
+use mathlib.Core.Bool.{Bool, true, false}
+use mathlib.Core.List.{List, [], _∷_}
+use Prim.Native.Nat.{ℕ, _+_, _^_, _<_}
+use native.Mathlib.Nat.{le-refl}
+use native.Mathlib.Omega.{arith}
 use borrow.Author.Tests.{eqb-true, leb-false}
 use lib.Dec.{ltb, leb, eqb}
-use lib.ListN.{length, take, drop}
+use lib.ListN.{length, drop}
 use lib.Seq.{take-at}
 use Rattle.refusal.specs.Code.{firstCause}
 use Rattle.refusal.proofs.Causes.{none-here, none-of-append}
 use Rattle.profile.specs.Checks.{profileCauses}
-use Rattle.profile.proofs.Limits.{profile-numbered}
+use Rattle.profile.specs.declared.Profile.{Profile}
+use Rattle.profile.proofs.Limits.{profile-numbered, profile-passed}
 use Rattle.counts.specs.Counts.{count}
 use Rattle.counts.specs.Table.{tableLength, tableCauses}
 use Rattle.counts.proofs.Room.{table-numbered}
-use Rattle.message.specs.Message.{outsideText, signatureLength}
-use Rattle.signer.specs.Signing.{spent, advanced, keyNumber, signatureOf, signCode, keyAfter, outputAfter}
+use Rattle.tweak.specs.Tweak.{firstDomain}
+use Rattle.tweak.specs.declared.Domain.{Domain}
+use Rattle.tree.specs.Tree.{rootOf}
+use Rattle.message.specs.Message.{messageNumber, outsideText, signatureLength}
+use Rattle.message.proofs.Fits.{next-fits}
+use Rattle.signer.specs.Signing.{spent, keyNumber, signatureOf, signCode, keyAfter, outputAfter}
 use Rattle.signer.specs.declared.SigningKey.{SigningKey}
 use Rattle.signer.proofs.SignatureLaws.{length-signature}
-use Rattle.claims.specs.Orders.{IssueCall, Issued, issuedBy, issued}
+use Rattle.claims.specs.Orders.{IssueCall, Issued, signedBy, issuedBy, leafOf, keyHandedBack}
+use Rattle.claims.proofs.LeafLaws.{KeyFrom, advanced-from, not-spent}
+use Rattle.claims.proofs.ReadBack.{ReadBack, read-back}
+use Rattle.claims.proofs.Source.{Rises}
 
--- what is known where a key signs a message
-pub record Signable (key : SigningKey) (r message : List ℕ) : Type 0 where
-  pub profile : firstCause (profileCauses (key .profile)) ≡ 0
-  pub text : outsideText (length message) ≡ false
-  pub left : key .next < 2 ^ key .profile .height
-  pub below : keyNumber key r message < count (key .profile .shape)
+module _ (p : Profile) (seed secret : List ℕ) where
+  abbrev d : Domain
+  d = firstDomain seed
 
-signable : (key : SigningKey) (r message work out : List ℕ) → signCode key r message work out ≡ 0 → Signable key r message
-unfolding signCode tableCauses spent
-signable key r message work out e =
-    let p = key .profile in
-    let number : List (Bool × ℕ) = (leb (count (p .shape)) (keyNumber key r message), 7) ∷ [] in
-    let leaf : List (Bool × ℕ) = (leb (2 ^ p .height) (key .next), 12) ∷ number in
-    let output : List (Bool × ℕ) = (ltb (length out) (signatureLength p), 6) ∷ leaf in
-    let table = none-of-append (tableCauses p (length work)) ((outsideText (length message), 16) ∷ output) (table-numbered p (length work)) e in
-    let text = none-here (outsideText (length message)) 16 output refl (table .1) in
-    let room = none-here (ltb (length out) (signatureLength p)) 6 leaf refl (text .1) in
-    let left = none-here (leb (2 ^ p .height) (key .next)) 12 number refl (room .1) in
-    let below = none-here (leb (count (p .shape)) (keyNumber key r message)) 7 [] refl (left .1) in
-    record {
-      profile = none-of-append (profileCauses p) ((ltb (length work) (tableLength (p .shape)), 5) ∷ []) (profile-numbered p) (table .0) .0;
-      text = text .0;
-      left = leb-false (2 ^ p .height) (key .next) (left .0);
-      below = leb-false (count (p .shape)) (keyNumber key r message) (below .0);
-    }
+  -- the number of a message that a leaf signs under this profile and these seeds
+  abbrev pub numberOf : (leaf : ℕ) (r message : List ℕ) → ℕ
+  numberOf leaf r message = messageNumber p leaf r seed (rootOf d p secret) message
 
--- the signature that a key makes of a message with its next leaf
-pub record Made (key : SigningKey) (one : Issued) : Type 0 where
-  pub r : List ℕ
-  pub sixteen : length r ≡ 16
-  pub signable : Signable key r (one .message)
-  pub bytes : one .signature ≡ signatureOf (key .profile) (key .seed) (key .secret) (key .next) (keyNumber key r (one .message)) r
+  -- a signature with its message, made with a leaf
+  pub record Made (leaf : ℕ) (one : Issued) : Type 0 where
+    pub r : List ℕ
+    pub sixteen : length r ≡ 16
+    pub profile : firstCause (profileCauses p) ≡ 0
+    pub text : outsideText (length (one .message)) ≡ false
+    pub in-tree : leaf < 2 ^ p .height
+    pub below : numberOf leaf r (one .message) < count (p .shape)
+    pub bytes : one .signature ≡ signatureOf d p secret leaf (numberOf leaf r (one .message)) r
 
--- one after the other
-abbrev pub AllMade : SigningKey → List Issued → Type 0
-AllMade key [] = Unit {0}
-AllMade key (one ∷ more) = Made key one × AllMade (advanced key) more
+  module _ (leaf : ℕ) (one : Issued) (made : Made leaf one) where
+    -- its parts, read back from its bytes: a leaf below 2 ^ h has four bytes
+    pub made-read : ReadBack d p secret leaf (numberOf leaf (made .r) (one .message)) (made .r) (one .signature)
+    made-read =
+        let four : leaf < 2 ^ 32 = omega (arith, next-fits leaf (p .height) (profile-passed p (made .profile) .1) (made .in-tree)) in
+        rw (made .bytes) (read-back d p secret leaf (numberOf leaf (made .r) (one .message)) (made .r) (made .sixteen) four)
 
+  -- made with the leaf that it carries
+  abbrev pub MadeOwn : Issued → Type 0
+  MadeOwn one = Made (leafOf one) one
+
+  made-own : (leaf : ℕ) (one : Issued) → Made leaf one → MadeOwn one
+  made-own leaf one made = rw (made-read leaf one made .own-leaf) made
+
+-- what is known where a call of Issue is granted
 module _ (key : SigningKey) (c : IssueCall) where
   abbrev granted : Bool
   granted = eqb (signCode key (c .r) (c .message) (c .work) (c .out)) 0
 
-  abbrev one : Issued
-  one =
-      record {
-        signature = take (signatureLength (key .profile)) (outputAfter key (c .r) (c .message) (c .work) (c .out));
-        message = c .message;
-      }
-
-  made : granted ≡ true → Made key one
-  unfolding outputAfter
-  made e =
-      let made-bytes = signatureOf (key .profile) (key .seed) (key .secret) (key .next) (keyNumber key (c .r) (c .message)) (c .r) in
+  issue-made : granted ≡ true → Made (key .profile) (key .seed) (key .secret) (key .next) (signedBy key c)
+  unfolding signCode tableCauses signedBy outputAfter keyNumber
+  issue-made e =
+      let p = key .profile in
+      let n = keyNumber key (c .r) (c .message) in
+      let number : List (Bool × ℕ) = (leb (count (p .shape)) n, 7) ∷ [] in
+      let leaf : List (Bool × ℕ) = (spent key, 12) ∷ number in
+      let output : List (Bool × ℕ) = (ltb (length (c .out)) (signatureLength p), 6) ∷ leaf in
+      let table = none-of-append (tableCauses p (length (c .work))) ((outsideText (length (c .message)), 16) ∷ output) (table-numbered p (length (c .work))) (eqb-true _ 0 e) in
+      let text = none-here (outsideText (length (c .message))) 16 output refl (table .1) in
+      let room = none-here (ltb (length (c .out)) (signatureLength p)) 6 leaf refl (text .1) in
+      let left = none-here (spent key) 12 number refl (room .1) in
+      let below = none-here (leb (count (p .shape)) n) 7 [] refl (left .1) in
       record {
         r = c .r;
         sixteen = c .sixteen;
-        signable = signable key (c .r) (c .message) (c .work) (c .out) (eqb-true _ 0 e);
+        profile = none-of-append (profileCauses p) ((ltb (length (c .work)) (tableLength (p .shape)), 5) ∷ []) (profile-numbered p) (table .0) .0;
+        text = text .0;
+        in-tree = not-spent key (left .0);
+        below = leb-false (count (p .shape)) n (below .0);
         bytes =
             rw e
-            (take-at made-bytes (drop (signatureLength (key .profile)) (c .out)) (signatureLength (key .profile))
-            (length-signature (key .profile) (key .seed) (key .secret) (key .next) (keyNumber key (c .r) (c .message)) (c .r) (c .sixteen)));
+            (take-at (signatureOf (firstDomain (key .seed)) p (key .secret) (key .next) n (c .r)) (drop (signatureLength p) (c .out)) (signatureLength p)
+            (length-signature (firstDomain (key .seed)) p (key .secret) (key .next) n (c .r) (c .sixteen)));
       }
 
-  -- a call, and the others with the key that it hands back
-  made-then : (calls : List IssueCall) → ((after : SigningKey) → AllMade after (issued after calls))
-      → AllMade key (issuedBy key c ++ issued (keyAfter key (c .r) (c .message) (c .work) (c .out)) calls)
-  unfolding issuedBy keyAfter
-  made-then calls next = by granted refl
-    where
-      by : (g : Bool) → granted ≡ g → AllMade key (cond g (one ∷ []) [] ++ issued (cond g (advanced key) key) calls)
-      by true e = (made e, next (advanced key))
-      by false e = next key
-
-pub issued-made : (key : SigningKey) (calls : List IssueCall) → AllMade key (issued key calls)
-unfolding issued
-issued-made key [] = tt
-issued-made key (c ∷ calls) = made-then key c calls (λ after. issued-made after calls)
+  -- a call of Issue, as a source of leaves
+  module _ (p : Profile) (seed secret : List ℕ) where
+    pub issue-step : (n : ℕ) → KeyFrom p seed secret key n → (m : ℕ) × Rises leafOf (MadeOwn p seed secret) n (issuedBy key c) m × KeyFrom p seed secret (keyHandedBack key c) m
+    unfolding issuedBy keyAfter
+    issue-step n from = by granted refl
+      where
+        by : (g : Bool) → granted ≡ g → (m : ℕ) × Rises leafOf (MadeOwn p seed secret) n (issuedBy key c) m × KeyFrom p seed secret (keyHandedBack key c) m
+        by true e =
+            let one = signedBy key c in
+            let made : Made p seed secret (key .next) one = rw (← from .same-profile, ← from .same-seed, ← from .same-secret) (issue-made e) in
+            let own = made-read p seed secret (key .next) one made .own-leaf in
+            rw e (key .next + 1, (omega (arith, from .reached), made-own p seed secret (key .next) one made, omega arith), advanced-from p seed secret key n from)
+        by false e = rw e (n, le-refl n, from)

@@ -1,55 +1,34 @@
 -- What demand 3 says of a list of Issue calls: no leaf twice, and all that is issued is accepted.
-use mathlib.Core.Path.{_≡_, refl, sym, _∙_}
-use mathlib.Core.List.{List, [], _∷_}
-use Prim.Native.Nat.{ℕ, zero, suc, _+_, _<_, _≤_}
-use native.Mathlib.Nat.{add-zero, le-refl, le-of-suc-le-suc}
-use native.Mathlib.Omega.{arith}
-use borrow.Author.Tests.{ne-eqb}
-use lib.ListN.{length, getD}
+use mathlib.Core.List.{List}
+use Prim.Native.Nat.{ℕ}
 use Rattle.profile.specs.declared.Profile.{Profile}
-use Rattle.message.specs.Message.{signatureLength}
-use Rattle.signer.specs.Signing.{freshKey, advanced}
+use Rattle.tweak.specs.Tweak.{firstDomain}
+use Rattle.tree.specs.Tree.{rootOf}
+use Rattle.signer.specs.Signing.{freshKey}
 use Rattle.signer.specs.declared.SigningKey.{SigningKey}
-use Rattle.verifier.specs.Verifying.{verifyCode, verifierAfter}
-use Rattle.verifier.specs.declared.Verifier.{Verifier}
-use Rattle.claims.specs.Orders.{IssueCall, Issued, issued, leaves, NoLeafTwice, Check, AllAccepted, OrdersHold, GateFigures}
-use Rattle.claims.specs.Orders.Check.{next, other}
-use Rattle.claims.proofs.Made.{AllMade, issued-made}
-use Rattle.claims.proofs.Accepted.{cabinet, made-leaf, made-accepted}
+use Rattle.verifier.specs.Verifying.{freshVerifier}
+use Rattle.claims.specs.Orders.{IssueCall, issuedBy, keyHandedBack, issued, leafOf, NoLeafTwice, Check, AllAccepted}
+use Rattle.claims.proofs.LeafLaws.{fresh-cabinet, fresh-open, KeyFrom, fresh-from}
+use Rattle.claims.proofs.Source.{Rises, none-twice, issued-rises}
+use Rattle.claims.proofs.Made.{MadeOwn, issue-step}
+use Rattle.claims.proofs.InOrder.{all-accepted}
 
--- the signatures that a key makes carry its next leaf and those behind it, in order
-leaves-rise : (key : SigningKey) (all : List Issued) → AllMade key all → (i : ℕ) → i < length (leaves all) → getD (leaves all) i 0 ≡ key .next + i
-unfolding leaves advanced
-leaves-rise key [] made i h = absurd (omega arith)
-leaves-rise key (one ∷ all) made zero h = made-leaf key one (made .0) ∙ sym (add-zero (key .next))
-leaves-rise key (one ∷ all) made (suc i) h = omega (arith, leaves-rise (advanced key) all (made .1) i (le-of-suc-le-suc h))
+module _ (p : Profile) (seed secret : List ℕ) where
+  abbrev root : List ℕ
+  root = rootOf (firstDomain seed) p secret
 
-no-leaf-twice : (key : SigningKey) (calls : List IssueCall) → NoLeafTwice (issued key calls)
-no-leaf-twice key calls i j less within same =
-    let rise = leaves-rise key (issued key calls) (issued-made key calls) in
-    omega (arith, rise i (omega arith), rise j within)
+  abbrev key : SigningKey
+  key = freshKey p seed secret
 
--- a refused check leaves the cabinet as it was
-stays : (v : Verifier) (message signature work : List ℕ) → (verifyCode v message signature work ≡ 0 → ⊥) → verifierAfter v message signature work ≡ v
-unfolding verifierAfter
-stays v message signature work refused = rw (ne-eqb (verifyCode v message signature work) 0 refused)
+  -- Issue, from a fresh key on, is a source of leaves that rise
+  rising : (calls : List IssueCall) → (m : ℕ) × Rises leafOf (MadeOwn p seed secret) 0 (issued key calls) m
+  rising calls =
+      issued-rises leafOf (MadeOwn p seed secret) keyHandedBack issuedBy (KeyFrom p seed secret) (λ key n from c. issue-step key c p seed secret n from) key 0 (fresh-from p seed secret) calls
 
-all-accepted : (checks : List Check) (key : SigningKey) (low : ℕ) (all : List Issued) → low ≤ key .next → AllMade key all
-    → AllAccepted (key .profile .shape) (cabinet key low) all checks
-unfolding AllAccepted advanced
-all-accepted [] key low all reached made = tt
-all-accepted (next work ∷ checks) key low [] reached made = all-accepted checks key low [] reached made
-all-accepted (next work ∷ checks) key low (one ∷ all) reached made = λ long.
-    let ok = made-accepted key one (made .0) low work reached long in
-    (ok .accepted, ok .steps, rw (ok .after) (all-accepted checks (advanced key) (key .next + 1) all (le-refl _) (made .1)))
-all-accepted (other message signature work ∷ checks) key low all reached made = λ refused.
-    rw (stays (cabinet key low) message signature work refused) (all-accepted checks key low all reached made)
+  pub issued-once : (calls : List IssueCall) → NoLeafTwice (issued key calls)
+  issued-once calls = let r = rising calls in none-twice leafOf (MadeOwn p seed secret) 0 (r .0) (issued key calls) (r .1)
 
-pub orders-hold : (p : Profile) (seed secret : List ℕ) (calls : List IssueCall) → OrdersHold p seed secret calls
-orders-hold p seed secret calls =
-    let key = freshKey p seed secret in
-    (no-leaf-twice key calls, λ checks. all-accepted checks key 0 (issued key calls) (le-refl 0) (issued-made key calls))
-
-pub gate-figures : GateFigures
-unfolding signatureLength
-gate-figures = (refl, refl)
+  pub issued-accepted : (calls : List IssueCall) (checks : List Check) → AllAccepted (p .shape) (freshVerifier p seed root) (issued key calls) checks
+  issued-accepted calls checks =
+      let r = rising calls in
+      all-accepted p seed secret checks (freshVerifier p seed root) 0 (r .0) (issued key calls) (fresh-cabinet p seed root) (fresh-open p seed root) (r .1)

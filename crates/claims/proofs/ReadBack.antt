@@ -7,7 +7,8 @@ use lib.Seq.{take-at, drop-at}
 use Rattle.words.specs.Bytes.{fromBytes, toBytes}
 use Rattle.words.proofs.ByteLaws.{length-toBytes, from-to-lt}
 use Rattle.profile.specs.declared.Profile.{Profile}
-use Rattle.tweak.specs.Tweak.{noLayer, noTree}
+use Rattle.tweak.specs.declared.Domain.{Domain}
+use Rattle.chains.specs.Leaves.{leafKeyOf}
 use Rattle.one_time.specs.Operations.{revealedBy}
 use Rattle.one_time.proofs.RecoverLaws.{length-revealedBy}
 use Rattle.tree.specs.Tree.{path}
@@ -27,35 +28,36 @@ module _ (a b c d : List ℕ) (four : length a ≡ 4) (sixteen : length b ≡ 16
   second : take 16 (drop 4 (a ++ b ++ c ++ d)) ≡ b
   second = simp append-assoc (ap (take 16) (drop-at a (b ++ (c ++ d)) 4 four) ∙ take-at b (c ++ d) 16 sixteen)
 
-  third-on : drop 20 (a ++ b ++ c ++ d) ≡ c ++ d
-  third-on = rw (append-assoc (a ++ b) c d) (drop-at (a ++ b) (c ++ d) 20 twenty)
+  third : (n : ℕ) → length c ≡ n → take n (drop 20 (a ++ b ++ c ++ d)) ≡ c
+  third n long = rw (append-assoc (a ++ b) c d) (ap (take n) (drop-at (a ++ b) (c ++ d) 20 twenty) ∙ take-at c d n long)
 
   fourth : (n : ℕ) → length c ≡ n → drop (20 + n) (a ++ b ++ c ++ d) ≡ d
   fourth n long = drop-at (a ++ b ++ c) d (20 + n) (length-append (a ++ b) c ∙ rw (twenty, long))
 
-module _ (p : Profile) (seed secret : List ℕ) (leaf n : ℕ) where
+module _ (d : Domain) (p : Profile) (secret : List ℕ) (leaf n : ℕ) where
   abbrev values : List ℕ
-  values = revealedBy p seed secret leaf n
+  values = revealedBy d p secret leaf n
 
   abbrev siblings : List ℕ
-  siblings = path seed secret noLayer noTree (p .shape .width) (p .shape .chains) (p .height) leaf
+  siblings = path d (leafKeyOf d p secret) (p .height) leaf
 
   -- what the checker reads
   pub record ReadBack (r signature : List ℕ) : Type 0 where
     pub size : length signature ≡ signatureLength p
     pub own-leaf : leafIn signature ≡ leaf
     pub own-random : randomIn signature ≡ r
-    pub own-values : valuesIn signature ≡ values ++ siblings
+    pub own-values : valuesIn p signature ≡ values
     pub own-siblings : siblingsIn p signature ≡ siblings
 
-  pub read-back : (r : List ℕ) → length r ≡ 16 → leaf < 2 ^ 32 → ReadBack r (signatureOf p seed secret leaf n r)
+  pub read-back : (r : List ℕ) → length r ≡ 16 → leaf < 2 ^ 32 → ReadBack r (signatureOf d p secret leaf n r)
   unfolding leafIn randomIn valuesIn siblingsIn signatureOf
   read-back r sixteen low =
       let four = length-toBytes 4 leaf in
+      let long = length-revealedBy d p secret leaf n in
       record {
-        size = length-signature p seed secret leaf n r sixteen;
+        size = length-signature d p secret leaf n r sixteen;
         own-leaf = ap fromBytes (first (toBytes 4 leaf) r values siblings four sixteen) ∙ from-to-lt 4 leaf low;
         own-random = second (toBytes 4 leaf) r values siblings four sixteen;
-        own-values = third-on (toBytes 4 leaf) r values siblings four sixteen;
-        own-siblings = fourth (toBytes 4 leaf) r values siblings four sixteen (16 * p .shape .chains) (length-revealedBy p seed secret leaf n);
+        own-values = third (toBytes 4 leaf) r values siblings four sixteen (16 * p .shape .chains) long;
+        own-siblings = fourth (toBytes 4 leaf) r values siblings four sixteen (16 * p .shape .chains) long;
       }

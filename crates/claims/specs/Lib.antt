@@ -1,5 +1,10 @@
--- The claims of demand 3, what the operations give together, and the starred trial values of document 01.
-pub mod Claims
+-- The claims of documents 00 and 01 over the definitions of several crates: each a closed statement, held by a function of src/, which holds those of the crates
+-- below too.
+pub mod Demand3
+pub mod Gate
+pub mod Hashing
+pub mod Judged
 pub mod OneTime
 pub mod Orders
+pub mod Rows
 pub mod Trial

@@ -1,20 +1,19 @@
 -- Demand 3, its last sentences: one claim about a whole list of Issue calls and the checks of what they issued.
 use mathlib.Core.Path.{_≡_}
-use mathlib.Core.Logic.{_↔_}
 use mathlib.Core.Bool.{cond}
-use mathlib.Core.List.{List, [], _∷_, _++_}
+use mathlib.Core.List.{List, [], _∷_, _++_, map}
 use Prim.Native.Nat.{ℕ, _-_, _*_, _≤_, _<_}
 use lib.Dec.{eqb}
 use lib.ListN.{length, getD, take}
-use Rattle.refusal.specs.Code.{firstCause}
 use Rattle.profile.specs.declared.Shape.{Shape}
 use Rattle.profile.specs.declared.Profile.{Profile}
 use Rattle.counts.specs.Table.{tableLength}
+use Rattle.tweak.specs.Tweak.{firstDomain}
 use Rattle.tree.specs.Tree.{rootOf}
 use Rattle.message.specs.Message.{signatureLength}
 use Rattle.signer.specs.Signing.{freshKey, signCode, keyAfter, outputAfter}
 use Rattle.signer.specs.declared.SigningKey.{SigningKey}
-use Rattle.verifier.specs.Verifying.{freshVerifier, leafIn, recoveredRoot, causesBeforeRoot, verifyCode, verifierAfter, stepsMade}
+use Rattle.verifier.specs.Verifying.{freshVerifier, leafIn, verifyCode, verifierAfter, stepsMade}
 use Rattle.verifier.specs.declared.Verifier.{Verifier}
 
 -- "A list holds any Issue calls, each with any R, text, work slice and output slice"
@@ -32,29 +31,39 @@ pub record Issued : Type 0 where
   pub message : List ℕ
 
 -- "An issued signature is the first 20 + 16 × l + 16 × h output bytes of a granted call, as that call left them; its own text is that call's text"
-unfoldable pub issuedBy : SigningKey → IssueCall → List Issued
-issuedBy key c =
-    cond (eqb (signCode key (c .r) (c .message) (c .work) (c .out)) 0)
-    (record {
+unfoldable pub signedBy : SigningKey → IssueCall → Issued
+signedBy key c =
+    record {
       signature = take (signatureLength (key .profile)) (outputAfter key (c .r) (c .message) (c .work) (c .out));
       message = c .message;
-    } ∷ [])
-    []
+    }
+
+-- what a call issues, if it is granted
+unfoldable pub issuedBy : SigningKey → IssueCall → List Issued
+issuedBy key c = cond (eqb (signCode key (c .r) (c .message) (c .work) (c .out)) 0) (signedBy key c ∷ []) []
+
+-- what a list of calls issues, the first at a state and each other at the state that the one before handed back, with `after` and `issues` for what a call
+-- hands back and issues
+unfoldable pub issuedAlong : {State Call Item : Type 0} → (after : State → Call → State) (issues : State → Call → List Item) → State → List Call → List Item
+issuedAlong after issues s [] = []
+issuedAlong after issues s (c ∷ calls) = issues s c ++ issuedAlong after issues (after s c) calls
+
+abbrev pub keyHandedBack : SigningKey → IssueCall → SigningKey
+keyHandedBack key c = keyAfter key (c .r) (c .message) (c .work) (c .out)
 
 -- "The first gets a fresh key of any profile and seeds, each other the key that the one before handed back"
-unfoldable pub issued : SigningKey → List IssueCall → List Issued
-issued key [] = []
-issued key (c ∷ calls) = issuedBy key c ++ issued (keyAfter key (c .r) (c .message) (c .work) (c .out)) calls
+abbrev pub issued : SigningKey → List IssueCall → List Issued
+issued key calls = issuedAlong keyHandedBack issuedBy key calls
 
--- the leaves that the signatures carry, read from their bytes
-unfoldable pub leaves : List Issued → List ℕ
-leaves [] = []
-leaves (one ∷ more) = leafIn (one .signature) ∷ leaves more
+-- the leaf that a signature carries, read from its bytes
+abbrev pub leafOf : Issued → ℕ
+leafOf one = leafIn (one .signature)
 
 -- "no two of the signatures issued carry the same leaf"
 abbrev pub NoLeafTwice : List Issued → Type 0
 NoLeafTwice signatures =
-    (i j : ℕ) → i < j → j < length (leaves signatures) → getD (leaves signatures) i 0 ≡ getD (leaves signatures) j 0 → ⊥
+    let leaves = map leafOf signatures in
+    (i j : ℕ) → i < j → j < length leaves → getD leaves i 0 ≡ getD leaves j 0 → ⊥
 
 -- a call of Check: of the next signature issued, with its own text and a work slice, or any other
 pub data Check : Type 0 where
@@ -75,22 +84,9 @@ AllAccepted p v (one ∷ signatures) (next work ∷ checks) =
 AllAccepted p v signatures (other message signature work ∷ checks) =
     (verifyCode v message signature work ≡ 0 → ⊥) → AllAccepted p (verifierAfter v message signature work) signatures checks
 
--- what demand 3 says of a list: "by a cabinet that starts fresh with that key's profile, public seed and root"
-abbrev pub OrdersHold : Profile → (seed secret : List ℕ) → List IssueCall → Type 0
-OrdersHold p seed secret calls =
-    NoLeafTwice (issued (freshKey p seed secret) calls)
-    × ((checks : List Check) → AllAccepted (p .shape) (freshVerifier p seed (rootOf p seed secret)) (issued (freshKey p seed secret) calls) checks)
-
--- "A well-formed signature is judged by its root": past the other causes, it is accepted exactly when the recovered root is the cabinet's
-abbrev pub JudgedByRoot : Verifier → (message signature work : List ℕ) → Type 0
-JudgedByRoot v message signature work =
-    firstCause (causesBeforeRoot v message signature work) ≡ 0
-    → (verifyCode v message signature work ≡ 0) ↔ (recoveredRoot v message signature ≡ v .root)
-
--- "The gate profile is l = 34, w = 16, s = 255, h = 10"
-abbrev pub gate : Profile
-gate = record { shape = record { chains = 34; width = 16; sum = 255 }; height = 10 }
-
--- the price list: "724 bytes an order, 255 chain steps a check, for every order a key can sign"
-abbrev pub GateFigures : Type 0
-GateFigures = (signatureLength gate ≡ 724) × (gate .shape .chains * (gate .shape .width - 1) - gate .shape .sum ≡ 255)
+-- what demand 3 says of a list, for every list: "by a cabinet that starts fresh with that key's profile, public seed and root"
+abbrev pub OrdersHold : Type 0
+OrdersHold =
+    (p : Profile) (seed secret : List ℕ) (calls : List IssueCall)
+    → NoLeafTwice (issued (freshKey p seed secret) calls)
+    × ((checks : List Check) → AllAccepted (p .shape) (freshVerifier p seed (rootOf (firstDomain seed) p secret)) (issued (freshKey p seed secret) calls) checks)

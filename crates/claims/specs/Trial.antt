@@ -1,15 +1,16 @@
 -- Document 01, Trial values: those marked *, each as what the definitions give and what the document says.
-use mathlib.Core.List.{List, [], _∷_}
+use mathlib.Core.Path.{_≡_}
+use mathlib.Core.List.{List, [], _∷_, map}
 use Prim.Native.Nat.{ℕ}
 use lib.ListN.{replicate}
-use Rattle.refusal.specs.Code.{firstCause}
-use Rattle.profile.specs.Checks.{shapeCauses}
 use Rattle.profile.specs.declared.Shape.{Shape}
 use Rattle.counts.specs.Counts.{count}
+use Rattle.counts.specs.Table.{countCode}
 use Rattle.codewords.specs.Codeword.{codeword, rank, stepsLeft}
 use Rattle.codewords.specs.Operations.{unrankCode, rankCode}
 
-abbrev pub shape : (l w s : ℕ) → Shape
+-- l chains of width w with sum s
+abbrev shape : (l w s : ℕ) → Shape
 shape l w s = record { chains = l; width = w; sum = s }
 
 -- a row for an output, and a work slice that is long enough for the shapes below
@@ -17,8 +18,9 @@ abbrev row3 : List ℕ
 row3 = replicate 3 0
 
 abbrev work : List ℕ
-work = replicate 80 0
+work = replicate 160 0
 
+-- what the definitions give, and what the document says
 abbrev pub Value : Type 0
 Value = record { given : List ℕ; said : List ℕ }
 
@@ -31,8 +33,8 @@ trials =
     ∷ record { given = codeword 3 3 3 6; said = 2 ∷ 1 ∷ 0 ∷ [] }
     ∷ record { given = rank 3 3 (2 ∷ 0 ∷ 1 ∷ []) ∷ []; said = 5 ∷ [] }
     ∷ record { given = unrankCode (shape 3 3 3) 7 work row3 ∷ []; said = 7 ∷ [] }
-    ∷ record { given = rankCode (shape 3 3 3) work (1 ∷ 2 ∷ 1 ∷ []) ∷ []; said = 10 ∷ [] }
-    ∷ record { given = rankCode (shape 3 3 3) work (3 ∷ 0 ∷ 0 ∷ []) ∷ []; said = 9 ∷ [] }
+    ∷ record { given = rankCode (shape 3 3 3) (1 ∷ 2 ∷ 1 ∷ []) work ∷ []; said = 10 ∷ [] }
+    ∷ record { given = rankCode (shape 3 3 3) (3 ∷ 0 ∷ 0 ∷ []) work ∷ []; said = 9 ∷ [] }
     -- l = 1, w = 16, s = 15: one row, no step
     ∷ record { given = count (shape 1 16 15) ∷ []; said = 1 ∷ [] }
     ∷ record { given = codeword 16 1 15 0; said = 15 ∷ [] }
@@ -43,5 +45,9 @@ trials =
     ∷ record { given = codeword 2 4 2 3; said = 1 ∷ 0 ∷ 0 ∷ 1 ∷ [] }
     -- l = 3, w = 3: the largest sum, and one more
     ∷ record { given = count (shape 3 3 6) ∷ []; said = 1 ∷ [] }
-    ∷ record { given = firstCause (shapeCauses (shape 3 3 7)) ∷ []; said = 3 ∷ [] }
+    ∷ record { given = countCode (shape 3 3 7) work ∷ []; said = 3 ∷ [] }
     ∷ []
+
+-- each is what the document says
+abbrev pub TrialValues : Type 0
+TrialValues = map (λ (v : Value). v .given) trials ≡ map (λ (v : Value). v .said) trials

@@ -1,1 +1,85 @@
-// What demand 3 claims, over the definitions that the contracts cite. There is no code here.
+// The claims, over the definitions that the contracts cite. A function here does nothing: its contract is the claim, so that the crate is proved only with
+// the claim as it is stated, in specs/ here or of the crate that has the definitions.
+ghost use Rattle.sha256_block.specs.Constants.{RootWords};
+ghost use Rattle.sha256.specs.Running.{RunningHash};
+ghost use Rattle.counts.specs.Counts.{CountsFit};
+ghost use Rattle.codewords.specs.Operations.{RankUnrank};
+ghost use Rattle.listing.specs.Listing.{FirstEleven, Example};
+ghost use Rattle.sheet.specs.Sheet.{Exact};
+ghost use Rattle.claims.specs.Demand3.{Demand3};
+ghost use Rattle.claims.specs.Gate.{GateFigures};
+ghost use Rattle.claims.specs.Hashing.{AbcDigest};
+ghost use Rattle.claims.specs.Judged.{JudgedByRoot};
+ghost use Rattle.claims.specs.OneTime.{RecoversRevealed, ClimbsToRoot};
+ghost use Rattle.claims.specs.Rows.{Ordered, RankExact};
+ghost use Rattle.claims.specs.Trial.{TrialValues};
+
+// Demand 3.
+pub fn demand_3()
+    ensures { λ _. ⌜ Demand3 ⌝ }
+{}
+
+// Numbers and their rows.
+pub fn rows_in_order()
+    ensures { λ _. ⌜ Ordered ⌝ }
+{}
+
+pub fn rank_exact()
+    ensures { λ _. ⌜ RankExact ⌝ }
+{}
+
+pub fn rank_unrank()
+    ensures { λ _. ⌜ RankUnrank ⌝ }
+{}
+
+pub fn counts_fit()
+    ensures { λ _. ⌜ CountsFit ⌝ }
+{}
+
+// Signing and checking.
+pub fn judged_by_root()
+    ensures { λ _. ⌜ JudgedByRoot ⌝ }
+{}
+
+pub fn gate_figures()
+    ensures { λ _. ⌜ GateFigures ⌝ }
+{}
+
+pub fn recovers_revealed()
+    ensures { λ _. ⌜ RecoversRevealed ⌝ }
+{}
+
+pub fn climbs_to_root()
+    ensures { λ _. ⌜ ClimbsToRoot ⌝ }
+{}
+
+// SHA-256.
+pub fn root_words()
+    ensures { λ _. ⌜ RootWords ⌝ }
+{}
+
+pub fn abc_digest()
+    ensures { λ _. ⌜ AbcDigest ⌝ }
+{}
+
+pub fn running_hash()
+    ensures { λ _. ⌜ RunningHash ⌝ }
+{}
+
+// The sheet and the listing.
+pub fn sheets_exact()
+    ensures { λ _. ⌜ Exact ⌝ }
+{}
+
+pub fn first_eleven()
+    ensures { λ _. ⌜ FirstEleven ⌝ }
+{}
+
+pub fn listing_example()
+    ensures { λ _. ⌜ Example ⌝ }
+{}
+
+// The trial values.
+pub fn trial_values()
+    ensures { λ _. ⌜ TrialValues ⌝ }
+{}

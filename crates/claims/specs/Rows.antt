@@ -1,4 +1,4 @@
--- Demand 3, its first two sentences, and the order of the rows (document 01, Counts and rows).
+-- What documents 00 and 01 claim of numbers and their rows.
 use mathlib.Core.Path.{_≡_}
 use mathlib.Core.Logic.{_↔_}
 use mathlib.Core.List.{List}
@@ -12,23 +12,23 @@ use Rattle.codewords.specs.Operations.{rowOf, rankCode}
 
 -- "Under one profile, two message numbers below the count are equal exactly when no chain in the first one's signature stands
 -- higher than the same chain in the second's": a chain stands at the length that the number's row has at the chain's place
-abbrev pub Incomparable : Shape → Type 0
-Incomparable p =
-    (m n : ℕ) → m < count p → n < count p
+abbrev pub Incomparable : Type 0
+Incomparable =
+    (p : Shape) (m n : ℕ) → m < count p → n < count p
     → (m ≡ n) ↔ ((c : ℕ) → c < p .chains → getD (rowOf p m) c 0 ≤ getD (rowOf p n) c 0)
 
 -- "Every row of l lengths from 0 to w − 1 with sum s belongs to exactly one number below the count"
-abbrev pub Complete : Shape → Type 0
-Complete p =
-    (row : List ℕ) → IsCodeword (p .width) (p .chains) (p .sum) row
+abbrev pub Complete : Type 0
+Complete =
+    (p : Shape) (row : List ℕ) → IsCodeword (p .width) (p .chains) (p .sum) row
     → (n : ℕ) × (n < count p) × (rowOf p n ≡ row) × ((m : ℕ) → m < count p → rowOf p m ≡ row → m ≡ n)
 
 -- "Rows of l lengths with sum s are numbered from 0 in dictionary order, first length most significant"
-abbrev pub Ordered : Shape → Type 0
-Ordered p = (m n : ℕ) → m < count p → n < count p → (m < n) ↔ Before (rowOf p m) (rowOf p n)
+abbrev pub Ordered : Type 0
+Ordered = (p : Shape) (m n : ℕ) → m < count p → n < count p → (m < n) ↔ Before (rowOf p m) (rowOf p n)
 
 -- "So, past 5, refused exactly if no number has that row": Gather, where 1, 2, 3 and 5 refuse nothing
-abbrev pub RankExact : Shape → Type 0
-RankExact p =
-    (work row : List ℕ) → countCode p work ≡ 0
-    → (rankCode p work row ≡ 0) ↔ ((n : ℕ) × (n < count p) × (rowOf p n ≡ row))
+abbrev pub RankExact : Type 0
+RankExact =
+    (p : Shape) (row work : List ℕ) → countCode p work ≡ 0
+    → (rankCode p row work ≡ 0) ↔ ((n : ℕ) × (n < count p) × (rowOf p n ≡ row))

@@ -1,0 +1,7 @@
+-- The climb along a leaf's siblings ends at the root.
+use Rattle.claims.proofs.Climb.{climbs}
+use Rattle.claims.proofs.climbs_to_root.Statement.{statement}
+use Rattle.claims.proofs.climbs_to_root.Tie as tie
+
+pub climbs-to-root-spec : {M : Type 1} → statement M
+climbs-to-root-spec = tie.close (tie.spec (λ c. climbs))
