@@ -1,4 +1,4 @@
--- How an operation's contract becomes that of its call: the call names its profile by numbers, returns the answer's number and writes its values.
+-- How an operation's contract becomes that of its call: the call names its profile by numbers, returns the answer's code and writes its values.
 use mathlib.Core.Path.{_≡_, refl, sym, subst}
 use mathlib.Core.Bool.{Bool, true, false, cond}
 use mathlib.Core.List.{List}
@@ -26,7 +26,7 @@ use Rattle.verifier.specs.declared.Verifier.{Verifier}
 use Rattle.verifier.specs.declared.Verdict.{Verdict}
 use Rattle.sheet.specs.Operation.{ReadsSheet}
 use Rattle.sheet.specs.declared.SheetRead.{SheetRead}
-use Rattle.zarosnik.specs.Interface.{keyOf, verifierOf, CountCall, UnrankCall, RankCall, LeafKeyCall, RootCall, RevealCall, RecoverCall, SignCall, VerifyCall, ReadSheetCall}
+use Rattle.zarosnik.specs.Interface.{signingKeyOf, verifierOf, CountCall, UnrankCall, RankCall, LeafKeyCall, RootCall, RevealCall, RecoverCall, SignCall, VerifyCall, ReadSheetCall}
 
 -- of a shape
 module _ {p q : Shape} (e : p ≡ q) {r : ℕ} {work work′ : List ℕ} where
@@ -38,16 +38,16 @@ module _ {p q : Shape} (e : p ≡ q) {r : ℕ} {work work′ : List ℕ} where
   unrank-call {number} {row} {row′} {a} h n =
       subst (λ (s : Shape). UnrankCall s number work row work′ row′ r) e (record { answer = a; unranks = h; returned = n })
 
-  pub rank-call : {row : List ℕ} {a : Ranked} → Ranks p work row work′ a → r ≡ outcomeCode (a .outcome) → RankCall q row work work′ (a .number) r
+  pub rank-call : {row : List ℕ} {a : Ranked} → Ranks p row work work′ a → r ≡ outcomeCode (a .outcome) → RankCall q row work work′ (a .number) r
   rank-call {row} {a} h n =
       subst (λ (s : Shape). RankCall s row work work′ (a .number) r) e (record { answer = a; ranks = h; returned = n; written = refl })
 
 -- of the key that comes back only the next leaf can differ
 only-next : (key after : SigningKey) (granted : Bool) → after ≡ cond granted (advanced key) key
-    → after ≡ keyOf (key .profile) (key .seed) (key .secret) (after .next)
+    → after ≡ signingKeyOf (key .profile) (key .seed) (key .secret) (after .next)
 unfolding advanced
-only-next key after true e = subst (λ (k : SigningKey). k ≡ keyOf (key .profile) (key .seed) (key .secret) (k .next)) (sym e) refl
-only-next key after false e = subst (λ (k : SigningKey). k ≡ keyOf (key .profile) (key .seed) (key .secret) (k .next)) (sym e) refl
+only-next key after true e = subst (λ (k : SigningKey). k ≡ signingKeyOf (key .profile) (key .seed) (key .secret) (k .next)) (sym e) refl
+only-next key after false e = subst (λ (k : SigningKey). k ≡ signingKeyOf (key .profile) (key .seed) (key .secret) (k .next)) (sym e) refl
 
 -- of the cabinet that comes back only the lowest leaf can differ
 only-lowest : (v after : Verifier) (leaf : ℕ) (granted : Bool) → after ≡ cond granted (taken v leaf) v
@@ -90,12 +90,12 @@ module _ {p q : Profile} (e : p ≡ q) {r : ℕ} where
       (record { answer = a; reads = h; returned = n; length-written = refl; line-written = refl })
 
   pub sign-call : {seed secret : List ℕ} {next : ℕ} {random message work out work′ out′ : List ℕ} {a : Signed}
-      → Signs (keyOf p seed secret next) random message work out work′ out′ a → r ≡ outcomeCode (a .outcome)
-      → SignCall (keyOf q seed secret next) random message work out work′ out′ (a .key .next) r
+      → Signs (signingKeyOf p seed secret next) random message work out work′ out′ a → r ≡ outcomeCode (a .outcome)
+      → SignCall (signingKeyOf q seed secret next) random message work out work′ out′ (a .key .next) r
   unfolding keyAfter
   sign-call {seed} {secret} {next} {random} {message} {work} {out} {work′} {out′} {a} h n =
-      let key : SigningKey = keyOf p seed secret next in
-      subst (λ (s : Profile). SignCall (keyOf s seed secret next) random message work out work′ out′ (a .key .next) r) e
+      let key : SigningKey = signingKeyOf p seed secret next in
+      subst (λ (s : Profile). SignCall (signingKeyOf s seed secret next) random message work out work′ out′ (a .key .next) r) e
       (record {
         answer = a;
         signs = h;

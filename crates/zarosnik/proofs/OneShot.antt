@@ -20,13 +20,13 @@ module _ (bytes : List ℕ) (added : Added) (adds : Adds started bytes added) wh
   pub refused-digest : (cause : Refusal) → added .outcome ≡ Refused cause
       → replicate 32 0 ≡ cond (eqb (addCode started bytes) 0) (digest bytes) (replicate 32 0)
   refused-digest cause q =
-      sym (ap (λ (test : Bool). cond test (digest bytes) (replicate 32 0)) (refused-number (added .outcome) _ cause (adds .number) q))
+      sym (ap (λ (test : Bool). cond test (digest bytes) (replicate 32 0)) (refused-number (added .outcome) _ cause (adds .code) q))
 
   pub granted-digest : added .outcome ≡ Granted
       → wordBytes (finished (added .hash) .words) ≡ cond (eqb (addCode started bytes) 0) (digest bytes) (replicate 32 0)
   unfolding addAll joined
   granted-digest q =
-      let granted : addCode started bytes ≡ 0 = sym (adds .number) ∙ ap outcomeCode q in
+      let granted : addCode started bytes ≡ 0 = sym (adds .code) ∙ ap outcomeCode q in
       rw (granted, adds .state, running-hash (bytes ∷ []) (granted, tt), append-nil)
 
 pub hash-call : {bytes digest′ : List ℕ} {s : Hash} {added : Added} {r : ℕ} → s ≡ started → Adds s bytes added
@@ -34,4 +34,4 @@ pub hash-call : {bytes digest′ : List ℕ} {s : Hash} {added : Added} {r : ℕ
     → r ≡ outcomeCode (added .outcome) → HashCall bytes digest′ r
 hash-call {bytes} {added = added} e h handed n =
     let adds : Adds started bytes added = subst (λ (s : Hash). Adds s bytes added) e h in
-    record { returned = n ∙ adds .number; written = handed bytes adds }
+    record { returned = n ∙ adds .code; written = handed bytes adds }

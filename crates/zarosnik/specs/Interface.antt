@@ -1,5 +1,5 @@
 -- What each function of the C interface returns, writes through its pointers and leaves in the lent slices: the contract of its
--- operation, carried over. A record names the operation's answer, says that the operation's own contract holds of it, that its number
+-- operation, carried over. A record names the operation's answer, says that the operation's own contract holds of it, that its code
 -- is what the call returns, and that its values are what the call writes.
 use mathlib.Core.Path.{_≡_}
 use mathlib.Core.Bool.{cond}
@@ -40,13 +40,13 @@ abbrev pub profileOf : (l w s h : ℕ) → Profile
 profileOf l w s h = record { shape = shapeOf l w s; height = h }
 
 -- a key and a cabinet by their fields
-abbrev pub keyOf : Profile → (seed secret : List ℕ) (next : ℕ) → SigningKey
-keyOf p seed secret next = record { profile = p; seed = seed; secret = secret; next = next }
+abbrev pub signingKeyOf : Profile → (seed secret : List ℕ) (next : ℕ) → SigningKey
+signingKeyOf p seed secret next = record { profile = p; seed = seed; secret = secret; next = next }
 
 abbrev pub verifierOf : Profile → (seed root : List ℕ) (lowest : ℕ) → Verifier
 verifierOf p seed root lowest = record { profile = p; seed = seed; root = root; lowest = lowest }
 
--- "Hash, as start, add and finish", in one call: add's number on a started hash; granted, the digest, else 32 zero bytes
+-- "Hash, as start, add and finish", in one call: add's code on a started hash; granted, the digest, else 32 zero bytes
 pub record HashCall (bytes digest′ : List ℕ) (r : ℕ) : Type 0 where
   pub returned : r ≡ addCode started bytes
   pub written : digest′ ≡ cond (eqb (addCode started bytes) 0) (digest bytes) (replicate 32 0)
@@ -67,7 +67,7 @@ pub record UnrankCall (p : Shape) (number work row work′ row′ : List ℕ) (r
 -- Gather
 pub record RankCall (p : Shape) (row work work′ number′ : List ℕ) (r : ℕ) : Type 0 where
   pub answer : Ranked
-  pub ranks : Ranks p work row work′ answer
+  pub ranks : Ranks p row work work′ answer
   pub returned : r ≡ outcomeCode (answer .outcome)
   pub written : number′ ≡ answer .number
 
@@ -100,17 +100,17 @@ pub record RecoverCall (p : Profile) (seed : List ℕ) (leaf : ℕ) (number valu
   pub steps-written : steps′ ≡ answer .steps
 
 -- Issue: the next leaf is written back, and the rest of the key that comes back is the rest of the key given
-pub record SignCall (key : SigningKey) (r message work out work′ out′ : List ℕ) (next′ number : ℕ) : Type 0 where
+pub record SignCall (key : SigningKey) (r message work out work′ out′ : List ℕ) (next′ code : ℕ) : Type 0 where
   pub answer : Signed
   pub signs : Signs key r message work out work′ out′ answer
-  pub returned : number ≡ outcomeCode (answer .outcome)
-  pub key-kept : answer .key ≡ keyOf (key .profile) (key .seed) (key .secret) next′
+  pub returned : code ≡ outcomeCode (answer .outcome)
+  pub key-kept : answer .key ≡ signingKeyOf (key .profile) (key .seed) (key .secret) next′
 
 -- Check: the lowest leaf is written back, and the rest of the cabinet that comes back is the rest of the cabinet given
-pub record VerifyCall (v : Verifier) (message signature work work′ : List ℕ) (lowest′ steps′ number : ℕ) : Type 0 where
+pub record VerifyCall (v : Verifier) (message signature work work′ : List ℕ) (lowest′ steps′ code : ℕ) : Type 0 where
   pub answer : Verdict
   pub verifies : Verifies v message signature work work′ answer
-  pub returned : number ≡ outcomeCode (answer .outcome)
+  pub returned : code ≡ outcomeCode (answer .outcome)
   pub verifier-kept : answer .verifier ≡ verifierOf (v .profile) (v .seed) (v .root) lowest′
   pub steps-written : steps′ ≡ answer .steps
 

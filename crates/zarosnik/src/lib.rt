@@ -1,4 +1,4 @@
-// The C interface: one exported function an operation, which returns the number of the refusal, 0 for granted.
+// The C interface: one exported function an operation, which returns the code of the refusal, 0 for granted.
 // Parameters stand in the header's order. Contracts would have to quote `data` and names with an underscore, so `bytes`, `seed`, `secret`,
 // `next`, `lowest` and `written` are the header's `data`, `public_seed`, `secret_seed`, `next_leaf`, `lowest_leaf` and `message_written`.
 ghost use mathlib.Core.Path.{_≡_};
@@ -10,7 +10,7 @@ ghost use lib.ListN.{replicate};
 ghost use Rattle.refusal.specs.Code.{outcomeCode};
 ghost use Rattle.sha256.specs.Digest.{digest as digestOf};
 ghost use Rattle.sha256.specs.Running.{started, addCode, Adds};
-ghost use Rattle.zarosnik.specs.Interface.{shapeOf, profileOf, keyOf, verifierOf, HashCall, CountCall, UnrankCall, RankCall, LeafKeyCall, RootCall, RevealCall, RecoverCall, SignCall, VerifyCall, ReadSheetCall};
+ghost use Rattle.zarosnik.specs.Interface.{shapeOf, profileOf, signingKeyOf, verifierOf, HashCall, CountCall, UnrankCall, RankCall, LeafKeyCall, RootCall, RevealCall, RecoverCall, SignCall, VerifyCall, ReadSheetCall};
 use codewords::ranking::rank;
 use codewords::unrank;
 use counts::table::codeword_count;
@@ -29,11 +29,11 @@ use tree::root;
 use verifier::Verifier;
 use verifier::verify;
 
-// The number that a call returns.
+// The code that a call returns.
 fn returned(o: Outcome) -> u32
     ensures { λ r. ⌜ r ≡ outcomeCode o ⌝ }
 {
-    refusal::outcome_number(o) as u32
+    refusal::outcome_code(o) as u32
 }
 
 fn shape(l: u8, w: u8, s: u16) -> Shape
@@ -238,7 +238,7 @@ pub extern "C" fn zarosnik_sign(
     table: &mut [u32],
     signature: &mut [u8],
 ) -> u32
-    ensures { λ number. ⌜ SignCall (keyOf (profileOf l w s h) (now (seed .entry)) (now (secret .entry)) (now (next .entry))) (now (r .entry)) (now (message .entry)) (now (table .entry)) (now (signature .entry)) (now (table .exit)) (now (signature .exit)) (now (next .exit)) number ⌝ }
+    ensures { λ code. ⌜ SignCall (signingKeyOf (profileOf l w s h) (now (seed .entry)) (now (secret .entry)) (now (next .entry))) (now (r .entry)) (now (message .entry)) (now (table .entry)) (now (signature .entry)) (now (table .exit)) (now (signature .exit)) (now (next .exit)) code ⌝ }
 {
     let key = SigningKey {
         profile: profile(l, w, s, h),
@@ -268,7 +268,7 @@ pub extern "C" fn zarosnik_verify(
     table: &mut [u32],
     steps: &mut u32,
 ) -> u32
-    ensures { λ number. ⌜ VerifyCall (verifierOf (profileOf l w s h) (now (seed .entry)) (now (root .entry)) (now (lowest .entry))) (now (message .entry)) (now (signature .entry)) (now (table .entry)) (now (table .exit)) (now (lowest .exit)) (now (steps .exit)) number ⌝ }
+    ensures { λ code. ⌜ VerifyCall (verifierOf (profileOf l w s h) (now (seed .entry)) (now (root .entry)) (now (lowest .entry))) (now (message .entry)) (now (signature .entry)) (now (table .entry)) (now (table .exit)) (now (lowest .exit)) (now (steps .exit)) code ⌝ }
 {
     let verifier = Verifier {
         profile: profile(l, w, s, h),
