@@ -1,26 +1,101 @@
-"""The expected standard output of the program `trial`.
+"""The standard input of the program `trial`, and its expected standard output.
 
-    python3 tests/expected_trial.py                 writes it
-    python3 tests/expected_trial.py --check FILE    succeeds where FILE is exactly that
+    python3 tests/expected_trial.py DIR            writes them as DIR/stdin and DIR/stdout
+    python3 tests/expected_trial.py --check DIR    succeeds where these files are exactly those
 
-Digests of messages come from hashlib. hashlib cannot start from a given state, so the tests of
-states that a caller hands in use the SHA-256 below, written from FIPS 180-4, which is first held to
-hashlib. Counts, rows and numbers come from zarosnik.py, which is first held to lists of all rows.
-Nothing here is taken from the program or from the library under test.
+The cases are the document's trial values, the published SHA-256 examples, some values for each
+operation, and what the C interface cannot be given: states of the running hash, and numbers of a
+profile that are larger than C's types. tests/interface.py has the breadth. Nothing here is taken
+from the program or from the library under test: digests of messages come from hashlib, and all else
+from the implementations in this folder, which are first held to hashlib and to lists of all rows.
 """
 
 import hashlib
+import itertools
 import math
+import os
 import sys
+from typing import NamedTuple
 
+import signatures
 import zarosnik
-from trial_lines import MASK, main, stale_bytes, stale_words, upper_hex, work_line
+from sheets import read_sheet, right_sheet
+from signatures import GATE, Profile, SigningKey, Verifier, signature_length
+from zarosnik import number_words, table_length
 
+MASK = 0xFFFFFFFF
 MOST = 65535
 REFUSED = 18
 
+SEED = bytes(range(0x10, 0x20))
+SECRET = bytes(range(0xE0, 0xF0))
+R = bytes(range(0x71, 0x81))
 
-# FIPS 180-4.
+
+def message(length):
+    """Bytes of which no two neighbours are equal."""
+    return bytes((7 * i + i // 256 + 3) % 256 for i in range(length))
+
+
+def stale_words(count):
+    return [0xA5000000 + i for i in range(count)]
+
+
+def stale_bytes(count):
+    """No byte is a length of any width."""
+    return bytes(160 + i % 64 for i in range(count))
+
+
+# A case is what the program reads of a call: how many words are lent, the bytes of three slices, the
+# number of the operation and what else it takes; and the line that it must write. The label, which
+# begins the line, is the first of the slices.
+
+OPERATIONS = [
+    *["sha256", "count", "spread", "gather", "leaf key", "root", "reveal", "recover"],
+    *["issue", "check", "sheet"],
+]
+
+
+def word(n):
+    return n.to_bytes(4, "big")
+
+
+def words(numbers):
+    return b"".join(map(word, numbers))
+
+
+def table_sums(table):
+    """The sum of all words, and the sum of the sums up to each."""
+    sums = list(itertools.accumulate(table))
+    return f"{sum(table) & MASK} {sum(sums) & MASK}"
+
+
+class Slices(NamedTuple):
+    table: list = []
+    lent: bytes = b""
+    text: bytes = b""
+
+
+def case(operation, label, taken, told, before=Slices(), after=Slices()):
+    """What the program reads and what it writes, from what a call takes and tells, and what the
+    slices hold before and after it."""
+    label = f"{operation} {label}"
+    slices = [label.encode("ascii"), before.lent, before.text]
+    lengths = words([len(before.table), *map(len, slices)])
+    given = lengths + b"".join(slices) + word(OPERATIONS.index(operation)) + taken
+    lent = [
+        f"table {table_sums(after.table)}",
+        f"bytes {after.lent.hex()}",
+        f"text {after.text.hex()}",
+    ]
+    return given, ", ".join([f"{label}: {told}", *lent])
+
+
+def number_told(n):
+    return "number " + " ".join(map(str, number_words(n)))
+
+
+# SHA-256, by FIPS 180-4: hashlib cannot start from a given state.
 
 
 def primes(count):
@@ -70,10 +145,9 @@ def compress(state, block):
     return [(x + y) & MASK for x, y in zip(state, [a, b, c, d, e, f, g, h])]
 
 
-# The running hash: the words, a block with total modulo 64 pending bytes, and the total.
-
-
 class Hash:
+    """The running hash: the words, a block with total modulo 64 pending bytes, and the total."""
+
     def __init__(self, words=INITIAL, block=bytes(64), total=0):
         self.words, self.block, self.total = list(words), block, total
 
@@ -96,17 +170,17 @@ class Hash:
         return 0, Hash(words, rest + bytes(64 - len(rest)), self.total + len(data))
 
     def digest(self):
-        """5.1.1: the pending bytes, a one bit, zeros and the number of bits; then the words' bytes."""
+        """5.1.1: pending bytes, a one bit, zeros and the number of bits; then the words' bytes."""
         tail = self.pending() + b"\x80"
         tail += bytes(-(len(tail) + 8) % 64) + (8 * self.total).to_bytes(8, "big")
         words, _ = self.blocks(tail)
-        return b"".join(word.to_bytes(4, "big") for word in words)
+        return b"".join(map(word, words))
 
 
-def hold_to_hashlib(message):
+def hold_to_hashlib():
     """Stops unless the SHA-256 above agrees with hashlib, on a message whole and in two pieces."""
-    for n in list(range(260)) + [4095, 4096, MOST]:
-        data = message[:n]
+    for n in [*range(260), 4095, 4096, MOST]:
+        data = message(n)
         cut = n * 5 // 7
         whole = Hash().add(data)[1]
         pieces = Hash().add(data[:cut])[1].add(data[cut:])[1]
@@ -115,15 +189,17 @@ def hold_to_hashlib(message):
             sys.exit(f"the SHA-256 of this script is wrong at length {n}")
 
 
-# The lines.
-
+# The examples of FIPS 180-4, and a message of no bytes.
 EXAMPLES = [
+    "",
     "abc",
     "abcdbcdecdefdefgefghfghighijhijkijkljklmklmnlmnomnopnopq",
     "abcdefghbcdefghicdefghijdefghijkefghijklfghijklmghijklmnhijklmno"
     "ijklmnopjklmnopqklmnopqrlmnopqrsmnopqrstnopqrstu",
 ]
-LENGTHS = [0, 1, 55, 56, 63, 64, 65, 119, 120, 128, 65535]
+# Lengths of two pieces: on both sides of each place at which the padding or the block changes.
+PIECES = [(1, 0), (55, 0), (0, 56), (13, 42), (20, 43), (30, 34), (1, 64), (64, 55), (600, 200)]
+# Every byte of the block counts, also where nothing is pending.
 STALE_WORDS = [
     0x01234567,
     0x89ABCDEF,
@@ -134,189 +210,258 @@ STALE_WORDS = [
     0xFFFFFFFF,
     0x80000001,
 ]
+# A total and two pieces. At most 65,535 bytes are taken in all; a refused piece changes nothing.
+STATES = [
+    (0, 0, 0),
+    (64, 0, 0),
+    (70, 0, 0),
+    (70, 60, 0),
+    (70, 57, 70),
+    (127, 1, 63),
+    (65535, 0, 0),
+    (65535, 1, 0),
+    (65500, 35, 1),
+    (65500, 36, 35),
+    (65400, 200, 135),
+]
 
 
-def message_line(label, outcome, data):
-    return f"sha256 {label}: outcome {outcome}, digest {upper_hex(hashlib.sha256(data).digest())}"
+def hash_case(label, taken, state, one, two):
+    first, middle = state.add(one)
+    second, last = middle.add(two)
+    told = [
+        f"outcome {first}: outcome {second}",
+        f"total {last.total}",
+        f"block {last.block.hex()}",
+        f"finished: total 0, block {bytes(64).hex()}",
+        f"digest {last.digest().hex()}",
+    ]
+    slices = Slices([], one, two)
+    return case("sha256", label, words(taken), ", ".join(told), slices, slices)
 
 
-def state_line(label, state):
-    return f"sha256 {label} total {state.total}, block {upper_hex(state.block)}"
-
-
-def digest_line(label, state):
-    return f"sha256 {label} digest {upper_hex(state.digest())}"
-
-
-def added_lines(label, state, data):
-    outcome, after = state.add(data)
-    front = f"{label}: outcome {outcome},"
-    return [state_line(front, after), digest_line(front, after)]
-
-
-def hash_lines():
-    message = bytes((i * 7 + i // 256 + 3) % 256 for i in range(MOST + 1))
-    hold_to_hashlib(message)
+def hash_cases():
     for text in EXAMPLES:
-        yield message_line(text, 0, text.encode("ascii"))
-    # How a message is cut into pieces does not change its digest.
-    for how in ["one piece", "uneven pieces"]:
-        for n in LENGTHS:
-            yield message_line(f"length {n}, {how}", 0, message[:n])
-    # A refused add leaves the state as it was.
-    yield message_line("length 65535, then 1 byte", REFUSED, message[:MOST])
-    yield message_line("length 65535, then no bytes", 0, message[:MOST])
-    yield message_line("length 65536, one piece", REFUSED, b"")
-    # Every byte of the block is 0xA5, also where nothing is pending.
-    label = "stale block at total 70"
-    stale = Hash(STALE_WORDS, b"\xa5" * 64, 70)
-    yield digest_line(f"{label}:", stale)
-    yield state_line(f"{label}, finished:", Hash())
-    yield from added_lines(f"{label}, no bytes added", stale, b"")
-    yield from added_lines(f"{label}, 60 bytes added", stale, message[:60])
-    full = Hash(STALE_WORDS, b"\xa5" * 64, MOST)
-    yield from added_lines("stale block at total 65535, 1 byte added", full, message[:1])
+        yield hash_case(f'"{text}"', [0], Hash(), text.encode("ascii"), b"")
+    for one, two in PIECES:
+        data = message(one + two)
+        yield hash_case(f"{one} and {two} bytes", [0], Hash(), data[:one], data[one:])
+    for total, one, two in STATES:
+        data, state = message(one + two), Hash(STALE_WORDS, b"\xa5" * 64, total)
+        label = f"at total {total}, {one} and {two} bytes"
+        yield hash_case(label, [1, total], state, data[:one], data[one:])
 
 
-# Count, Spread and Gather. A shape is (l, w, s).
+# Profiles. The document's starred trial values are proved; here are the others, and some more.
 
-SHAPES = [
-    (1, 2, 0),
-    (1, 16, 15),
-    (3, 3, 3),
-    (3, 3, 6),
-    (4, 2, 2),
-    (17, 5, 30),
-    (40, 2, 20),
-    (40, 2, 40),
-    (40, 16, 0),
-    (40, 16, 300),
-    (40, 16, 600),
-    (34, 16, 255),
+SMALL = Profile(3, 3, 3, 2)
+WIDE = Profile(40, 16, 0, 1)
+FLAT = GATE._replace(h=0)
+# Outside the limits, by numbers that the C interface does not take.
+OUTSIDE = [
+    Profile(41, 3, 3, 2),
+    Profile(MASK, 3, 3, 2),
+    Profile(3, MASK, 3, 2),
+    Profile(3, 3, MASK, 2),
+    Profile(256 + 3, 256 + 3, 65536 + 3, 256 + 2),
+    Profile(MASK, MASK, MASK, MASK),
 ]
-
-# The shape, and how many words are lent.
-COUNT_REFUSALS = [
-    ((0, 3, 0), 80),
-    ((41, 3, 3), 840),
-    ((3, 1, 0), 20),
-    ((3, 0, 0), 20),
-    ((3, 17, 3), 80),
-    ((3, 3, 7), 160),
-    ((40, 16, 601), 123208),
-    ((3, 3, 3), 80),
-    ((3, 3, 3), 79),
-    ((3, 3, 3), 0),
-    ((34, 16, 255), 44799),
-    ((40, 16, 600), 123204),
-    ((41, 17, 700), 2),
-    ((40, 17, 700), 2),
-    ((40, 16, 700), 2),
-    ((MASK, MASK, MASK), 2),
-    ((40, MASK, MASK), 2),
-    ((40, 16, MASK), 2),
-]
-
-# The shape, the number, and how many words and bytes are lent.
-SPREAD_REFUSALS = [
-    ((41, 3, 3), 0, 840, 41),
-    ((3, 17, 3), 0, 80, 3),
-    ((3, 3, 7), 0, 160, 3),
-    ((3, 3, 3), 0, 79, 3),
-    ((3, 3, 3), 0, 80, 2),
-    ((3, 3, 3), 6, 80, 3),
-    ((3, 3, 3), 7, 80, 3),
-    ((3, 3, 3), 1 << 32, 80, 3),
-    ((3, 3, 3), 1 << 128, 80, 3),
-    ((3, 3, 3), (1 << 160) - 1, 80, 3),
-    ((41, 17, 700), 7, 2, 2),
-    ((3, 17, 700), 7, 2, 2),
-    ((3, 3, 7), 7, 2, 2),
-    ((3, 3, 3), 7, 79, 2),
-    ((3, 3, 3), 7, 80, 2),
-    ((3, 3, 3), 7, 80, 0),
-]
-
-# The shape, the row, and how many words are lent.
-GATHER_REFUSALS = [
-    ((41, 16, 0), [0] * 41, 210),
-    ((3, 17, 3), [1, 1, 1], 80),
-    ((3, 3, 7), [2, 2, 2], 160),
-    ((3, 3, 3), [1, 1, 1], 79),
-    ((3, 3, 3), [1, 1, 1], 80),
-    ((3, 3, 3), [], 80),
-    ((3, 3, 3), [1, 2], 80),
-    ((3, 3, 3), [1, 1, 1, 0], 80),
-    ((3, 3, 3), [3, 0, 0], 80),
-    ((3, 3, 3), [0, 0, 3], 80),
-    ((3, 3, 3), [1, 2, 1], 80),
-    ((3, 3, 3), [0, 2, 0], 80),
-    ((41, 17, 700), [3, 9], 2),
-    ((3, 17, 700), [3, 9], 2),
-    ((3, 3, 7), [3, 9], 2),
-    ((3, 3, 3), [3, 9], 79),
-    ((3, 3, 3), [3, 9], 80),
-    ((3, 3, 3), [0, 0, 255], 80),
-    # 600 and 88 are the same modulo 256.
-    ((40, 16, 88), [15] * 40, 18245),
-]
+OUTSIDE_HEIGHT = [Profile(3, 3, 3, 256 + 2), Profile(3, 3, 3, MASK)]
 
 
-def count_line(shape, words):
-    outcome, count, work = zarosnik.count(*shape, stale_words(words))
-    return work_line("count", shape, [f"{words} words"], outcome, f"count {count:040X}", work)
+GATE_COUNT = zarosnik.ways(GATE.w, GATE.l, GATE.s)
 
 
-def spread_line(shape, number, words, size):
-    outcome, row, work = zarosnik.spread(*shape, number, stale_words(words), stale_bytes(size))
-    given = [f"{words} words", f"{size} bytes", f"number {number:040X}"]
-    return work_line("spread", shape, given, outcome, f"row {upper_hex(row)}", work)
+def named(p, more=""):
+    return ", ".join(f"{letter} {n}" for letter, n in zip("lwsh", p)) + more
 
 
-def gather_line(shape, row, words):
-    outcome, number, work = zarosnik.gather(*shape, row, stale_words(words))
-    given = [f"{words} words", f"row {upper_hex(row)}"]
-    return work_line("gather", shape, given, outcome, f"number {number:040X}", work)
+def table_of(p, more=0):
+    """Stale words: as many as the table has, and some more."""
+    return stale_words(more + (table_length(p.l, p.s) if p.l <= 40 and p.s <= 600 else 80))
 
 
-def some_numbers(count):
-    """Every number below a small count; else the first, the last, the middle one and two more."""
-    if count < 8:
-        return range(count)
-    parts = [0x80000000, 0x9E3779B9, 0x243F6A88]
-    return [0, count - 1] + [count * part >> 32 for part in parts]
-
-
-def shape_lines(shape):
-    """Three words and three bytes more than needed are lent. The count itself has no row."""
-    l, w, s = shape
-    count = zarosnik.ways(w, l, s)
-    words = zarosnik.table_length(l, s) + 3
-    yield count_line(shape, words)
-    for number in some_numbers(count):
-        yield spread_line(shape, number, words, l + 3)
-        yield gather_line(shape, zarosnik.row_of(l, w, s, number), words)
-    yield spread_line(shape, count, words, l + 3)
-
-
-def code_lines():
+def code_cases():
+    """Count, Spread and Gather. Three words and three bytes more than needed are lent."""
     wrong = zarosnik.disagreement()
     if wrong:
         sys.exit(f"zarosnik.py is wrong at l, w, s = {wrong}")
-    for shape in SHAPES:
-        yield from shape_lines(shape)
-    for shape, words in COUNT_REFUSALS:
-        yield count_line(shape, words)
-    for shape, number, words, size in SPREAD_REFUSALS:
-        yield spread_line(shape, number, words, size)
-    for shape, row, words in GATHER_REFUSALS:
-        yield gather_line(shape, bytes(row), words)
+    middle = Profile(17, 5, 30, 0)
+    for p in [SMALL, middle, WIDE, GATE, *OUTSIDE]:
+        table = table_of(p, 3)
+        outcome, count, filled = zarosnik.count(*p[:3], table)
+        told = f"outcome {outcome}, {number_told(count)}"
+        yield case("count", named(p[:3]), words(p), told, Slices(table), Slices(filled))
+    numbered = [(SMALL, 0), (SMALL, 5), (SMALL, 7), (middle, 0x123456789), (WIDE, 0), (WIDE, 1)]
+    numbered += [(GATE, n) for n in (0, GATE_COUNT - 1, GATE_COUNT, (1 << 128) - 1)]
+    for p, n in numbered + [(p, 0) for p in OUTSIDE]:
+        yield from round_trip(p, n)
 
 
-def lines():
-    yield from hash_lines()
-    yield from code_lines()
+def round_trip(p, n):
+    """Spread, and Gather of the row that it left."""
+    table, row = table_of(p, 3), stale_bytes(min(p.l, 41) + 3)
+    outcome, written, filled = zarosnik.spread(*p[:3], n, table, row)
+    taken = words([*p, *number_words(n)])
+    before, after = Slices(table, row), Slices(filled, written)
+    yield case("spread", named(p[:3], f", number {n}"), taken, f"outcome {outcome}", before, after)
+    row = written[:-3]
+    outcome, number, filled = zarosnik.gather(*p[:3], row, table)
+    told = f"outcome {outcome}, {number_told(number)}"
+    yield case(
+        "gather", named(p[:3]), words(p), told, Slices(table, row), Slices(filled, row)
+    )
+
+
+def key_cases():
+    """Leaf key and Root. FIPS 205's WOTS+ keys of SLH-DSA-SHA2-128 in layer 0, tree 0 are those of
+    l = 35 and w = 16."""
+    fips = Profile(35, 16, 262, 2)
+    leaves = [(SMALL, 0), (SMALL, 3), (SMALL, 4), (fips, 3), (WIDE, 1), (GATE, 1023), (SMALL, MASK)]
+    for p, leaf in leaves + [(p, 0) for p in OUTSIDE + OUTSIDE_HEIGHT]:
+        outcome, key = signatures.leaf_key(p, SEED, SECRET, leaf)
+        taken = words(p) + SEED + SECRET + word(leaf)
+        told = f"outcome {outcome}, key {key.hex()}"
+        yield case("leaf key", named(p, f", leaf {leaf}"), taken, told)
+    for p in [SMALL, FLAT, WIDE, Profile(4, 2, 2, 10), *OUTSIDE, *OUTSIDE_HEIGHT]:
+        outcome, root = signatures.root(p, SEED, SECRET)
+        told = f"outcome {outcome}, root {root.hex()}"
+        yield case("root", named(p), words(p) + SEED + SECRET, told)
+
+
+def value_cases():
+    """Reveal, and Recover from what it left; l = 40, w = 16, s = 0 makes 600 steps."""
+    shown = [(SMALL, 3, 5), (SMALL, 4, 5), (SMALL, 0, 7), (WIDE, 1, 0), (GATE, 682, (1 << 128) - 1)]
+    for p, leaf, n in shown + [(p, 0, 0) for p in OUTSIDE + OUTSIDE_HEIGHT]:
+        table, values = table_of(p), stale_bytes(16 * min(p.l, 41))
+        outcome, left, filled = signatures.reveal(p, SEED, SECRET, leaf, n, table, values)
+        label = named(p, f", leaf {leaf}, number {n}")
+        place = words([leaf, *number_words(n)])
+        taken = words(p) + SEED + SECRET + place
+        before, after = Slices(table, values), Slices(filled, left)
+        yield case("reveal", label, taken, f"outcome {outcome}", before, after)
+        outcome, key, steps, filled = signatures.recover(p, SEED, leaf, n, left, table)
+        told = f"outcome {outcome}, key {key.hex()}, steps {steps}"
+        before, after = Slices(table, left), Slices(filled, left)
+        yield case("recover", label, words(p) + SEED + place, told, before, after)
+
+
+TEXT = b"Gate 7: open 40 cm from 06:15 to 09:30 on 12 March.\n"
+
+
+def issue_case(key, size):
+    """Two orders, the second with the key that the first handed back. It goes into the slice, and
+    with a refusal the first stays there."""
+    p, table, lent, told = key.profile, table_of(key.profile), stale_bytes(size), []
+    before = Slices(table, lent, TEXT)
+    label = named(p, f", next {key.next}")
+    taken = words(p) + key.seed + key.secret + word(key.next) + R
+    for _ in range(2):
+        outcome, key, lent, table = signatures.issue(key, R, TEXT, table, lent)
+        told.append(f"outcome {outcome}, next {key.next}")
+    return case("issue", label, taken, ": ".join(told), before, Slices(table, lent, TEXT))
+
+
+def check_case(cabinet, signature, text, change=""):
+    """Two checks, the second by the cabinet that the first handed back."""
+    p, table, told = cabinet.profile, table_of(cabinet.profile), []
+    before = Slices(table, signature, text)
+    label = named(p, f", lowest {cabinet.lowest}{change}")
+    taken = words(p) + cabinet.seed + cabinet.root + word(cabinet.lowest)
+    for _ in range(2):
+        outcome, cabinet, steps, table = signatures.check(cabinet, text, signature, table)
+        told.append(f"outcome {outcome}, lowest {cabinet.lowest}, steps {steps}")
+    return case("check", label, taken, ": ".join(told), before, Slices(table, signature, text))
+
+
+def order_cases():
+    """Issue and Check; h = 0: one order, then 12."""
+    tall = GATE._replace(h=3)
+    size = signature_length(tall)
+    yield issue_case(SigningKey(FLAT, SEED, SECRET, 0), signature_length(FLAT) + 3)
+    yield issue_case(SigningKey(tall, SEED, SECRET, 5), size)
+    for p in [SMALL, *OUTSIDE, *OUTSIDE_HEIGHT]:
+        yield issue_case(SigningKey(p, SEED, SECRET, 0), 100)
+    key = SigningKey(tall, SEED, SECRET, 5)
+    signature = signatures.issue(key, R, TEXT, table_of(tall), stale_bytes(size))[2]
+    cabinet = Verifier(tall, SEED, signatures.root_of(tall, SEED, SECRET), 2)
+    yield check_case(cabinet, signature, TEXT)
+    yield check_case(cabinet, signature, TEXT[:-1], ", another text")
+    changed = signature[:20] + bytes([signature[20] ^ 1]) + signature[21:]
+    yield check_case(cabinet, changed, TEXT, ", another value")
+    for p in [SMALL, *OUTSIDE, *OUTSIDE_HEIGHT]:
+        yield check_case(Verifier(p, SEED, bytes(16), 0), bytes(100), TEXT)
+
+
+def sheet_case(p, sheet, size, room, change=""):
+    before = Slices([], stale_bytes(size), stale_bytes(room))
+    outcome, wrong, length, lent, text = read_sheet(p, sheet, before.lent, before.text)
+    told = f"outcome {outcome}, line {wrong}, length {length}"
+    after = Slices([], lent, text)
+    taken = word(len(sheet)) + sheet + words(p)
+    return case("sheet", named(p, change), taken, told, before, after)
+
+
+def sheet_cases():
+    p, long = Profile(2, 3, 2, 1), signature_length(GATE)
+    size = signature_length(p)
+    right = right_sheet(p, message(size), TEXT)
+    yield sheet_case(p, right, size + 3, len(TEXT) + 3)
+    yield sheet_case(p, right[:-1], size, 200, ", the last ending missing")
+    yield sheet_case(p, right + b"0", size, 200, ", more behind it")
+    yield sheet_case(p, right[:60] + right[60:].lower(), size, 200, ", lower case")
+    yield sheet_case(p, right, size - 1, 200, ", a short slice")
+    yield sheet_case(p, right, size, len(TEXT) - 1, ", a short text slice")
+    yield sheet_case(GATE, right_sheet(GATE, message(long), message(200)), long, 200)
+    for other in OUTSIDE + OUTSIDE_HEIGHT:
+        yield sheet_case(other, right, size, 200)
+
+
+def cases():
+    hold_to_hashlib()
+    for group in [hash_cases, code_cases, key_cases, value_cases, order_cases, sheet_cases]:
+        yield from group()
+
+
+def files():
+    """The files, by name."""
+    all_cases = list(cases())
+    given = b"".join(given for given, _ in all_cases)
+    wanted = "".join(line + "\n" for _, line in all_cases)
+    return {"stdin": word(len(all_cases)) + given, "stdout": wanted.encode("ascii")}
+
+
+def same(path, expected):
+    """Whether the file is the expected one; where it is not, says which line differs first."""
+    with open(path, "rb") as file:
+        found = file.read()
+    if found == expected:
+        return True
+    print(f"{path}: {len(found)} bytes, and {len(expected)} are expected", file=sys.stderr)
+    pairs = zip(expected.splitlines(), found.splitlines())
+    for at, (wanted, got) in enumerate(pairs, 1):
+        if wanted != got:
+            print(f"line {at}: expected {wanted!r}\nfound {got!r}", file=sys.stderr)
+            break
+    return False
+
+
+def main(arguments):
+    script, *rest = arguments
+    checks = rest[:1] == ["--check"]
+    if len(rest) != 1 + checks:
+        print(f"usage: {os.path.basename(script)} [--check] DIR", file=sys.stderr)
+        return 2
+    wrong = 0
+    for name, content in files().items():
+        path = os.path.join(rest[-1], name)
+        if not checks:
+            with open(path, "wb") as file:
+                file.write(content)
+        elif not same(path, content):
+            wrong = 1
+    return wrong
 
 
 if __name__ == "__main__":
-    sys.exit(main(lines(), sys.argv))
+    sys.exit(main(sys.argv))

@@ -1,16 +1,20 @@
 """Runs the program `listing_main` on many inputs and compares all that it writes with an
-implementation of the scope document's listing that is independent of the library.
+implementation of the scope document's listing that is independent of the library. Some inputs come
+byte by byte, through a pipe that stays open: the program must answer all the same once it has its
+line, and must leave in the pipe what stands behind that line.
 
     python3 tests/listing.py
 
-Builds the program first. Rows come from listing them in dictionary order, not from counting: counts
-only choose inputs.
+Builds the program first, unless it is built. Rows come from listing them in dictionary order, not
+from counting: counts only choose inputs.
 """
 
 import itertools
+import os
 import random
 import subprocess
 import sys
+import time
 from pathlib import Path
 
 import zarosnik
@@ -20,6 +24,10 @@ PROGRAM = ROOT / "target" / "bin" / "listing_main"
 WORK_WORDS = 16000
 MOST = 256
 DIGITS = b"0123456789ABCDEF"
+# A line that asks something has so many characters, its ending among them.
+LINE = 11
+ANSWER_SECONDS = 2
+PAUSE_SECONDS = 0.02
 
 
 def line(*parts):
@@ -158,6 +166,84 @@ def cases():
         yield bytes(pick.choices(DIGITS + b"\n", k=pick.randrange(14))) + b"\n"
 
 
+def line_in(given):
+    """What the program reads: up to the first 0A, and no more characters than a line has."""
+    first, ending, _ = given.partition(b"\n")
+    return (first + ending)[:LINE]
+
+
+class Fed:
+    """The program, given its input byte by byte through a pipe that stays open."""
+
+    def __init__(self, given):
+        self.reading, self.writing = os.pipe()
+        pipes = {"stdin": self.reading, "stdout": subprocess.PIPE, "stderr": subprocess.PIPE}
+        self.process = subprocess.Popen([PROGRAM], **pipes)
+        for byte in given:
+            os.write(self.writing, bytes([byte]))
+            time.sleep(PAUSE_SECONDS / len(given))
+
+    def waits(self):
+        """Whether it goes on reading."""
+        time.sleep(PAUSE_SECONDS)
+        return self.process.poll() is None
+
+    def answer(self):
+        """What it writes, or nothing where it does not end, and what it leaves in the pipe."""
+        try:
+            wrote, said = self.process.communicate(timeout=ANSWER_SECONDS)
+        except subprocess.TimeoutExpired:
+            self.process.kill()
+            wrote, said = b"no answer", self.process.communicate()[1]
+        if said or self.process.returncode:
+            wrote = b"status %d, %s" % (self.process.returncode, said)
+        return wrote, self.unread()
+
+    def unread(self):
+        os.set_blocking(self.reading, False)
+        try:
+            return os.read(self.reading, 1 << 16)
+        except BlockingIOError:
+            return b""
+
+    def close(self):
+        os.close(self.writing)
+
+
+def fed_answer(given):
+    """What the program does with an input that comes byte by byte. Where the input has no whole
+    line, it must wait for more, and answer when the input ends."""
+    fed = Fed(given)
+    line_read = line_in(given)
+    if not line_read.endswith(b"\n") and len(line_read) < LINE:
+        if not fed.waits():
+            return b"an answer before the line's end", b""
+        fed.close()
+        return fed.answer()
+    answer = fed.answer()
+    fed.close()
+    return answer
+
+
+FED = [
+    EXAMPLE,
+    b"10\n",
+    b"\n",
+    b"\n" + EXAMPLE,
+    EXAMPLE + EXAMPLE,
+    EXAMPLE[:-1] + b"1",
+    EXAMPLE[:-1] + b"0\n",
+    b"G" * 40,
+    b"10" * 40 + b"\n",
+    request(3, 3, 7),
+    request(39, 16, 80) + b"\n",
+    request(40, 16, 77),
+    b"",
+    b"1",
+    EXAMPLE[:-1],
+]
+
+
 def main():
     if expected(EXAMPLE) != EXAMPLE_LISTING or any(expected(m) != b"1F11\n" for m in MALFORMED):
         sys.exit("tests/listing.py: the implementation here does not give the document's values")
@@ -172,6 +258,12 @@ def main():
         if run.stdout != expected(given) or run.returncode or run.stderr:
             wrong += 1
             print(f"{given[:40]!r}: wrote {run.stdout[:80]!r}, not {expected(given)[:80]!r}")
+    for given in FED:
+        tried += 1
+        wrote, unread = fed_answer(given)
+        if (wrote, unread) != (expected(given), given[len(line_in(given)) :]):
+            wrong += 1
+            print(f"{given[:40]!r}, byte by byte: wrote {wrote[:80]!r}, left {unread[:40]!r}")
     print(f"tests/listing.py: {tried} inputs, {wrong} answered otherwise than the document says")
     sys.exit(1 if wrong else 0)
 
