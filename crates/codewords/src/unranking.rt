@@ -28,6 +28,7 @@ pub fn write_codeword(p: Shape, number: [u32; 5], table: &[u32], row: &mut [u8])
     ensures { λ _. ⌜ now (row .exit) ≡ rowOf p (value number) ++ drop (p .chains) (now (row .entry)) ⌝ }
 {
     let chains = p.chains as usize;
+    // No step needs the width; the invariants of both loops speak of it.
     let width = p.width as usize;
     let sum = p.sum as usize;
     let mut n = number;
