@@ -19,10 +19,7 @@ pub write-byte-spec : {M : Type 1} → statement M
 write-byte-spec =
     tie.close
     (tie.spec
-    (λ c κs. search needs)
-    (λ c κs. search needs)
-    (λ c. search needs)
-    (λ c. search needs)
+    (λ c κs. search needs) (λ c κs. search needs) (λ c. search needs) (λ c. search needs)
     slice-write-out-2
     (λ c. search needs)
     returns)

@@ -65,8 +65,7 @@ write-rows-spec =
     μ-loop
     loop-holds
     write-row-requires
-    (λ c. search needs)
-    (λ c. search needs)
+    (λ c. search needs) (λ c. search needs)
     loop-again
     same-length
     returns)

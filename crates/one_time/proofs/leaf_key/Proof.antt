@@ -27,10 +27,7 @@ pub leaf-key-spec : {M : Type 1} → statement M
 leaf-key-spec =
     tie.close
     (tie.spec
-    (λ c κs. search needs)
-    (λ c. search needs)
-    (λ c. search needs)
-    (λ c κs. search needs)
+    (λ c κs. search needs) (λ c. search needs) (λ c. search needs) (λ c κs. search needs)
     key-of-leaf-requires
     returns
     returns-2)

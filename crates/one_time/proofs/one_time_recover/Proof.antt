@@ -33,13 +33,9 @@ pub one-time-recover-spec : {M : Type 1} → statement M
 one-time-recover-spec =
     tie.close
     (tie.spec
-    (λ c. search needs)
-    (λ c. search needs)
-    (λ c. search needs)
+    (λ c. search needs) (λ c. search needs) (λ c. search needs)
     (λ c κs. (refl, refl))
-    (λ c. search needs)
-    (λ c. search needs)
-    (λ c κs. search needs)
+    (λ c. search needs) (λ c. search needs) (λ c κs. search needs)
     recover-key-requires
     (λ c. search needs)
     returns

@@ -108,17 +108,12 @@ read-checked-spec =
     tie.close
     (tie.spec
     judge-requires
-    (λ c κs. search needs)
-    (λ c κs. search needs)
-    (λ c κs. search needs)
-    (λ c κs. search needs)
-    (λ c. search needs)
+    (λ c κs. search needs) (λ c κs. search needs) (λ c κs. search needs) (λ c κs. search needs) (λ c. search needs)
     cast-t18
     (λ c. search needs)
     copy-signature-requires
     copy-text-requires
     cast-t24
     returns
-    (λ c. search needs)
-    (λ c. search needs)
+    (λ c. search needs) (λ c. search needs)
     returns-2)

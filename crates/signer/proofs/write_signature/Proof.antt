@@ -84,11 +84,7 @@ write-signature-spec =
     write-16-requires
     write-values-requires
     slice-aggregate-copy
-    (λ c. search needs)
-    (λ c. search needs)
-    (λ c. search needs)
-    (λ c. search needs)
-    (λ c. search needs)
+    (λ c. search needs) (λ c. search needs) (λ c. search needs) (λ c. search needs) (λ c. search needs)
     copy-requires
     (λ c. search needs)
     returns)

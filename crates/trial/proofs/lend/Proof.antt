@@ -10,11 +10,7 @@ pub lend-spec : {M : Type 1} → statement M
 lend-spec =
     tie.close
     (tie.spec
-    (λ c κs. search needs)
-    (λ c κs. search needs)
-    (λ c κs. search needs)
-    (λ c κs. search needs)
-    (λ c. search needs)
+    (λ c κs. search needs) (λ c κs. search needs) (λ c κs. search needs) (λ c κs. search needs) (λ c. search needs)
     (λ c. sym (length-take-le _ _ (omega arith)))
     (λ c. search needs)
     (λ c. sym (length-take-le _ _ (omega arith)))
@@ -22,6 +18,4 @@ lend-spec =
     (λ c. sym (length-take-le _ _ (omega arith)))
     (λ c. search needs)
     (λ c. sym (length-take-le _ _ (omega arith)))
-    (λ c κs. search needs)
-    (λ c. search needs)
-    (λ c. search needs))
+    (λ c κs. search needs) (λ c. search needs) (λ c. search needs))

@@ -23,9 +23,7 @@ pub seeded-spec : {M : Type 1} → statement M
 seeded-spec =
     tie.close
     (tie.spec
-    (λ c. search needs)
-    (λ c κs. search needs)
-    (λ c κs. search needs)
+    (λ c. search needs) (λ c κs. search needs) (λ c κs. search needs)
     slice-aggregate-compress
     (λ c κs. search needs)
     returns)

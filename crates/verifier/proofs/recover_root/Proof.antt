@@ -36,11 +36,7 @@ pub recover-root-spec : {M : Type 1} → statement M
 recover-root-spec =
     tie.close
     (tie.spec
-    (λ c κs. search needs)
-    (λ c. search needs)
-    (λ c. search needs)
-    (λ c. search needs)
-    (λ c. search needs)
+    (λ c κs. search needs) (λ c. search needs) (λ c. search needs) (λ c. search needs) (λ c. search needs)
     (λ c. search needs)
     part-recover-key-end
     (λ c κs. search needs)

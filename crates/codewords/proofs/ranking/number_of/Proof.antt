@@ -72,14 +72,11 @@ number-of-spec =
     loop-holds
     (λ c. search needs)
     cast-digit
-    (λ c. search needs)
-    (λ c. search needs)
-    (λ c. search needs)
+    (λ c. search needs) (λ c. search needs) (λ c. search needs)
     mul-above
     add-above-2
     skip-requires
     sub-left
-    (λ c. search needs)
-    (λ c. search needs)
+    (λ c. search needs) (λ c. search needs)
     loop-again
     returns)

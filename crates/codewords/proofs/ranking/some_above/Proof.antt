@@ -50,7 +50,6 @@ some-above-spec =
     (λ c. search needs)
     cast-if1
     returns
-    (λ c. search needs)
-    (λ c. search needs)
+    (λ c. search needs) (λ c. search needs)
     loop-again
     returns-2)

@@ -52,7 +52,6 @@ sum-differs-spec =
     (λ c. search needs)
     cast-digit
     returns
-    (λ c. search needs)
-    (λ c. search needs)
+    (λ c. search needs) (λ c. search needs)
     loop-again
     returns-2)

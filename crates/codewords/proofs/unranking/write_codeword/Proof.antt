@@ -210,13 +210,9 @@ write-codeword-spec =
     μ-loop2
     Inv-loop
     μ-loop
-    (λ c. search needs)
-    (λ c. search needs)
-    (λ c. search needs)
+    (λ c. search needs) (λ c. search needs) (λ c. search needs)
     loop-holds
-    (λ c. search needs)
-    (λ c. search needs)
-    (λ c. search needs)
+    (λ c. search needs) (λ c. search needs) (λ c. search needs)
     mul-above
     add-above-2
     loop2-holds
@@ -230,8 +226,7 @@ write-codeword-spec =
     cast-row
     slice-write-row
     sub-left
-    (λ c. search needs)
-    (λ c. search needs)
+    (λ c. search needs) (λ c. search needs)
     loop-again
     same-length
     returns)

@@ -34,9 +34,7 @@ pub codeword-count-spec : {M : Type 1} → statement M
 codeword-count-spec =
     tie.close
     (tie.spec
-    (λ c κs. search needs)
-    (λ c. search needs)
-    (λ c. search needs)
+    (λ c κs. search needs) (λ c. search needs) (λ c. search needs)
     fill-requires
     returns
     (λ c. search needs)

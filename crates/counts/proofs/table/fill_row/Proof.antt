@@ -83,8 +83,7 @@ fill-row-spec =
     add-store-2
     (λ c κs. search needs)
     store-requires
-    (λ c. search needs)
-    (λ c. search needs)
+    (λ c. search needs) (λ c. search needs)
     loop-again
     same-length
     returns)

@@ -56,8 +56,7 @@ fill-rows-spec =
     loop-holds
     (λ c. search needs)
     fill-row-requires
-    (λ c. search needs)
-    (λ c. search needs)
+    (λ c. search needs) (λ c. search needs)
     loop-again
     same-length
     returns)

@@ -57,10 +57,7 @@ pub head-byte-spec : {M : Type 1} → statement M
 head-byte-spec =
     tie.close
     (tie.spec
-    (λ c. search needs)
-    (λ c. search needs)
-    (λ c κs. search needs)
-    (λ c κs. search needs)
+    (λ c. search needs) (λ c. search needs) (λ c κs. search needs) (λ c κs. search needs)
     array-read-result
     returns
     (λ c. search needs)

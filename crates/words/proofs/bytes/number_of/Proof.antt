@@ -60,7 +60,6 @@ number-of-spec =
     (λ c. search needs)
     cast-number
     add-number
-    (λ c. search needs)
-    (λ c. search needs)
+    (λ c. search needs) (λ c. search needs)
     loop-again
     returns)
