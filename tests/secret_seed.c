@@ -1,0 +1,203 @@
+/*
+ * Runs each operation that is lent the secret seed, with the seed marked as undefined, for valgrind's memcheck, which
+ * reports each branch, each address and each system call that depends on undefined bytes. tests/secret_seed.py builds
+ * this program over the archive, runs one case after another and judges the reports.
+ *
+ * What a call answers and leaves must be defined, except the bytes that are computed from the secret: these must all
+ * be undefined, so that the marks have passed through the hashing. They are then marked as defined and printed.
+ */
+#include <fcntl.h>
+#include <inttypes.h>
+#include <stdio.h>
+#include <stdlib.h>
+#include <string.h>
+#include <unistd.h>
+#include <valgrind/memcheck.h>
+
+#include "zarosnik.h"
+
+/* The gate profile with a lower tree. */
+#define HEIGHT 2u
+#define LEAF 1u
+#define PROFILE ZAROSNIK_GATE_L, ZAROSNIK_GATE_W, ZAROSNIK_GATE_S, HEIGHT
+#define SIGNATURE_BYTES ZAROSNIK_SIGNATURE_BYTES(ZAROSNIK_GATE_L, HEIGHT)
+
+static const uint8_t public_seed[ZAROSNIK_HASH_BYTES] = {0x10, 0x11, 0x12, 0x13, 0x14, 0x15, 0x16, 0x17,
+                                                         0x18, 0x19, 0x1A, 0x1B, 0x1C, 0x1D, 0x1E, 0x1F};
+static uint8_t secret_seed[ZAROSNIK_HASH_BYTES] = {0xE0, 0xE1, 0xE2, 0xE3, 0xE4, 0xE5, 0xE6, 0xE7,
+                                                   0xE8, 0xE9, 0xEA, 0xEB, 0xEC, 0xED, 0xEE, 0xEF};
+static const uint8_t r[ZAROSNIK_HASH_BYTES] = {0x71, 0x72, 0x73, 0x74, 0x75, 0x76, 0x77, 0x78,
+                                               0x79, 0x7A, 0x7B, 0x7C, 0x7D, 0x7E, 0x7F, 0x80};
+static const uint32_t number[ZAROSNIK_NUMBER_WORDS] = {0x89ABCDEF, 0x01234567, 0x76543210, 0xFEDCBA98, 0};
+static const char order[] = "sill level 2.4 m until 18:00";
+
+static uint32_t table[ZAROSNIK_GATE_TABLE_WORDS];
+
+static _Noreturn void fail(const char *what)
+{
+    fprintf(stderr, "%s\n", what);
+    exit(EXIT_FAILURE);
+}
+
+/* Memcheck reports the comparison where the outcome depends on the secret. */
+static void granted(uint32_t outcome)
+{
+    if (outcome != ZAROSNIK_GRANTED) {
+        fail("refused");
+    }
+}
+
+/* Memcheck reports a word of the table that depends on the secret. */
+static void public_table(void)
+{
+    (void)VALGRIND_CHECK_MEM_IS_DEFINED(table, sizeof table);
+}
+
+/* Marks as defined what a call has computed from the secret. Each of its bytes must be undefined until then. */
+static void disclose(uint8_t *bytes, size_t size)
+{
+    for (size_t i = 0; i < size; i++) {
+        uint8_t marks = 0;
+        if (VALGRIND_GET_VBITS(&bytes[i], &marks, 1) != 1 || marks == 0) {
+            fail("a byte of the answer does not depend on the secret");
+        }
+    }
+    VALGRIND_MAKE_MEM_DEFINED(bytes, size);
+}
+
+static void print(const uint8_t *bytes, size_t size)
+{
+    for (size_t i = 0; i < size; i++) {
+        printf("%02x", (unsigned)bytes[i]);
+    }
+    printf("\n");
+}
+
+static void leaf_key(void)
+{
+    uint8_t key[ZAROSNIK_HASH_BYTES];
+    granted(zarosnik_leaf_key(PROFILE, public_seed, secret_seed, LEAF, key));
+    disclose(key, sizeof key);
+    print(key, sizeof key);
+}
+
+static void root(void)
+{
+    uint8_t made[ZAROSNIK_HASH_BYTES];
+    granted(zarosnik_root(PROFILE, public_seed, secret_seed, made));
+    disclose(made, sizeof made);
+    print(made, sizeof made);
+}
+
+static void one_time_sign(void)
+{
+    uint8_t values[ZAROSNIK_GATE_VALUES_BYTES];
+    granted(zarosnik_one_time_sign(PROFILE, public_seed, secret_seed, LEAF, number, table, ZAROSNIK_GATE_TABLE_WORDS,
+                                   values, sizeof values));
+    public_table();
+    disclose(values, sizeof values);
+    print(values, sizeof values);
+}
+
+/*
+ * Issue takes the digest over the root, which is computed from the secret but published, and the number in the digest
+ * decides how far each chain is walked. So the digest is marked as defined as soon as it is made, and nothing else.
+ * This is done where the archive's function sha256::running::Hash::finish returns: valgrind calls the wrapper in its
+ * place (in the wrapper's name, Zc is a colon). Issue ends by this function the hash of each leaf key and of each node,
+ * and then the digest, in call number 2^(h + 1).
+ */
+#define DIGEST_CALL (1u << (HEIGHT + 1u))
+
+static unsigned finish_calls;
+static unsigned disclosed_call;
+
+void *I_WRAP_SONAME_FNNAME_ZZ(NONE, sha256ZcZcrunningZcZcHashZcZcfinish)(void *finished, const void *running);
+void *I_WRAP_SONAME_FNNAME_ZZ(NONE, sha256ZcZcrunningZcZcHashZcZcfinish)(void *finished, const void *running)
+{
+    OrigFn original;
+    void *answer;
+    VALGRIND_GET_ORIG_FN(original);
+    CALL_FN_W_WW(answer, original, finished, running);
+    finish_calls++;
+    if (finish_calls == disclosed_call) {
+        disclose(finished, ZAROSNIK_DIGEST_BYTES);
+    }
+    return answer;
+}
+
+static void sign_undisclosed(void)
+{
+    uint8_t signature[SIGNATURE_BYTES];
+    uint32_t next_leaf = LEAF;
+    granted(zarosnik_sign(PROFILE, public_seed, secret_seed, &next_leaf, r, (const uint8_t *)order, strlen(order),
+                          table, ZAROSNIK_GATE_TABLE_WORDS, signature, sizeof signature));
+    if (finish_calls != DIGEST_CALL) {
+        fail("the digest was not met: Hash::finish is no function of its own in this archive, or called otherwise");
+    }
+    public_table();
+    disclose(signature + 20, sizeof signature - 20);
+    print(signature, sizeof signature);
+    printf("%" PRIu32 "\n", next_leaf);
+}
+
+static void sign(void)
+{
+    disclosed_call = DIGEST_CALL;
+    sign_undisclosed();
+}
+
+/* Controls: what memcheck must report. */
+static volatile unsigned odd;
+static volatile unsigned even;
+static volatile uint8_t looked_up[256];
+
+static void branch(void)
+{
+    if (secret_seed[0] & 1u) {
+        odd++;
+    } else {
+        even++;
+    }
+}
+
+static void address(void)
+{
+    looked_up[secret_seed[0]]++;
+}
+
+static void system_call(void)
+{
+    int sink = open("/dev/null", O_WRONLY);
+    if (sink < 0 || write(sink, secret_seed, sizeof secret_seed) != (ssize_t)sizeof secret_seed) {
+        fail("/dev/null");
+    }
+}
+
+static const struct {
+    const char *name;
+    void (*run)(void);
+} cases[] = {
+    {"leaf_key", leaf_key},
+    {"root", root},
+    {"one_time_sign", one_time_sign},
+    {"sign", sign},
+    {"sign_undisclosed", sign_undisclosed},
+    {"branch", branch},
+    {"address", address},
+    {"system_call", system_call},
+};
+
+int main(int argc, char **argv)
+{
+    if (!RUNNING_ON_VALGRIND) {
+        fail("this program is run under valgrind, by tests/secret_seed.py");
+    }
+    VALGRIND_MAKE_MEM_UNDEFINED(secret_seed, sizeof secret_seed);
+    for (size_t i = 0; argc == 2 && i < sizeof cases / sizeof cases[0]; i++) {
+        if (strcmp(argv[1], cases[i].name) == 0) {
+            cases[i].run();
+            return EXIT_SUCCESS;
+        }
+    }
+    fail("no such case");
+}

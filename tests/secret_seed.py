@@ -1,0 +1,139 @@
+"""Shows that in the archive's code no branch, no address and no system call depends on the secret seed,
+in Leaf key, Root, Reveal and Issue, but through the digest of the order, which is public.
+
+    python3 tests/secret_seed.py                   takes target/staticlib/libzarosnik.a
+    python3 tests/secret_seed.py --archive PATH    takes this archive
+
+Runs secret_seed.c under valgrind's memcheck with the secret seed marked as undefined. Memcheck must
+report nothing, and what the calls give is compared with the independent implementation. The controls
+must be reported: a branch, an address and a system call of the test's own on the secret, and Issue
+where the digest is not marked as public. Where valgrind or its header is missing, it says that the
+check is left out and succeeds.
+
+It speaks of the compiled code that it ran, on the inputs of secret_seed.c. Another archive is another
+run.
+"""
+
+import argparse
+import re
+import shutil
+import subprocess
+import sys
+import tempfile
+from pathlib import Path
+
+import signatures
+from signatures import GATE, SigningKey
+from zarosnik import table_length
+
+TESTS = Path(__file__).resolve().parent
+ARCHIVE = TESTS.parent / "target" / "staticlib" / "libzarosnik.a"
+OPTIONS = "-std=c11 -D_POSIX_C_SOURCE=200809L -O1 -g -Wall -Wextra -Wpedantic -Werror".split()
+REPORTED = 9
+
+# As in secret_seed.c.
+SEED = bytes(range(0x10, 0x20))
+SECRET = bytes(range(0xE0, 0xF0))
+R = bytes(range(0x71, 0x81))
+TEXT = b"sill level 2.4 m until 18:00"
+NUMBER = 0xFEDCBA98765432100123456789ABCDEF
+LEAF = 1
+P = GATE._replace(h=2)
+
+BRANCH = "Conditional jump or move depends on uninitialised value(s)"
+ADDRESS = "Use of uninitialised value of size"
+SYSTEM_CALL = "Syscall param write(buf) points to uninitialised byte(s)"
+
+
+def say(line):
+    print(f"tests/secret_seed.py: {line}", flush=True)
+
+
+def issued():
+    """The signature and the next leaf, as the program prints them."""
+    key = SigningKey(P, SEED, SECRET, LEAF)
+    work, out = [0] * table_length(P.l, P.s), bytes(signatures.signature_length(P))
+    outcome, after, signature, _ = signatures.issue(key, R, TEXT, work, out)
+    assert outcome == 0
+    return f"{signature.hex()}\n{after.next}\n"
+
+
+def expected():
+    """Of each case the output, and what memcheck must report, if anything."""
+    key = signatures.key_of_leaf(P.l, P.w, SEED, SECRET, LEAF)
+    root = signatures.root_of(P, SEED, SECRET)
+    values = signatures.revealed(P, SEED, SECRET, LEAF, NUMBER)
+    return {
+        "leaf_key": (f"{key.hex()}\n", None),
+        "root": (f"{root.hex()}\n", None),
+        "one_time_sign": (f"{values.hex()}\n", None),
+        "sign": (issued(), None),
+        "sign_undisclosed": (issued(), BRANCH),
+        "branch": ("", BRANCH),
+        "address": ("", ADDRESS),
+        "system_call": ("", SYSTEM_CALL),
+    }
+
+
+def missing():
+    """What the check cannot do without and this machine has not, or None."""
+    if shutil.which("valgrind") is None:
+        return "valgrind"
+    probe = ["gcc", "-fsyntax-only", "-include", "valgrind/memcheck.h", "-x", "c", "/dev/null"]
+    if subprocess.run(probe, capture_output=True).returncode:
+        return "valgrind/memcheck.h"
+    return None
+
+
+def build(archive, folder):
+    program = str(Path(folder) / "secret_seed")
+    include = f"-I{TESTS.parent / 'include'}"
+    source = str(TESTS / "secret_seed.c")
+    subprocess.run(["gcc", *OPTIONS, include, source, str(archive), "-o", program], check=True)
+    return program
+
+
+def run(program, case, folder):
+    """The exit status, the output, and memcheck's reports."""
+    log = Path(folder) / f"{case}.log"
+    command = ["valgrind", "--tool=memcheck", "--quiet", "--leak-check=no", f"--log-file={log}"]
+    made = subprocess.run(
+        [*command, f"--error-exitcode={REPORTED}", program, case], capture_output=True, text=True
+    )
+    return made.returncode, made.stdout, made.stderr + log.read_text(encoding="utf-8")
+
+
+def judge(told, output, report):
+    """What is wrong with a case, or None."""
+    status, printed, reports = told
+    if printed != output:
+        return f"printed {printed!r} instead of {output!r}"
+    if report is None and (status or reports):
+        return "memcheck must report nothing"
+    if report is not None and (status != REPORTED or report not in reports):
+        return f"memcheck must report: {report}"
+    return None
+
+
+def main():
+    parser = argparse.ArgumentParser(description="Follows the secret seed through the archive.")
+    parser.add_argument("--archive", type=Path, default=ARCHIVE)
+    options = parser.parse_args()
+    lacking = missing()
+    if lacking:
+        say(f"left out, since {lacking} is missing")
+        return
+    with tempfile.TemporaryDirectory() as folder:
+        program = build(options.archive.resolve(), folder)
+        for case, (output, report) in expected().items():
+            told = run(program, case, folder)
+            wrong = judge(told, output, report)
+            if wrong:
+                say(f"{case}: {wrong}\nexit status {told[0]}\n{told[2]}")
+                sys.exit(1)
+            places = sorted(set(re.findall(r" at 0x[0-9A-F]+: (\S+)", told[2])))
+            say(f"{case}: " + (f"reported, in {', '.join(places)}" if report else "no report"))
+
+
+if __name__ == "__main__":
+    main()
