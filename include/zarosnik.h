@@ -9,15 +9,19 @@
  *     uint32_t words, every other length counts bytes. An array has the number of elements in its brackets.
  *   - Pointers to uint32_t and to size_t are aligned as these types are.
  *   - No two pointers of a call overlap where one of them is not const.
- *   - l, w, s and h are passed as they are. A value outside its range is refused, but C cuts a wider number to 8 or 16
- *     bits at the call, so test one from outside before.
  *   - While a call runs, no other thread writes the memory lent to it, or reads what the call may write. The library
  *     keeps no state of its own, so calls on separate memory may run at the same time.
+ *
+ * What the proof does not cover: the compiler's back end, which makes machine code of the proved program; the depth of
+ * the stack, which is measured (docs/INTERFACE.md); the C caller's terms above, on null pointers, true lengths,
+ * alignment, overlap and threads.
  *
  * What a call returns and leaves:
  *
  *   - It returns 0 where it is granted, else the number of the first cause that holds, in the order listed with the
  *     function. Those numbers are enum zarosnik_outcome.
+ *   - l, w, s and h may be any uint32_t. Nothing of them is ever cut: a value outside its range is refused by its
+ *     number, 1 to 4.
  *   - An answer (digest, number, key, root, steps, message_written, line) is written by every call: the value where
  *     granted, zero where refused. Two differ: steps of zarosnik_verify after 15, line of zarosnik_read_sheet after 17.
  *   - A state (next_leaf, lowest_leaf) changes only where the call is granted.
@@ -34,12 +38,42 @@
  *     lowest_leaf before the order is carried out: a cabinet restored from an older copy would take an order again.
  *   - The library draws no random numbers. The secret seed is 16 random bytes known to the key's holder alone; R is
  *     16 fresh random bytes for each order.
+ *
+ * zarosnik_types.h has the same calls over structs, so that a root cannot be passed for a seed.
  */
 #ifndef ZAROSNIK_H
 #define ZAROSNIK_H
 
 #include <stddef.h>
 #include <stdint.h>
+
+/*
+ * The version of the interface: its parts, one number that #if can compare, and the string of zarosnik.pc. The archive
+ * carries no version, so take header and archive of one release.
+ *
+ *   MAJOR   0 until the last of the customers' requests known today has landed, since most of them change the
+ *           interface. Then 1, and from there on one more where a program must be changed or compiled again.
+ *   MINOR   while MAJOR is 0, one more where a program must be changed or compiled again: a parameter, a type, a size,
+ *           the number of a refusal or the bytes of a format differ. From 1.0.0 on, one more where something is added.
+ *   PATCH   one more with every other release: a program only needs to be linked again.
+ */
+#define ZAROSNIK_VERSION_MAJOR 0
+#define ZAROSNIK_VERSION_MINOR 1
+#define ZAROSNIK_VERSION_PATCH 0
+#define ZAROSNIK_VERSION \
+    (ZAROSNIK_VERSION_MAJOR * 1000000 + ZAROSNIK_VERSION_MINOR * 1000 + ZAROSNIK_VERSION_PATCH)
+#define ZAROSNIK_VERSION_STRING "0.1.0"
+
+/* The compiler warns where the outcome of a call is not looked at: an order must not be carried out, nor a signature
+ * handed out, without it. */
+#if (defined(__cplusplus) && __cplusplus >= 201703L) \
+    || (defined(__STDC_VERSION__) && __STDC_VERSION__ >= 202311L)
+#define ZAROSNIK_NODISCARD [[nodiscard]]
+#elif defined(__GNUC__)
+#define ZAROSNIK_NODISCARD __attribute__((warn_unused_result))
+#else
+#define ZAROSNIK_NODISCARD
+#endif
 
 #ifdef __cplusplus
 extern "C" {
@@ -63,9 +97,11 @@ extern "C" {
 #define ZAROSNIK_MESSAGE_MAX 200u
 #define ZAROSNIK_HASH_MAX 65535u
 
-/* Sizes by profile: words of the work slice; bytes of the values, of a signature, and of a sheet with its text;
- * leaves of a tree; chain steps of a check. */
+/* Sizes by profile: words and bytes of the work slice; bytes of the values, of a signature, and of a sheet with its
+ * text; leaves of a tree; chain steps of a check. These and ZAROSNIK_S_MAX are meant for unsigned values within the
+ * limits above. For others they may wrap round and mean nothing; the call refuses such a profile before any size. */
 #define ZAROSNIK_TABLE_WORDS(l, s) (5u * ((l) + 1u) * ((s) + 1u))
+#define ZAROSNIK_TABLE_BYTES(l, s) (4u * ZAROSNIK_TABLE_WORDS(l, s))
 #define ZAROSNIK_VALUES_BYTES(l) (16u * (l))
 #define ZAROSNIK_SIGNATURE_BYTES(l, h) (20u + 16u * (l) + 16u * (h))
 #define ZAROSNIK_SHEET_BYTES(l, h, message_len) (69u + 37u * ((l) + (h)) + 2u * (message_len))
@@ -74,6 +110,7 @@ extern "C" {
 
 /* What is enough for every profile. */
 #define ZAROSNIK_TABLE_WORDS_MAX 123205u
+#define ZAROSNIK_TABLE_BYTES_MAX 492820u
 #define ZAROSNIK_VALUES_BYTES_MAX 640u
 #define ZAROSNIK_SIGNATURE_BYTES_MAX 820u
 #define ZAROSNIK_SHEET_BYTES_MAX 2319u
@@ -84,6 +121,7 @@ extern "C" {
 #define ZAROSNIK_GATE_S 255u
 #define ZAROSNIK_GATE_H 10u
 #define ZAROSNIK_GATE_TABLE_WORDS 44800u
+#define ZAROSNIK_GATE_TABLE_BYTES 179200u
 #define ZAROSNIK_GATE_VALUES_BYTES 544u
 #define ZAROSNIK_GATE_SIGNATURE_BYTES 724u
 #define ZAROSNIK_GATE_LEAVES 1024u
@@ -92,25 +130,52 @@ extern "C" {
 /* What a function returns. */
 enum zarosnik_outcome {
     ZAROSNIK_GRANTED = 0,
-    ZAROSNIK_REFUSED_CHAIN_COUNT = 1,        /* l outside 1 to 40 */
-    ZAROSNIK_REFUSED_WIDTH = 2,              /* w outside 2 to 16 */
-    ZAROSNIK_REFUSED_SUM = 3,                /* s over l * (w - 1) */
-    ZAROSNIK_REFUSED_HEIGHT = 4,             /* h over 10 */
-    ZAROSNIK_REFUSED_TABLE_TOO_SHORT = 5,    /* the work slice has too few words */
-    ZAROSNIK_REFUSED_OUTPUT_TOO_SHORT = 6,   /* an output slice has too few bytes */
-    ZAROSNIK_REFUSED_NUMBER_TOO_LARGE = 7,   /* the number is not below the count */
-    ZAROSNIK_REFUSED_CODEWORD_LENGTH = 8,    /* the row does not have l bytes */
-    ZAROSNIK_REFUSED_DIGIT_TOO_LARGE = 9,    /* a length of the row is above w - 1 */
-    ZAROSNIK_REFUSED_CODEWORD_SUM = 10,      /* the sum of the row is not s */
-    ZAROSNIK_REFUSED_LEAF_OUT_OF_RANGE = 11, /* the leaf is not below 2^h */
-    ZAROSNIK_REFUSED_KEY_SPENT = 12,         /* the next leaf is not below 2^h */
-    ZAROSNIK_REFUSED_SIGNATURE_LENGTH = 13,  /* the signature, or the values, have another length */
-    ZAROSNIK_REFUSED_LEAF_PASSED = 14,       /* the leaf is below the lowest that the cabinet still takes */
-    ZAROSNIK_REFUSED_ROOT_DIFFERS = 15,      /* the signature leads to another root */
-    ZAROSNIK_REFUSED_MESSAGE_LENGTH = 16,    /* the order text is empty or over 200 bytes */
-    ZAROSNIK_REFUSED_SHEET_LINE = 17,        /* a line of the sheet is wrong, missing or too many */
-    ZAROSNIK_REFUSED_HASH_TOO_LONG = 18      /* over 65,535 bytes to hash */
+    ZAROSNIK_REFUSED_CHAIN_COUNT = 1,
+    ZAROSNIK_REFUSED_WIDTH = 2,
+    ZAROSNIK_REFUSED_SUM = 3,
+    ZAROSNIK_REFUSED_HEIGHT = 4,
+    ZAROSNIK_REFUSED_TABLE_TOO_SHORT = 5,
+    ZAROSNIK_REFUSED_OUTPUT_TOO_SHORT = 6,
+    ZAROSNIK_REFUSED_NUMBER_TOO_LARGE = 7,
+    ZAROSNIK_REFUSED_CODEWORD_LENGTH = 8,
+    ZAROSNIK_REFUSED_DIGIT_TOO_LARGE = 9,
+    ZAROSNIK_REFUSED_CODEWORD_SUM = 10,
+    ZAROSNIK_REFUSED_LEAF_OUT_OF_RANGE = 11,
+    ZAROSNIK_REFUSED_KEY_SPENT = 12,
+    ZAROSNIK_REFUSED_SIGNATURE_LENGTH = 13,
+    ZAROSNIK_REFUSED_LEAF_PASSED = 14,
+    ZAROSNIK_REFUSED_ROOT_DIFFERS = 15,
+    ZAROSNIK_REFUSED_MESSAGE_LENGTH = 16,
+    ZAROSNIK_REFUSED_SHEET_LINE = 17,
+    ZAROSNIK_REFUSED_HASH_TOO_LONG = 18
 };
+
+/* What an outcome means, in the words of docs/INTERFACE.md. */
+static inline const char *zarosnik_outcome_text(uint32_t outcome)
+{
+    switch (outcome) {
+    case ZAROSNIK_GRANTED: return "granted";
+    case ZAROSNIK_REFUSED_CHAIN_COUNT: return "number of chains l outside 1 to 40";
+    case ZAROSNIK_REFUSED_WIDTH: return "width w outside 2 to 16";
+    case ZAROSNIK_REFUSED_SUM: return "sum s above l * (w - 1)";
+    case ZAROSNIK_REFUSED_HEIGHT: return "tree height h above 10";
+    case ZAROSNIK_REFUSED_TABLE_TOO_SHORT: return "work slice too short for the table of counts";
+    case ZAROSNIK_REFUSED_OUTPUT_TOO_SHORT: return "output slice too short";
+    case ZAROSNIK_REFUSED_NUMBER_TOO_LARGE: return "number not below the count";
+    case ZAROSNIK_REFUSED_CODEWORD_LENGTH: return "row without l lengths";
+    case ZAROSNIK_REFUSED_DIGIT_TOO_LARGE: return "length of the row above w - 1";
+    case ZAROSNIK_REFUSED_CODEWORD_SUM: return "sum of the row other than s";
+    case ZAROSNIK_REFUSED_LEAF_OUT_OF_RANGE: return "leaf not below 2^h";
+    case ZAROSNIK_REFUSED_KEY_SPENT: return "key spent, no leaf left";
+    case ZAROSNIK_REFUSED_SIGNATURE_LENGTH: return "signature or values of another length than the profile's";
+    case ZAROSNIK_REFUSED_LEAF_PASSED: return "leaf already passed: possible replay";
+    case ZAROSNIK_REFUSED_ROOT_DIFFERS: return "signature does not lead to the root: possible forgery";
+    case ZAROSNIK_REFUSED_MESSAGE_LENGTH: return "order text empty or over 200 bytes";
+    case ZAROSNIK_REFUSED_SHEET_LINE: return "wrong, missing or surplus line in the sheet";
+    case ZAROSNIK_REFUSED_HASH_TOO_LONG: return "over 65,535 bytes to hash";
+    default: return "not an outcome of this library";
+    }
+}
 
 /*
  * The SHA-256 digest (FIPS 180-4) of a message in one piece.
@@ -120,6 +185,7 @@ enum zarosnik_outcome {
  *
  * Refusals: 18 len over 65,535.
  */
+ZAROSNIK_NODISCARD
 uint32_t zarosnik_hash(const uint8_t *data, size_t len, uint8_t digest[ZAROSNIK_DIGEST_BYTES]);
 
 /*
@@ -134,7 +200,8 @@ uint32_t zarosnik_hash(const uint8_t *data, size_t len, uint8_t digest[ZAROSNIK_
  * from 0 to s, the number of rows of i lengths with the sum t, five words each.
  * Refused: table is untouched.
  */
-uint32_t zarosnik_count(uint8_t l, uint8_t w, uint16_t s, uint32_t *table, size_t table_len,
+ZAROSNIK_NODISCARD
+uint32_t zarosnik_count(uint32_t l, uint32_t w, uint32_t s, uint32_t *table, size_t table_len,
                         uint32_t number[ZAROSNIK_NUMBER_WORDS]);
 
 /*
@@ -149,7 +216,8 @@ uint32_t zarosnik_count(uint8_t l, uint8_t w, uint16_t s, uint32_t *table, size_
  * Granted: the l lengths stand in the first l bytes of row, one byte each, and the table of counts in table.
  * Refused: row is untouched, and so is table, except that 7 leaves the table of counts in it.
  */
-uint32_t zarosnik_unrank(uint8_t l, uint8_t w, uint16_t s, const uint32_t number[ZAROSNIK_NUMBER_WORDS],
+ZAROSNIK_NODISCARD
+uint32_t zarosnik_unrank(uint32_t l, uint32_t w, uint32_t s, const uint32_t number[ZAROSNIK_NUMBER_WORDS],
                          uint32_t *table, size_t table_len, uint8_t *row, size_t row_len);
 
 /*
@@ -164,7 +232,8 @@ uint32_t zarosnik_unrank(uint8_t l, uint8_t w, uint16_t s, const uint32_t number
  * Granted: the table of counts stands in table.
  * Refused: table is untouched.
  */
-uint32_t zarosnik_rank(uint8_t l, uint8_t w, uint16_t s, const uint8_t *row, size_t row_len,
+ZAROSNIK_NODISCARD
+uint32_t zarosnik_rank(uint32_t l, uint32_t w, uint32_t s, const uint8_t *row, size_t row_len,
                        uint32_t *table, size_t table_len, uint32_t number[ZAROSNIK_NUMBER_WORDS]);
 
 /*
@@ -178,7 +247,8 @@ uint32_t zarosnik_rank(uint8_t l, uint8_t w, uint16_t s, const uint8_t *row, siz
  *
  * Refusals: 1, 2, 3, 4; 11 leaf not below 2^h.
  */
-uint32_t zarosnik_leaf_key(uint8_t l, uint8_t w, uint16_t s, uint8_t h,
+ZAROSNIK_NODISCARD
+uint32_t zarosnik_leaf_key(uint32_t l, uint32_t w, uint32_t s, uint32_t h,
                            const uint8_t public_seed[ZAROSNIK_HASH_BYTES],
                            const uint8_t secret_seed[ZAROSNIK_HASH_BYTES], uint32_t leaf,
                            uint8_t key[ZAROSNIK_HASH_BYTES]);
@@ -193,7 +263,8 @@ uint32_t zarosnik_leaf_key(uint8_t l, uint8_t w, uint16_t s, uint8_t h,
  *
  * Refusals: 1, 2, 3, 4.
  */
-uint32_t zarosnik_root(uint8_t l, uint8_t w, uint16_t s, uint8_t h,
+ZAROSNIK_NODISCARD
+uint32_t zarosnik_root(uint32_t l, uint32_t w, uint32_t s, uint32_t h,
                        const uint8_t public_seed[ZAROSNIK_HASH_BYTES],
                        const uint8_t secret_seed[ZAROSNIK_HASH_BYTES],
                        uint8_t root[ZAROSNIK_HASH_BYTES]);
@@ -215,7 +286,8 @@ uint32_t zarosnik_root(uint8_t l, uint8_t w, uint16_t s, uint8_t h,
  * Granted: the values stand in the first 16 * l bytes of values, and the table of counts in table.
  * Refused: values is untouched, and so is table, except that 7 leaves the table of counts in it.
  */
-uint32_t zarosnik_one_time_sign(uint8_t l, uint8_t w, uint16_t s, uint8_t h,
+ZAROSNIK_NODISCARD
+uint32_t zarosnik_one_time_sign(uint32_t l, uint32_t w, uint32_t s, uint32_t h,
                                 const uint8_t public_seed[ZAROSNIK_HASH_BYTES],
                                 const uint8_t secret_seed[ZAROSNIK_HASH_BYTES], uint32_t leaf,
                                 const uint32_t number[ZAROSNIK_NUMBER_WORDS],
@@ -239,7 +311,8 @@ uint32_t zarosnik_one_time_sign(uint8_t l, uint8_t w, uint16_t s, uint8_t h,
  * Granted: the table of counts stands in table.
  * Refused: table is untouched, except that 7 leaves the table of counts in it.
  */
-uint32_t zarosnik_one_time_recover(uint8_t l, uint8_t w, uint16_t s, uint8_t h,
+ZAROSNIK_NODISCARD
+uint32_t zarosnik_one_time_recover(uint32_t l, uint32_t w, uint32_t s, uint32_t h,
                                    const uint8_t public_seed[ZAROSNIK_HASH_BYTES], uint32_t leaf,
                                    const uint32_t number[ZAROSNIK_NUMBER_WORDS],
                                    const uint8_t *values, size_t values_len,
@@ -265,7 +338,8 @@ uint32_t zarosnik_one_time_recover(uint8_t l, uint8_t w, uint16_t s, uint8_t h,
  * Refused: next_leaf keeps its value, so no leaf is used up. signature is untouched, and so is table, except that 7
  * leaves the table of counts in it.
  */
-uint32_t zarosnik_sign(uint8_t l, uint8_t w, uint16_t s, uint8_t h,
+ZAROSNIK_NODISCARD
+uint32_t zarosnik_sign(uint32_t l, uint32_t w, uint32_t s, uint32_t h,
                        const uint8_t public_seed[ZAROSNIK_HASH_BYTES],
                        const uint8_t secret_seed[ZAROSNIK_HASH_BYTES], uint32_t *next_leaf,
                        const uint8_t r[ZAROSNIK_HASH_BYTES], const uint8_t *message, size_t message_len,
@@ -290,7 +364,8 @@ uint32_t zarosnik_sign(uint8_t l, uint8_t w, uint16_t s, uint8_t h,
  * table. Store lowest_leaf before the order is carried out.
  * Refused: lowest_leaf keeps its value. table is untouched, except that 7 and 15 leave the table of counts in it.
  */
-uint32_t zarosnik_verify(uint8_t l, uint8_t w, uint16_t s, uint8_t h,
+ZAROSNIK_NODISCARD
+uint32_t zarosnik_verify(uint32_t l, uint32_t w, uint32_t s, uint32_t h,
                          const uint8_t public_seed[ZAROSNIK_HASH_BYTES],
                          const uint8_t root[ZAROSNIK_HASH_BYTES], uint32_t *lowest_leaf,
                          const uint8_t *message, size_t message_len,
@@ -314,7 +389,8 @@ uint32_t zarosnik_verify(uint8_t l, uint8_t w, uint16_t s, uint8_t h,
  * message_written bytes of message.
  * Refused: signature and message are untouched.
  */
-uint32_t zarosnik_read_sheet(uint8_t l, uint8_t w, uint16_t s, uint8_t h, const uint8_t *sheet, size_t sheet_len,
+ZAROSNIK_NODISCARD
+uint32_t zarosnik_read_sheet(uint32_t l, uint32_t w, uint32_t s, uint32_t h, const uint8_t *sheet, size_t sheet_len,
                              uint8_t *signature, size_t signature_len, uint8_t *message, size_t message_len,
                              size_t *message_written, uint32_t *line);
 

@@ -1,0 +1,204 @@
+/*
+ * Zarosnik over structs: the calls of zarosnik.h with a profile, a key and a cabinet as structs and a type of its own
+ * for each kind of 16 bytes, so that none can be passed for another.
+ *
+ * This layer is not proved. It is structs and inline functions alone: zarosnik_X_CALL hands the fields of X on to
+ * zarosnik_CALL, returns what that returns, and does nothing else. The refusals and their order, what is written and
+ * what stays untouched are said at zarosnik_CALL in zarosnik.h, and its terms on pointers and threads hold here too.
+ *
+ *   - Values (a profile, a number, seeds, a root, R) are passed by value: a compiler that only warns of a pointer to
+ *     another struct refuses another struct itself. Answers, keys and cabinets are passed by pointer.
+ *   - The state of a key and of a cabinet is a field of theirs. Only zarosnik_key_sign and zarosnik_cabinet_verify
+ *     change it, and only where they are granted.
+ *   - Nothing is allocated or kept. The bytes in storage and on the line are those of docs/INTERFACE.md and never these
+ *     structs, whose layout is the compiler's.
+ */
+#ifndef ZAROSNIK_TYPES_H
+#define ZAROSNIK_TYPES_H
+
+#include "zarosnik.h"
+
+#ifdef __cplusplus
+extern "C" {
+#endif
+
+/* A profile: l chains, width w, sum s, tree height h. */
+struct zarosnik_profile {
+    uint32_t l;
+    uint32_t w;
+    uint32_t s;
+    uint32_t h;
+};
+
+/* The gate profile, as an initialiser and as a constant. */
+#define ZAROSNIK_GATE_PROFILE {ZAROSNIK_GATE_L, ZAROSNIK_GATE_W, ZAROSNIK_GATE_S, ZAROSNIK_GATE_H}
+static const struct zarosnik_profile zarosnik_gate_profile = ZAROSNIK_GATE_PROFILE;
+
+/* The public seed of a key, which may be known to all. */
+struct zarosnik_public_seed {
+    uint8_t bytes[ZAROSNIK_HASH_BYTES];
+};
+
+/* The secret seed of a key: 16 random bytes, known to its holder alone. */
+struct zarosnik_secret_seed {
+    uint8_t bytes[ZAROSNIK_HASH_BYTES];
+};
+
+/* The root of a key's tree, which its cabinets hold. */
+struct zarosnik_tree_root {
+    uint8_t bytes[ZAROSNIK_HASH_BYTES];
+};
+
+/* The public key of one leaf. */
+struct zarosnik_one_time_key {
+    uint8_t bytes[ZAROSNIK_HASH_BYTES];
+};
+
+/* R: 16 fresh random bytes for each order. */
+struct zarosnik_randomizer {
+    uint8_t bytes[ZAROSNIK_HASH_BYTES];
+};
+
+/* A number of a row, or a count; least word first. */
+struct zarosnik_number {
+    uint32_t words[ZAROSNIK_NUMBER_WORDS];
+};
+
+/* A key. A copy of it would use its leaves a second time, and two orders signed with one leaf may let others be forged:
+ * sign with one struct alone, and store next_leaf before a signature is handed out. */
+struct zarosnik_key {
+    struct zarosnik_profile profile;
+    struct zarosnik_public_seed public_seed;
+    struct zarosnik_secret_seed secret_seed;
+    uint32_t next_leaf;
+};
+
+/* A cabinet. A copy of it would take an order a second time: check with one struct alone, and store lowest_leaf before
+ * an order is carried out. */
+struct zarosnik_cabinet {
+    struct zarosnik_profile profile;
+    struct zarosnik_public_seed public_seed;
+    struct zarosnik_tree_root root;
+    uint32_t lowest_leaf;
+};
+
+/* A fresh key, of which no leaf is used. One that has signed is given the next leaf that was stored. */
+static inline struct zarosnik_key zarosnik_fresh_key(struct zarosnik_profile profile,
+                                                     struct zarosnik_public_seed public_seed,
+                                                     struct zarosnik_secret_seed secret_seed)
+{
+    struct zarosnik_key key = {profile, public_seed, secret_seed, 0};
+    return key;
+}
+
+/* A fresh cabinet, which has taken no order. One that has is given the lowest leaf that was stored. */
+static inline struct zarosnik_cabinet zarosnik_fresh_cabinet(struct zarosnik_profile profile,
+                                                             struct zarosnik_public_seed public_seed,
+                                                             struct zarosnik_tree_root root)
+{
+    struct zarosnik_cabinet cabinet = {profile, public_seed, root, 0};
+    return cabinet;
+}
+
+/* Count. */
+ZAROSNIK_NODISCARD
+static inline uint32_t zarosnik_profile_count(struct zarosnik_profile profile, uint32_t *table, size_t table_len,
+                                              struct zarosnik_number *number)
+{
+    return zarosnik_count(profile.l, profile.w, profile.s, table, table_len, number->words);
+}
+
+/* Spread. */
+ZAROSNIK_NODISCARD
+static inline uint32_t zarosnik_profile_unrank(struct zarosnik_profile profile, struct zarosnik_number number,
+                                               uint32_t *table, size_t table_len, uint8_t *row, size_t row_len)
+{
+    return zarosnik_unrank(profile.l, profile.w, profile.s, number.words, table, table_len, row, row_len);
+}
+
+/* Gather. */
+ZAROSNIK_NODISCARD
+static inline uint32_t zarosnik_profile_rank(struct zarosnik_profile profile, const uint8_t *row, size_t row_len,
+                                             uint32_t *table, size_t table_len, struct zarosnik_number *number)
+{
+    return zarosnik_rank(profile.l, profile.w, profile.s, row, row_len, table, table_len, number->words);
+}
+
+/* Read sheet. */
+ZAROSNIK_NODISCARD
+static inline uint32_t zarosnik_profile_read_sheet(struct zarosnik_profile profile, const uint8_t *sheet,
+                                                   size_t sheet_len, uint8_t *signature, size_t signature_len,
+                                                   uint8_t *message, size_t message_len, size_t *message_written,
+                                                   uint32_t *line)
+{
+    return zarosnik_read_sheet(profile.l, profile.w, profile.s, profile.h, sheet, sheet_len, signature, signature_len,
+                               message, message_len, message_written, line);
+}
+
+/* Recover. */
+ZAROSNIK_NODISCARD
+static inline uint32_t zarosnik_profile_one_time_recover(struct zarosnik_profile profile,
+                                                         struct zarosnik_public_seed public_seed, uint32_t leaf,
+                                                         struct zarosnik_number number, const uint8_t *values,
+                                                         size_t values_len, uint32_t *table, size_t table_len,
+                                                         struct zarosnik_one_time_key *key, uint32_t *steps)
+{
+    return zarosnik_one_time_recover(profile.l, profile.w, profile.s, profile.h, public_seed.bytes, leaf, number.words,
+                                     values, values_len, table, table_len, key->bytes, steps);
+}
+
+/* Leaf key. */
+ZAROSNIK_NODISCARD
+static inline uint32_t zarosnik_key_leaf_key(const struct zarosnik_key *key, uint32_t leaf,
+                                             struct zarosnik_one_time_key *leaf_key)
+{
+    return zarosnik_leaf_key(key->profile.l, key->profile.w, key->profile.s, key->profile.h, key->public_seed.bytes,
+                             key->secret_seed.bytes, leaf, leaf_key->bytes);
+}
+
+/* Root. */
+ZAROSNIK_NODISCARD
+static inline uint32_t zarosnik_key_root(const struct zarosnik_key *key, struct zarosnik_tree_root *root)
+{
+    return zarosnik_root(key->profile.l, key->profile.w, key->profile.s, key->profile.h, key->public_seed.bytes,
+                         key->secret_seed.bytes, root->bytes);
+}
+
+/* Reveal. It keeps no account of the leaves used: zarosnik_key_sign does. */
+ZAROSNIK_NODISCARD
+static inline uint32_t zarosnik_key_one_time_sign(const struct zarosnik_key *key, uint32_t leaf,
+                                                  struct zarosnik_number number, uint32_t *table, size_t table_len,
+                                                  uint8_t *values, size_t values_len)
+{
+    return zarosnik_one_time_sign(key->profile.l, key->profile.w, key->profile.s, key->profile.h,
+                                  key->public_seed.bytes, key->secret_seed.bytes, leaf, number.words, table, table_len,
+                                  values, values_len);
+}
+
+/* Issue. Store key->next_leaf before the signature is handed out. */
+ZAROSNIK_NODISCARD
+static inline uint32_t zarosnik_key_sign(struct zarosnik_key *key, struct zarosnik_randomizer r,
+                                         const uint8_t *message, size_t message_len, uint32_t *table, size_t table_len,
+                                         uint8_t *signature, size_t signature_len)
+{
+    return zarosnik_sign(key->profile.l, key->profile.w, key->profile.s, key->profile.h, key->public_seed.bytes,
+                         key->secret_seed.bytes, &key->next_leaf, r.bytes, message, message_len, table, table_len,
+                         signature, signature_len);
+}
+
+/* Check. Store cabinet->lowest_leaf before the order is carried out. */
+ZAROSNIK_NODISCARD
+static inline uint32_t zarosnik_cabinet_verify(struct zarosnik_cabinet *cabinet, const uint8_t *message,
+                                               size_t message_len, const uint8_t *signature, size_t signature_len,
+                                               uint32_t *table, size_t table_len, uint32_t *steps)
+{
+    return zarosnik_verify(cabinet->profile.l, cabinet->profile.w, cabinet->profile.s, cabinet->profile.h,
+                           cabinet->public_seed.bytes, cabinet->root.bytes, &cabinet->lowest_leaf, message,
+                           message_len, signature, signature_len, table, table_len, steps);
+}
+
+#ifdef __cplusplus
+}
+#endif
+
+#endif
