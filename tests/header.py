@@ -1,21 +1,39 @@
-"""Holds the C header to the library: it compiles as C11 and as C++17 with all warnings, its
-refusals are those of the crate `refusal`, and its functions have the names, parameters and types
-of the crate `zarosnik`.
+"""Holds the C headers to the library and to the interface page.
 
-    python3 tests/header.py
+    python3 tests/header.py                about ten seconds
+    python3 tests/header.py --page FILE    with another page than docs/INTERFACE.md
+
+Both headers compile as C11 and as C++17 with all warnings. The first has the functions, parameters
+and types of the crate `zarosnik` and the refusals of the crate `refusal`; the page's table has their
+numbers and names, and the words of zarosnik_outcome_text. The second hands each parameter on as it is
+named. What must not compile does not: one kind of 16 bytes for another, and an outcome that is not
+looked at.
 
 Neither a compiler nor a proof compares a declaration in C with the Rattle source, so it is done here.
 """
 
+import argparse
 import re
+import shutil
 import subprocess
 import sys
+import tempfile
 from pathlib import Path
 
 ROOT = Path(__file__).resolve().parent.parent
-HEADER = ROOT / "include" / "zarosnik.h"
+INCLUDE = ROOT / "include"
 WARNINGS = "-Wall -Wextra -Wpedantic -Wconversion -Wshadow -Werror".split()
-COMPILERS = [["gcc", "-std=c11", "-x", "c"], ["g++", "-std=c++17", "-x", "c++"]]
+# clang is taken where it is installed.
+COMPILERS = [
+    [name, standard, "-x", language]
+    for name, standard, language in [
+        ("gcc", "-std=c11", "c"),
+        ("g++", "-std=c++17", "c++"),
+        ("clang", "-std=c11", "c"),
+        ("clang++", "-std=c++17", "c++"),
+    ]
+    if shutil.which(name) or name in ("gcc", "g++")
+]
 TYPES = {"u8": "uint8_t", "u16": "uint16_t", "u32": "uint32_t", "usize": "size_t"}
 # Names that are shorter in the source, where an underscore needs quotes in every contract.
 NAMES = {
@@ -26,19 +44,53 @@ NAMES = {
     "lowest": "lowest_leaf",
     "written": "message_written",
 }
+NO_OUTCOME = "not an outcome of this library"
+PAGE_COLUMNS = ["Number", "Name", "Meaning", "Met by", "What to do"]
 
 
-def compile_header():
-    options = WARNINGS + ["-fsyntax-only", f"-I{HEADER.parent}"]
+def fail(line):
+    sys.exit(f"tests/header.py: {line}")
+
+
+def same(found, expected, found_in, expected_in):
+    """Fails at the first name whose entries differ."""
+    for name in sorted(found.keys() | expected.keys()):
+        if found.get(name) != expected.get(name):
+            fail(
+                f"{name}\n  {found_in}: {found.get(name)}\n  {expected_in}: {expected.get(name)}"
+            )
+
+
+# What compiles.
+
+
+def compiled(compiler, options, source):
+    """A compiler's answer to a source text. gcc warns of outcomes only where it makes code."""
+    command = compiler + options + ["-S", "-o", "/dev/null", f"-I{INCLUDE}", "-"]
+    return subprocess.run(command, input=source, capture_output=True, text=True)
+
+
+def must_compile(options, source):
     for compiler in COMPILERS:
-        subprocess.run(compiler + options + [str(ROOT / "tests" / "header.c")], check=True)
+        answer = compiled(compiler, options, source)
+        if answer.returncode:
+            fail(f"{compiler[0]} does not compile\n{source}\n{answer.stderr}")
 
 
-def header_text():
-    """The header without comments, and with the number of elements in each bracket."""
-    text = re.sub(r"/\*.*?\*/", " ", HEADER.read_text(encoding="utf-8"), flags=re.DOTALL)
-    for name, value in re.findall(r"#define (ZAROSNIK_\w+) (\d+)u\n", text):
-        text = text.replace(f"[{name}]", f"[{value}]")
+def compile_headers():
+    must_compile(WARNINGS, (ROOT / "tests" / "header.c").read_text(encoding="utf-8"))
+    for header in INCLUDE.glob("*.h"):
+        must_compile(WARNINGS, f'#include "{header.name}"\n#include "{header.name}"\n')
+
+
+# The functions and the outcomes, in the headers and in the source.
+
+
+def header_text(name):
+    """A header without comments, and with the number of elements in each bracket."""
+    text = re.sub(r"/\*.*?\*/", " ", (INCLUDE / name).read_text(encoding="utf-8"), flags=re.DOTALL)
+    for macro, value in re.findall(r"#define (ZAROSNIK_\w+) (\d+)u\n", text):
+        text = text.replace(f"[{macro}]", f"[{value}]")
     return text
 
 
@@ -54,8 +106,9 @@ def declared_parameter(text):
     return kind.replace(" *", "*").strip(), name, size
 
 
-def declared_functions(text):
-    found = re.findall(r"uint32_t (zarosnik_\w+)\((.*?)\);", text, re.DOTALL)
+def declared_functions(text, end=";"):
+    """The functions that give an outcome; `end` is what stands behind the parameters."""
+    found = re.findall(rf"uint32_t (zarosnik_\w+)\(([^()]*)\)\s*{end}", text)
     return {name: [declared_parameter(p) for p in given.split(",")] for name, given in found}
 
 
@@ -83,24 +136,199 @@ def exported_functions(text):
     return exported
 
 
+def declared_outcomes(text):
+    """The number of each name."""
+    return {name: int(number) for name, number in re.findall(r"ZAROSNIK_(\w+) = (\d+)", text)}
+
+
 def refusals(text):
     """The name of each outcome in the header, with its number in the source."""
-    numbers = {"GRANTED": "0"}
+    numbers = {"GRANTED": 0}
     for name, number in re.findall(r"Refusal::(\w+) => (\d+)", text):
-        numbers["REFUSED" + re.sub(r"([A-Z])", r"_\1", name).upper()] = number
+        numbers["REFUSED" + re.sub(r"([A-Z])", r"_\1", name).upper()] = int(number)
     return numbers
 
 
+# The words, in the first header and on the page.
+
+PRINT_TEXTS = """
+#include <stdio.h>
+#include "zarosnik.h"
+int main(void)
+{
+    for (uint32_t outcome = 0; outcome < 256; outcome++) {
+        puts(zarosnik_outcome_text(outcome));
+    }
+    puts(zarosnik_outcome_text(UINT32_MAX));
+    return 0;
+}
+"""
+
+
+def texts():
+    """What zarosnik_outcome_text says to each number up to 255 and to the largest."""
+    with tempfile.TemporaryDirectory() as folder:
+        program = str(Path(folder) / "texts")
+        command = ["gcc", "-std=c11", "-x", "c", *WARNINGS, f"-I{INCLUDE}", "-", "-o", program]
+        subprocess.run(command, input=PRINT_TEXTS, text=True, check=True)
+        printed = subprocess.run([program], capture_output=True, text=True, check=True).stdout
+    *low, largest = printed.splitlines()
+    return {**dict(enumerate(low)), 2**32 - 1: largest}
+
+
+def header_rows(outcomes):
+    """By number, the name and the text of each outcome; no other number may have a text."""
+    said = texts()
+    names = {number: name for name, number in outcomes.items()}
+    for number, text in said.items():
+        if (number in names) == (text == NO_OUTCOME):
+            fail(f"zarosnik_outcome_text({number}) is {text!r}")
+    return {number: (name, said[number]) for number, name in names.items()}
+
+
+def cells(line):
+    return [cell.strip().strip("`") for cell in line.strip().strip("|").split("|")]
+
+
+def page_rows(page):
+    """By number, the name and the meaning in the page's one table of refusals."""
+    lines = page.read_text(encoding="utf-8").splitlines()
+    heads = [at for at, line in enumerate(lines) if cells(line) == PAGE_COLUMNS]
+    if len(heads) != 1:
+        fail(f"{page} has {len(heads)} tables with the columns {PAGE_COLUMNS}")
+    rows = {}
+    for line in lines[heads[0] + 2 :]:
+        if not line.startswith("|"):
+            break
+        number, name, meaning, *_ = cells(line)
+        if int(number) in rows:
+            fail(f"{page} has {number} twice")
+        rows[int(number)] = (name, meaning)
+    return rows
+
+
+# The version.
+
+
+def check_version(text):
+    """The parts make the string; header.c holds them to the number."""
+    parts = re.findall(r"#define ZAROSNIK_VERSION_(?:MAJOR|MINOR|PATCH) (\d+)\n", text)
+    strings = re.findall(r'#define ZAROSNIK_VERSION_STRING "(.*)"\n', text)
+    if len(parts) != 3 or strings != [".".join(parts)]:
+        fail(f"the version's parts are {parts}, its string is {strings}")
+
+
+# The second header.
+
+
+def argument_name(text):
+    """The parameter for which an argument stands, by the last name in it."""
+    names = [name for name in re.findall(r"\w+", text) if name not in ("bytes", "words")]
+    return names[-1]
+
+
+def check_typed(text, functions):
+    """Each function of the first header but Hash, which takes none of the structs, is called by one
+    of the second: zarosnik_CALL by zarosnik_X_CALL, which takes an X first, and with arguments that
+    are named as its parameters are."""
+    called = {}
+    body = r"(zarosnik_\w+)\(([^()]*)\)\s*\{\s*return (zarosnik_\w+)\(([^()]*)\);\s*\}"
+    for name, parameters, callee, given in re.findall(body, text):
+        struct = re.match(r"(?:const )?struct (zarosnik_\w+)", parameters).group(1)
+        if callee in called or name != struct + callee.removeprefix("zarosnik"):
+            fail(f"{name} of a {struct} calls {callee}")
+        called[callee] = [argument_name(argument) for argument in given.split(",")]
+    wanted = {name: [p[1] for p in given] for name, given in functions.items()}
+    del wanted["zarosnik_hash"]
+    # The key's own struct has the name `key` there.
+    wanted["zarosnik_leaf_key"][-1] = "leaf_key"
+    same(called, wanted, "arguments", "parameters")
+
+
+# What must not compile.
+
+KINDS = ["public_seed", "secret_seed", "tree_root", "one_time_key", "randomizer"]
+PROFILE = "zarosnik_gate_profile"
+# For each call that takes kinds of 16 bytes: what stands before them, these, what stands behind.
+TAKERS = [
+    (f"zarosnik_fresh_key({PROFILE}, ", ["public_seed", "secret_seed"], ")"),
+    (f"zarosnik_fresh_cabinet({PROFILE}, ", ["public_seed", "tree_root"], ")"),
+    ("zarosnik_key_sign(&key, ", ["randomizer"], ", bytes, 1, words, 1, bytes, 1)"),
+    (
+        f"zarosnik_profile_one_time_recover({PROFILE}, ",
+        ["public_seed"],
+        ", 0, number, bytes, 1, words, 1, &one_time_key, words)",
+    ),
+]
+
+
+def taking(before, kinds, behind):
+    things = [*KINDS, "key", "number"]
+    return "\n".join(
+        ['#include "zarosnik_types.h"']
+        + [f"extern struct zarosnik_{thing} {thing};" for thing in things]
+        + ["void taking(uint8_t *bytes, uint32_t *words);"]
+        + ["void taking(uint8_t *bytes, uint32_t *words)"]
+        + [f"{{ (void)bytes; (void)words; (void)({before}{', '.join(kinds)}{behind} , 0); }}\n"]
+    )
+
+
+def mistaken():
+    """Each call with one kind of 16 bytes in the place of another: the two kinds and the source."""
+    for before, kinds, behind in TAKERS:
+        for at, kind in enumerate(kinds):
+            for other in KINDS:
+                if other != kind:
+                    given = [*kinds[:at], other, *kinds[at + 1 :]]
+                    yield kind, other, taking(before, given, behind)
+
+
+def refuse_mistaken():
+    """Where one kind of 16 bytes is wanted, each other is an error without any option."""
+    for before, kinds, behind in TAKERS:
+        must_compile([], taking(before, kinds, behind))
+    for kind, other, source in mistaken():
+        for compiler in COMPILERS:
+            answer = compiled(compiler, [], source)
+            if answer.returncode == 0 or f"zarosnik_{other}" not in answer.stderr:
+                fail(f"{compiler[0]} takes a {other} for a {kind}\n{source}\n{answer.stderr}")
+
+
+def call_of(name, parameters, form):
+    """A function with the same parameters, whose body is `form` of the call."""
+    brackets = {p: f"[{size}]" if size else "" for _, p, size in parameters}
+    given = ", ".join(f"{kind} {p}{brackets[p]}" for kind, p, _ in parameters)
+    body = form.format(f"{name}({', '.join(brackets)})")
+    return f"uint32_t call_{name}({given});\nuint32_t call_{name}({given}) {{ {body} }}\n"
+
+
+def refuse_ignored(functions):
+    """An outcome that is not looked at is warned of, whichever the function."""
+    include = '#include "zarosnik_types.h"\n'
+    looked_at = [call_of(*function, "return {};") for function in functions.items()]
+    must_compile(WARNINGS, include + "".join(looked_at))
+    for function in functions.items():
+        source = include + call_of(*function, "{}; return 0;")
+        for compiler in COMPILERS:
+            answer = compiled(compiler, ["-Werror=unused-result"], source)
+            if answer.returncode == 0 or "unused-result" not in answer.stderr:
+                fail(f"{compiler[0]} lets an outcome be ignored\n{source}\n{answer.stderr}")
+
+
 def main():
-    compile_header()
-    text = header_text()
-    functions = declared_functions(text)
-    outcomes = dict(re.findall(r"ZAROSNIK_(\w+) = (\d+)", text))
-    header = {**functions, **outcomes}
-    source = {**exported_functions(source_text("zarosnik")), **refusals(source_text("refusal"))}
-    for name in sorted(header.keys() | source.keys()):
-        if header.get(name) != source.get(name):
-            sys.exit(f"{name}\n  header: {header.get(name)}\n  source: {source.get(name)}")
+    parser = argparse.ArgumentParser()
+    parser.add_argument("--page", type=Path, default=ROOT / "docs" / "INTERFACE.md")
+    page = parser.parse_args().page
+    compile_headers()
+    flat, typed = header_text("zarosnik.h"), header_text("zarosnik_types.h")
+    functions, outcomes = declared_functions(flat), declared_outcomes(flat)
+    same(functions, exported_functions(source_text("zarosnik")), "header", "source")
+    same(outcomes, refusals(source_text("refusal")), "header", "source")
+    check_version(flat)
+    check_typed(typed, functions)
+    refuse_ignored({**functions, **declared_functions(typed, r"\{")})
+    refuse_mistaken()
+    same(header_rows(outcomes), page_rows(page), "header", "page")
     print(f"header: {len(functions)} functions and {len(outcomes)} outcomes as in the source")
 
 

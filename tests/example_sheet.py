@@ -1,0 +1,52 @@
+"""The sheet that examples/sheet.c is run with, made by the independent implementation.
+
+    python3 tests/example_sheet.py FILE    writes it
+    python3 tests/example_sheet.py         succeeds where examples/order.sheet is exactly that, and the
+                                           examples hold the root that belongs to it
+"""
+
+import re
+import sys
+from pathlib import Path
+
+from sheets import right_sheet
+from signatures import GATE, SigningKey, issue, root_of, signature_length
+from zarosnik import table_length
+
+EXAMPLES = Path(__file__).resolve().parent.parent / "examples"
+SEED = bytes(range(0x10, 0x20))
+SECRET = bytes(range(0xE0, 0xF0))
+R = bytes(range(0x71, 0x81))
+TEXT = b"sill level 2.4 m until 18:00"
+
+
+def expected_sheet():
+    work = [0] * table_length(GATE.l, GATE.s)
+    key = SigningKey(GATE, SEED, SECRET, 0)
+    outcome, _, signature, _ = issue(key, R, TEXT, work, bytes(signature_length(GATE)))
+    if outcome:
+        sys.exit(f"tests/example_sheet.py: the order is refused by {outcome}")
+    return right_sheet(GATE, signature, TEXT)
+
+
+def root_in(path):
+    """The bytes of each root that a program holds."""
+    found = re.findall(r"zarosnik_tree_root \w+ = \{\{(.*?)\}\}", path.read_text(), re.DOTALL)
+    return [bytes(int(byte, 16) for byte in re.findall(r"0x(\w\w)", text)) for text in found]
+
+
+def main(arguments):
+    sheet = expected_sheet()
+    if arguments:
+        Path(arguments[0]).write_bytes(sheet)
+        return
+    if (EXAMPLES / "order.sheet").read_bytes() != sheet:
+        sys.exit("tests/example_sheet.py: examples/order.sheet is not the expected one")
+    for name in ["order.c", "sheet.c"]:
+        if root_in(EXAMPLES / name) != [root_of(GATE, SEED, SECRET)]:
+            sys.exit(f"tests/example_sheet.py: the root in examples/{name} is not the expected one")
+    print(f"example sheet: {len(sheet)} bytes and the root as expected")
+
+
+if __name__ == "__main__":
+    main(sys.argv[1:])
