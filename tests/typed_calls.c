@@ -1,0 +1,151 @@
+/* Run by typed_calls.py: every call of zarosnik_types.h, its answers compared with those in expected.h, which typed_calls.py makes.
+ * The exit status is 0 where all agree. */
+#include "zarosnik_types.h"
+
+#include <inttypes.h>
+#include <stdio.h>
+#include <stdlib.h>
+#include <string.h>
+
+#include "expected.h"
+
+#define TABLE_WORDS ZAROSNIK_TABLE_WORDS(EXPECTED_L, EXPECTED_S)
+
+static const struct zarosnik_profile profile = {EXPECTED_L, EXPECTED_W, EXPECTED_S, EXPECTED_H};
+static uint32_t table[TABLE_WORDS];
+static int differences;
+
+static void expect(const char *name, uint32_t found, uint32_t expected)
+{
+    if (found != expected) {
+        fprintf(stderr, "%s: %" PRIu32 " instead of %" PRIu32 "\n", name, found, expected);
+        differences++;
+    }
+}
+
+static void expect_bytes(const char *name, const void *found, const void *expected, size_t size)
+{
+    if (memcmp(found, expected, size) != 0) {
+        fprintf(stderr, "%s: other bytes than expected\n", name);
+        differences++;
+    }
+}
+
+static void rows(void)
+{
+    struct zarosnik_number number;
+    uint8_t row[sizeof expected_row];
+    expect("count", zarosnik_profile_count(profile, table, TABLE_WORDS, &number), ZAROSNIK_GRANTED);
+    expect_bytes("count", number.words, expected_count, sizeof expected_count);
+    expect("unrank of the count", zarosnik_profile_unrank(profile, number, table, TABLE_WORDS, row, sizeof row),
+           ZAROSNIK_REFUSED_NUMBER_TOO_LARGE);
+    memcpy(number.words, expected_number, sizeof expected_number);
+    expect("unrank", zarosnik_profile_unrank(profile, number, table, TABLE_WORDS, row, sizeof row), ZAROSNIK_GRANTED);
+    expect_bytes("row", row, expected_row, sizeof expected_row);
+    memset(number.words, 0, sizeof number.words);
+    expect("rank", zarosnik_profile_rank(profile, row, sizeof row, table, TABLE_WORDS, &number), ZAROSNIK_GRANTED);
+    expect_bytes("number", number.words, expected_number, sizeof expected_number);
+}
+
+static void leaves(const struct zarosnik_key *key)
+{
+    struct zarosnik_one_time_key leaf_key;
+    struct zarosnik_number number;
+    uint8_t values[sizeof expected_values];
+    uint32_t steps;
+    memcpy(number.words, expected_number, sizeof expected_number);
+    expect("leaf key", zarosnik_key_leaf_key(key, EXPECTED_LEAF, &leaf_key), ZAROSNIK_GRANTED);
+    expect_bytes("leaf key", leaf_key.bytes, expected_leaf_key, sizeof expected_leaf_key);
+    expect("reveal",
+           zarosnik_key_one_time_sign(key, EXPECTED_LEAF, number, table, TABLE_WORDS, values, sizeof values),
+           ZAROSNIK_GRANTED);
+    expect_bytes("values", values, expected_values, sizeof expected_values);
+    memset(leaf_key.bytes, 0, sizeof leaf_key.bytes);
+    expect("recover",
+           zarosnik_profile_one_time_recover(profile, key->public_seed, EXPECTED_LEAF, number, values, sizeof values,
+                                             table, TABLE_WORDS, &leaf_key, &steps),
+           ZAROSNIK_GRANTED);
+    expect_bytes("recovered key", leaf_key.bytes, expected_leaf_key, sizeof expected_leaf_key);
+    expect("steps of recover", steps, EXPECTED_STEPS);
+}
+
+static void sign(struct zarosnik_key *key)
+{
+    struct zarosnik_randomizer r;
+    uint8_t signature[sizeof expected_signature];
+    memcpy(r.bytes, expected_r, sizeof expected_r);
+    expect("sign into too little",
+           zarosnik_key_sign(key, r, expected_text, sizeof expected_text, table, TABLE_WORDS, signature,
+                             sizeof signature - 1),
+           ZAROSNIK_REFUSED_OUTPUT_TOO_SHORT);
+    expect("next leaf after a refusal", key->next_leaf, EXPECTED_NEXT);
+    expect("sign",
+           zarosnik_key_sign(key, r, expected_text, sizeof expected_text, table, TABLE_WORDS, signature,
+                             sizeof signature),
+           ZAROSNIK_GRANTED);
+    expect("next leaf", key->next_leaf, EXPECTED_NEXT + 1);
+    expect_bytes("signature", signature, expected_signature, sizeof expected_signature);
+}
+
+static void verify(struct zarosnik_cabinet *cabinet)
+{
+    uint8_t signature[sizeof expected_signature];
+    uint8_t text[ZAROSNIK_MESSAGE_MAX];
+    size_t text_len;
+    uint32_t line;
+    uint32_t steps;
+    expect("read sheet",
+           zarosnik_profile_read_sheet(profile, expected_sheet, sizeof expected_sheet, signature, sizeof signature,
+                                       text, sizeof text, &text_len, &line),
+           ZAROSNIK_GRANTED);
+    expect("line", line, 0);
+    expect_bytes("signature of the sheet", signature, expected_signature, sizeof expected_signature);
+    if (text_len != sizeof expected_text) {
+        fprintf(stderr, "text of %zu bytes instead of %zu\n", text_len, sizeof expected_text);
+        differences++;
+        return;
+    }
+    expect_bytes("text", text, expected_text, sizeof expected_text);
+    text[0] ^= 1;
+    expect("verify another text",
+           zarosnik_cabinet_verify(cabinet, text, text_len, signature, sizeof signature, table, TABLE_WORDS, &steps),
+           ZAROSNIK_REFUSED_ROOT_DIFFERS);
+    expect("lowest leaf after a refusal", cabinet->lowest_leaf, 0);
+    text[0] ^= 1;
+    expect("verify",
+           zarosnik_cabinet_verify(cabinet, text, text_len, signature, sizeof signature, table, TABLE_WORDS, &steps),
+           ZAROSNIK_GRANTED);
+    expect("steps", steps, EXPECTED_STEPS);
+    expect("lowest leaf", cabinet->lowest_leaf, EXPECTED_NEXT + 1);
+}
+
+int main(void)
+{
+    struct zarosnik_public_seed public_seed;
+    struct zarosnik_secret_seed secret_seed;
+    memcpy(public_seed.bytes, expected_public_seed, sizeof expected_public_seed);
+    memcpy(secret_seed.bytes, expected_secret_seed, sizeof expected_secret_seed);
+    struct zarosnik_key key = zarosnik_fresh_key(profile, public_seed, secret_seed);
+    expect("fresh key", key.next_leaf, 0);
+    key.next_leaf = EXPECTED_NEXT;
+    struct zarosnik_tree_root root;
+    expect("root", zarosnik_key_root(&key, &root), ZAROSNIK_GRANTED);
+    expect_bytes("root", root.bytes, expected_root, sizeof expected_root);
+    struct zarosnik_cabinet cabinet = zarosnik_fresh_cabinet(profile, public_seed, root);
+    expect("fresh cabinet", cabinet.lowest_leaf, 0);
+
+    rows();
+    leaves(&key);
+    sign(&key);
+    verify(&cabinet);
+
+    /* The gate profile, and one outside the limits that a narrower type would cut to it. */
+    struct zarosnik_profile gate = ZAROSNIK_GATE_PROFILE;
+    expect_bytes("gate profile", &gate, &zarosnik_gate_profile, sizeof gate);
+    struct zarosnik_number number;
+    gate.l += 0x10000;
+    expect("wide l", zarosnik_profile_count(gate, table, TABLE_WORDS, &number), ZAROSNIK_REFUSED_CHAIN_COUNT);
+    key.profile.h += 0x10000;
+    expect("wide h", zarosnik_key_root(&key, &root), ZAROSNIK_REFUSED_HEIGHT);
+    return differences == 0 ? EXIT_SUCCESS : EXIT_FAILURE;
+}

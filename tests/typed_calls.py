@@ -1,0 +1,102 @@
+"""Runs every call of the second header, include/zarosnik_types.h, over the archive, as C11 and as
+C++17, and compares what it writes with the independent implementation.
+
+    python3 tests/typed_calls.py                    target/staticlib/libzarosnik.a
+    python3 tests/typed_calls.py --archive FILE
+
+tests/typed_calls.c makes the calls. What they take and must give is written here, as arrays, into a file
+expected.h that it includes. No two fields have the same value, so a call that exchanged two would show.
+"""
+
+import argparse
+import subprocess
+import sys
+import tempfile
+from pathlib import Path
+
+import signatures
+from header import COMPILERS, INCLUDE, WARNINGS
+from sheets import right_sheet
+from signatures import Profile, SigningKey
+from zarosnik import number_words, row_of, table_length, ways
+
+ROOT = Path(__file__).resolve().parent.parent
+ARCHIVE = ROOT / "target" / "staticlib" / "libzarosnik.a"
+# The gate's profile over a low tree.
+P = Profile(34, 16, 255, 2)
+SEED = bytes(range(0x30, 0x40))
+SECRET = bytes(range(0x50, 0x60))
+R = bytes(range(0x90, 0xA0))
+TEXT = b"sill level 1.9 m until 06:00"
+NUMBER = int.from_bytes(bytes(range(1, 17)), "big")
+# The leaf that is revealed, and the one that signs.
+LEAF = 3
+NEXT = 1
+
+
+def issued():
+    work = [0] * table_length(P.l, P.s)
+    out = bytes(signatures.signature_length(P))
+    key = SigningKey(P, SEED, SECRET, NEXT)
+    outcome, _, signature, _ = signatures.issue(key, R, TEXT, work, out)
+    if outcome:
+        sys.exit(f"tests/typed_calls.py: the order is refused by {outcome}")
+    return signature
+
+
+def expected():
+    """The bytes, the numbers and the single values, by name."""
+    signature = issued()
+    byte_arrays = {
+        "public_seed": SEED,
+        "secret_seed": SECRET,
+        "r": R,
+        "text": TEXT,
+        "root": signatures.root_of(P, SEED, SECRET),
+        "leaf_key": signatures.key_of_leaf(P.l, P.w, SEED, SECRET, LEAF),
+        "row": row_of(P.l, P.w, P.s, NUMBER),
+        "values": signatures.revealed(P, SEED, SECRET, LEAF, NUMBER),
+        "signature": signature,
+        "sheet": right_sheet(P, signature, TEXT),
+    }
+    numbers = {"count": ways(P.w, P.l, P.s), "number": NUMBER}
+    steps = P.l * (P.w - 1) - P.s
+    singles = {**P._asdict(), "leaf": LEAF, "next": NEXT, "steps": steps}
+    return byte_arrays, numbers, singles
+
+
+def expected_header():
+    byte_arrays, numbers, singles = expected()
+    lines = ["#include <stdint.h>"]
+    for name, content in byte_arrays.items():
+        given = ", ".join(str(byte) for byte in content)
+        lines.append(f"static const uint8_t expected_{name}[{len(content)}] = {{{given}}};")
+    for name, number in numbers.items():
+        given = ", ".join(f"{word}u" for word in number_words(number))
+        lines.append(f"static const uint32_t expected_{name}[5] = {{{given}}};")
+    lines += [f"#define EXPECTED_{name.upper()} {value}u" for name, value in singles.items()]
+    return "\n".join(lines) + "\n"
+
+
+def must(*command):
+    if subprocess.run(command).returncode:
+        sys.exit(f"tests/typed_calls.py: failed: {' '.join(command)}")
+
+
+def main():
+    parser = argparse.ArgumentParser()
+    parser.add_argument("--archive", default=str(ARCHIVE))
+    archive = parser.parse_args().archive
+    source = str(ROOT / "tests" / "typed_calls.c")
+    with tempfile.TemporaryDirectory() as folder:
+        Path(folder, "expected.h").write_text(expected_header())
+        program = str(Path(folder, "typed_calls"))
+        options = [*WARNINGS, "-O2", f"-I{INCLUDE}", f"-I{folder}", "-o", program]
+        for compiler in COMPILERS:
+            must(*compiler, *options, source, "-x", "none", archive)
+            must(program)
+    print(f"typed calls: every call as expected, compiled by {', '.join(c[0] for c in COMPILERS)}")
+
+
+if __name__ == "__main__":
+    main()
