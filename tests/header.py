@@ -4,15 +4,16 @@
     python3 tests/header.py --page FILE    with another page than docs/INTERFACE.md
 
 Both headers compile as C11 and as C++17 with all warnings. The first has the functions, parameters
-and types of the crate `zarosnik` and the refusals of the crate `refusal`; the page's table has their
-numbers and names, and the words of zarosnik_outcome_text. The second hands each parameter on as it is
-named. What must not compile does not: one kind of 16 bytes for another, and an outcome that is not
-looked at.
+and types of the crate `zarosnik` and the refusals of the crate `refusal`. The page's tables have
+their numbers and names, the words of zarosnik_outcome_text, and for each function its refusals in
+order. The second hands each parameter on as it is named. What must not compile does not: one kind of
+16 bytes for another, and an outcome that is not looked at.
 
 Neither a compiler nor a proof compares a declaration in C with the Rattle source, so it is done here.
 """
 
 import argparse
+import itertools
 import re
 import shutil
 import subprocess
@@ -45,7 +46,9 @@ NAMES = {
     "written": "message_written",
 }
 NO_OUTCOME = "not an outcome of this library"
-PAGE_COLUMNS = ["Number", "Name", "Meaning", "Met by", "What to do"]
+# The columns of the page's tables.
+OUTCOME_TABLE = ["Number", "Name", "Meaning", "Met by", "What to do"]
+ORDER_TABLE = ["Operation", "Rattle", "C", "Refusals in order"]
 
 
 def fail(line):
@@ -149,7 +152,7 @@ def refusals(text):
     return numbers
 
 
-# The words, in the first header and on the page.
+# The words and the order of refusals, in the first header and on the page.
 
 PRINT_TEXTS = """
 #include <stdio.h>
@@ -186,25 +189,53 @@ def header_rows(outcomes):
     return {number: (name, said[number]) for number, name in names.items()}
 
 
+def header_orders():
+    """The numbers behind `Refusals:` in the comment of each function. One may stand there twice, with
+    two causes."""
+    text = (INCLUDE / "zarosnik.h").read_text(encoding="utf-8")
+    comment = r"/\*((?:(?!\*/).)*)\*/\s*ZAROSNIK_NODISCARD\s*uint32_t (zarosnik_\w+)\("
+    orders = {}
+    for said, name in re.findall(comment, text, re.DOTALL):
+        listed = re.search(r"Refusals: (.*?)(?:Granted:|Refused:|$)", said, re.DOTALL).group(1)
+        parts = [re.match(r"[\s*]*([\d, ]+)", part).group(1) for part in listed.split(";")]
+        numbers = map(int, re.findall(r"\d+", ",".join(parts)))
+        orders[name] = [number for number, _ in itertools.groupby(numbers)]
+    return orders
+
+
 def cells(line):
     return [cell.strip().strip("`") for cell in line.strip().strip("|").split("|")]
 
 
-def page_rows(page):
-    """By number, the name and the meaning in the page's one table of refusals."""
+def page_table(page, columns):
+    """The rows of the page's one table with these columns."""
     lines = page.read_text(encoding="utf-8").splitlines()
-    heads = [at for at, line in enumerate(lines) if cells(line) == PAGE_COLUMNS]
+    heads = [at for at, line in enumerate(lines) if cells(line) == columns]
     if len(heads) != 1:
-        fail(f"{page} has {len(heads)} tables with the columns {PAGE_COLUMNS}")
-    rows = {}
-    for line in lines[heads[0] + 2 :]:
-        if not line.startswith("|"):
-            break
-        number, name, meaning, *_ = cells(line)
-        if int(number) in rows:
-            fail(f"{page} has {number} twice")
-        rows[int(number)] = (name, meaning)
-    return rows
+        fail(f"{page} has {len(heads)} tables with the columns {columns}")
+    rows = itertools.takewhile(lambda line: line.startswith("|"), lines[heads[0] + 2 :])
+    return [cells(line) for line in rows]
+
+
+def without_repeats(page, rows):
+    """The rows as a dictionary."""
+    found = dict(rows)
+    if len(found) != len(rows):
+        fail(f"{page} has one row twice: {[name for name, _ in rows]}")
+    return found
+
+
+def page_rows(page):
+    """By number, the name and the meaning. A name may have the header's prefix."""
+    rows = page_table(page, OUTCOME_TABLE)
+    named = [(int(row[0]), (row[1].removeprefix("ZAROSNIK_"), row[2])) for row in rows]
+    return without_repeats(page, named)
+
+
+def page_orders(page):
+    """By the name in C, the refusals in order."""
+    rows = page_table(page, ORDER_TABLE)
+    return without_repeats(page, [(row[2], [int(n) for n in row[3].split(",")]) for row in rows])
 
 
 # The version.
@@ -329,6 +360,7 @@ def main():
     refuse_ignored({**functions, **declared_functions(typed, r"\{")})
     refuse_mistaken()
     same(header_rows(outcomes), page_rows(page), "header", "page")
+    same(header_orders(), page_orders(page), "header", "page")
     print(f"header: {len(functions)} functions and {len(outcomes)} outcomes as in the source")
 
 

@@ -1,5 +1,5 @@
-/* Run by typed_calls.py: every call of zarosnik_types.h, its answers compared with those in expected.h, which typed_calls.py makes.
- * The exit status is 0 where all agree. */
+/* Run by typed_calls.py: every call of zarosnik_types.h, its answers compared with those in expected.h, which that
+ * script makes. The exit status is 0 where all agree. */
 #include "zarosnik_types.h"
 
 #include <inttypes.h>
