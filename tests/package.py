@@ -70,12 +70,15 @@ def check_files(prefix, archive):
 
 
 def check_links(prefix):
-    """What the installed pages name as a header, an example or a vector is there."""
+    """Each link of an installed page leads to something installed, or into the web."""
+    found = 0
     for page in (prefix / "share" / "doc" / "zarosnik").glob("*.md"):
-        links = re.findall(r"\]\(([^)#]*(?:include|examples|vectors)/[^)#]*)", page.read_text())
-        for link in links:
-            if not (page.parent / link).exists():
+        for link in re.findall(r"\]\(([^)#]+)", page.read_text(encoding="utf-8")):
+            found += 1
+            if not link.startswith("http") and not (page.parent / link).exists():
                 fail(f"{page.name} links to {link}, which is not there")
+    if not found:
+        fail("no page has a link")
 
 
 def check_version(prefix, folder, search):
