@@ -150,7 +150,7 @@ enum zarosnik_outcome {
     ZAROSNIK_REFUSED_HASH_TOO_LONG = 18
 };
 
-/* What an outcome means, in the words of docs/INTERFACE.md. */
+/* What an outcome means, in the words of docs/INTERFACE.md. Not in the archive, and so not proved. */
 static inline const char *zarosnik_outcome_text(uint32_t outcome)
 {
     switch (outcome) {

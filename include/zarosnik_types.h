@@ -1,6 +1,7 @@
 /*
  * Zarosnik over structs: the calls of zarosnik.h with a profile, a key and a cabinet as structs and a type of its own
- * for each kind of 16 bytes, so that none can be passed for another.
+ * for each kind of 16 bytes, so that none can be passed for another. zarosnik_hash takes none of these and has no other
+ * form here.
  *
  * This layer is not proved. It is structs and inline functions alone: zarosnik_X_CALL hands the fields of X on to
  * zarosnik_CALL, returns what that returns, and does nothing else. The refusals and their order, what is written and
