@@ -1,0 +1,210 @@
+"""Test vectors of refused calls: for each operation each cause alone, each together with all causes
+that are tested after it, and profiles with a number out of its range.
+
+A call is asked for with some causes, and all else in it is right. What the implementation then
+answers is held to the first of them.
+"""
+
+from sheets import right_sheet
+from signatures import GATE, Profile, SigningKey, Verifier, issue, root_of, signature_length
+from vector_calls import (
+    MOST_HASHED,
+    ORDER,
+    SECRET,
+    SEED,
+    SMALL,
+    R,
+    count_vector,
+    derived,
+    filled,
+    flipped,
+    hash_vector,
+    leaf_key_vector,
+    rank_vector,
+    recover_vector,
+    reveal_vector,
+    root_vector,
+    sheet_vector,
+    sign_vector,
+    unrank_vector,
+    verify_vector,
+)
+from zarosnik import row_of, table_length, ways
+
+PAST_WORD = 1 << 32
+PAST_NUMBER = 1 << 160
+# The gate's shape under a low tree: every text has a row.
+LOW_GATE = GATE._replace(h=1)
+
+# The causes of each operation in the order tested.
+CAUSES = {
+    "hash": [18],
+    "count": [1, 2, 3, 5],
+    "unrank": [1, 2, 3, 5, 6, 7],
+    "rank": [1, 2, 3, 5, 8, 9, 10],
+    "leaf_key": [1, 2, 3, 4, 11],
+    "root": [1, 2, 3, 4],
+    "one_time_sign": [1, 2, 3, 4, 5, 6, 11, 7],
+    "one_time_recover": [1, 2, 3, 4, 5, 13, 11, 7],
+    "sign": [1, 2, 3, 4, 5, 16, 6, 12, 7],
+    "verify": [1, 2, 3, 4, 5, 16, 13, 11, 14, 7, 15],
+    "read_sheet": [1, 2, 3, 4, 17, 6],
+}
+
+# Numbers of a profile that would be the gate's if they were cut to 8 bits, or s to 16.
+CUT = {"l": 290, "w": 272, "s": 65791, "h": 266}
+# Numbers out of their range in the gate profile, and the cause of each.
+WRONG = {
+    "l": (1, [0, 41, CUT["l"], PAST_WORD - 1]),
+    "w": (2, [0, 1, 17, CUT["w"], PAST_WORD - 1]),
+    "s": (3, [511, CUT["s"], PAST_WORD - 1]),
+    "h": (4, [11, CUT["h"], PAST_WORD - 1]),
+}
+
+
+def profile_with(p, causes):
+    l = 41 if 1 in causes else p.l
+    w = 17 if 2 in causes else p.w
+    s = l * (w - 1) + 1 if 3 in causes else p.s
+    return Profile(l, w, s, 11 if 4 in causes else p.h)
+
+
+class Refused:
+    """One method an operation: the call with just these causes. Slices have the sizes that go with
+    the wrong profile, or with the gate where the profile is given: a library that takes it is not
+    saved by a slice that is too short."""
+
+    def __init__(self, note, good, causes, given=None):
+        self.note, self.good, self.causes = note, good, causes
+        self.p = given or profile_with(good, causes)
+        sized = good if given else self.p
+        self.chains = sized.l
+        self.words = table_length(sized.l, sized.s) - (5 in causes)
+        self.signature_size = signature_length(sized)
+
+    def number(self):
+        """Alone, the smallest that is too large."""
+        count = ways(self.good.w, self.good.l, self.good.s)
+        if 7 not in self.causes:
+            return count - 1
+        return count if len(self.causes) == 1 else PAST_NUMBER - 1
+
+    def leaf(self, cause):
+        """Alone, the lowest that is too high; else one that is so for every height."""
+        end = 2**self.good.h
+        if cause not in self.causes:
+            return end - 1
+        return end if len(self.causes) == 1 else PAST_WORD - 2
+
+    def text(self):
+        return b"" if 16 in self.causes else ORDER
+
+    def count(self):
+        return count_vector(self.note, self.p, self.words)
+
+    def unrank(self):
+        size = self.chains - (6 in self.causes)
+        return unrank_vector(self.note, self.p, self.number(), self.words, size)
+
+    def rank(self):
+        good = self.good
+        row = row_of(*good[:3], ways(good.w, good.l, good.s) - 1)
+        if 9 in self.causes:
+            # the sum stays
+            row = bytes([good.w, good.s - good.w]) + bytes(good.l - 2)
+        if 10 in self.causes:
+            row = row[:-1] + bytes([row[-1] + 1])
+        row = (row + bytes(self.chains))[: self.chains + (8 in self.causes)]
+        return rank_vector(self.note, self.p, row, self.words)
+
+    def leaf_key(self):
+        return leaf_key_vector(self.note, self.p, SEED, SECRET, self.leaf(11))
+
+    def root(self):
+        return root_vector(self.note, self.p, SEED, SECRET)
+
+    def one_time_sign(self):
+        given = self.p, SEED, SECRET, self.leaf(11), self.number()
+        return reveal_vector(self.note, *given, self.words, 16 * self.chains - (6 in self.causes))
+
+    def one_time_recover(self):
+        values = derived("values", 16 * self.chains + (13 in self.causes))
+        given = self.p, SEED, self.leaf(11), self.number()
+        return recover_vector(self.note, *given, values, self.words)
+
+    def sign(self):
+        key = SigningKey(self.p, SEED, SECRET, self.leaf(12))
+        size = self.signature_size - (6 in self.causes)
+        return sign_vector(self.note, key, R, self.text(), self.words, size)[0]
+
+    def verify(self):
+        p, leaf = self.good, self.leaf(11)
+        key = SigningKey(p, SEED, SECRET, 2**p.h - 1)
+        room = [0] * table_length(p.l, p.s), filled(signature_length(p))
+        signature = leaf.to_bytes(4, "big") + issue(key, R, ORDER, *room)[2][4:]
+        size = self.signature_size - (13 in self.causes)
+        signature = (signature + bytes(self.signature_size))[:size]
+        if 15 in self.causes:
+            signature = flipped(signature, -1)
+        cabinet = Verifier(self.p, SEED, root_of(p, SEED, SECRET), leaf + (14 in self.causes))
+        return verify_vector(self.note, cabinet, self.text(), signature, self.words)[0]
+
+    def read_sheet(self):
+        sheet = right_sheet(self.good, derived("signature", signature_length(self.good)), ORDER)
+        sheet = sheet[:-1] if 17 in self.causes else sheet
+        size = self.signature_size - (6 in self.causes)
+        return sheet_vector(self.note, self.p, sheet, size, len(ORDER))
+
+
+def refused(operation, note, causes, good=None, given=None):
+    """A text has no row under the small profile, and always has one under the gate's shape."""
+    signs = operation in ("sign", "verify") and 7 not in causes
+    good = good or (LOW_GATE if signs else SMALL)
+    return getattr(Refused(note, good, causes, given), operation)()
+
+
+def refusals_of(operation):
+    """Pairs: the cause that must be told, and the vector."""
+    causes = CAUSES[operation]
+    for at, cause in enumerate(causes):
+        yield cause, refused(operation, f"{cause} alone", [cause])
+        if causes[at + 1 :]:
+            note = f"{cause}, and every cause tested after it"
+            yield cause, refused(operation, note, causes[at:])
+    for name, (cause, numbers) in WRONG.items():
+        for number in numbers if cause in causes else []:
+            note = f"{cause}: the gate profile with {name} = {number}"
+            given = GATE._replace(**{name: number})
+            yield cause, refused(operation, note, [cause], GATE, given)
+
+
+def long_inputs():
+    """What the plan above leaves: lengths and states at their other end."""
+    yield 18, hash_vector("18: one byte too many", b"a", MOST_HASHED + 1)
+    yield 18, hash_vector("18: three bytes, if the length were cut", b"abc", 1 + (1 << 16))
+    p, text = LOW_GATE, derived("text", 201)
+    words, size = table_length(p.l, p.s), signature_length(p)
+    key = SigningKey(p, SEED, SECRET, 0)
+    yield 16, sign_vector("16: a text of 201 bytes", key, R, text, words, size)[0]
+    key = key._replace(next=PAST_WORD - 1)
+    yield 12, sign_vector("12: the highest next leaf", key, R, ORDER, words, size)[0]
+    cabinet = Verifier(p, SEED, root_of(p, SEED, SECRET), PAST_WORD - 1)
+    signature = bytes(4) + derived("signature", size - 3)
+    for cause, note, order in [
+        (16, "16: a text of 201 bytes", (text, signature[:-1])),
+        (13, "13: a byte too many", (ORDER, signature)),
+        (13, "13: no signature", (ORDER, b"")),
+        (14, "14: the highest lowest leaf", (ORDER, signature[:-1])),
+    ]:
+        yield cause, verify_vector(note, cabinet, *order, words)[0]
+
+
+def refusals_family():
+    pairs = list(long_inputs())
+    for operation in CAUSES:
+        if operation != "hash":
+            pairs += refusals_of(operation)
+    for cause, made in pairs:
+        if made["out"]["outcome"] != cause:
+            raise ValueError(f"not refused by {cause}: {made}")
+        yield made

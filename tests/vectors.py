@@ -1,0 +1,187 @@
+"""Runs every test vector of the folder vectors/ through the C interface, by the archive that C
+programs link, and compares the answer, the states and all memory lent.
+
+    python3 tests/vectors.py                  proves the library and writes the archive first
+    python3 tests/vectors.py --archive PATH   takes this archive
+
+Fails where a call differs, and where something has no vector: a family, an operation granted, a
+refusal that docs/INTERFACE.md lists for an operation, or a number of a profile that would be the
+gate's if it were cut. The vectors themselves are held to the independent implementation by
+tests/make_vectors.py, the page's worked values by tests/worked_order.py.
+"""
+
+import argparse
+import ctypes
+import json
+import re
+import sys
+import tempfile
+from collections import Counter
+from pathlib import Path
+
+from interface import ARCHIVE, command, shared_object
+from interface_calls import PROTOTYPES, Call, load
+from interface_memory import Memory, words_memory
+from make_vectors import FAMILIES, FOLDER
+from vector_calls import FILL, FILL_WORD
+from vector_refusals import CUT
+from zarosnik import filled, number_words
+
+PAGE = FOLDER.parent / "docs" / "INTERFACE.md"
+WORDS = ("next_leaf", "lowest_leaf", "steps", "line")
+BY_VALUE = ("l", "w", "s", "h", "leaf")
+
+
+def say(line):
+    print(f"tests/vectors.py: {line}", flush=True)
+
+
+def load_wide(path):
+    """The library, with the four numbers of a profile passed in 32 bits: nothing is cut."""
+    library = load(path)
+    for operation in PROTOTYPES:
+        function = getattr(library, f"zarosnik_{operation}")
+        narrow = (ctypes.c_uint8, ctypes.c_uint16)
+        function.argtypes = [ctypes.c_uint32 if t in narrow else t for t in function.argtypes]
+    return library
+
+
+def memory_of(name, value):
+    """An argument or an answer, as the call finds or leaves it."""
+    if name == "number":
+        return words_memory(number_words(int(value, 16)))
+    if name in WORDS:
+        return words_memory([value])
+    if name == "message_written":
+        return Memory(value.to_bytes(8, "little"), unit=8)
+    return Memory(bytes.fromhex(value))
+
+
+def table_after(given, left):
+    before = [FILL_WORD] * given["table_len"]
+    if left == "counts":
+        return filled(given["l"], given["w"], given["s"], before)
+    return before if left == "untouched" else left
+
+
+def lent(name, given, left):
+    """A slice that the call may write."""
+    if name == "table":
+        before = [FILL_WORD] * given["table_len"]
+        return words_memory(before).leave(table_after(given, left))
+    before = bytes([FILL]) * given[f"{name}_len"]
+    return Memory(before).leave(before if left == "untouched" else bytes.fromhex(left))
+
+
+def written_over(memory):
+    """An answer: every call writes it, over anything."""
+    answer = Memory(bytes([FILL]) * len(memory.before), memory.unit)
+    return answer.leave(memory.before)
+
+
+def argument(name, given, left):
+    """What stands for one parameter of the call. Takes its fields from both."""
+    if name in BY_VALUE:
+        return given.pop(name)
+    if name == "data":
+        return Memory(bytes.fromhex(given.pop(name)) * given.pop("times"))
+    if f"{name}_len" in given:
+        memory = lent(name, given, left.pop(name))
+        del given[f"{name}_len"]
+        return memory
+    if name not in given:
+        return written_over(memory_of(name, left.pop(name)))
+    memory = memory_of(name, given.pop(name))
+    return memory.leave(memory_of(name, left.pop(name)).before) if name in left else memory
+
+
+def call_of(vector, shift):
+    operation, given, left = vector["operation"], dict(vector["in"]), dict(vector["out"])
+    names = [name.strip("&[]") for name in PROTOTYPES[operation].split()]
+    # the table's contents are told by l, w and s: these go last
+    names.sort(key=lambda name: name in BY_VALUE)
+    outcome = left.pop("outcome")
+    arguments = {name: argument(name, given, left) for name in names}
+    if given or left:
+        raise ValueError(f"fields that no parameter has: {sorted(given | left)}")
+    return Call(operation, outcome, shift % 16, arguments)
+
+
+def families():
+    """The vectors of each file. There must be these files and no other."""
+    files = sorted(FOLDER.glob("*.json"))
+    found = {path.stem: json.loads(path.read_text(encoding="ascii")) for path in files}
+    if found.keys() != FAMILIES.keys():
+        sys.exit(f"tests/vectors.py: vectors/ has the files {sorted(found)}")
+    for family, content in found.items():
+        if content["family"] != family or not content["vectors"]:
+            sys.exit(f"tests/vectors.py: vectors/{family}.json has no vectors of its family")
+        yield family, content["vectors"]
+
+
+def failures(library, vectors):
+    """For each vector whose call differs its place in the file, from 1, and what differs."""
+    for place, vector in enumerate(vectors, 1):
+        call = call_of(vector, place)
+        wrong = call.make(library)
+        if wrong:
+            yield place, vector["note"], [str(call), *wrong]
+
+
+def listed_refusals():
+    """By operation, the refusals that the page lists in its table of operations."""
+    text = PAGE.read_text(encoding="utf-8")
+    rows = re.findall(r"\| `zarosnik_(\w+)` \| ([\d, ]+) \|$", text, re.MULTILINE)
+    return {operation: list(map(int, numbers.split(","))) for operation, numbers in rows}
+
+
+def missing(vectors):
+    """In lines: what has no vector."""
+    outcomes = {(vector["operation"], vector["out"]["outcome"]) for vector in vectors}
+    listed = listed_refusals()
+    if listed.keys() != PROTOTYPES.keys():
+        yield f"the page lists the operations {sorted(listed)}"
+    expected = {(name, number) for name in listed for number in [0, *listed[name]]}
+    for operation, outcome in sorted(expected - outcomes):
+        yield f"no vector: {operation} answers {outcome}"
+    for operation, outcome in sorted(outcomes - expected):
+        yield f"not in the page: {operation} answers {outcome}"
+    for operation, parameters in PROTOTYPES.items():
+        calls = [vector["in"] for vector in vectors if vector["operation"] == operation]
+        for name, number in CUT.items():
+            if name in parameters.split() and all(given[name] != number for given in calls):
+                yield f"no vector: {operation} with {name} = {number}"
+
+
+def run(library):
+    everything, failed = [], 0
+    for family, vectors in families():
+        wrong = list(failures(library, vectors))
+        for place, note, lines in wrong:
+            say(f"vectors/{family}.json, vector {place}, {note}: differs")
+            print("\n".join(f"  {line}" for line in lines))
+        told = Counter(vector["operation"] for vector in vectors)
+        counts = ", ".join(f"{number} {operation}" for operation, number in told.items())
+        say(f"{family}: {counts}; {len(wrong)} differ")
+        failed += len(wrong)
+        everything += vectors
+    lacking = list(missing(everything))
+    for line in lacking:
+        say(line)
+    say(f"{len(everything)} vectors, {failed} differ, {len(lacking)} things missing")
+    return failed == 0 and not lacking
+
+
+def main():
+    parser = argparse.ArgumentParser(description="Runs the test vectors through the C interface.")
+    parser.add_argument("--archive", type=Path, help="take this one, build none")
+    options = parser.parse_args()
+    if options.archive is None:
+        command("rt", "staticlib", "zarosnik")
+    with tempfile.TemporaryDirectory() as folder:
+        path = shared_object((options.archive or ARCHIVE).resolve(), folder)
+        sys.exit(0 if run(load_wide(path)) else 1)
+
+
+if __name__ == "__main__":
+    main()

@@ -1,0 +1,195 @@
+"""The worked values of docs/INTERFACE.md: the small table of counts and the worked order, from the
+implementation in this folder that is independent of the library.
+
+    python3 tests/worked_order.py           compares the page's blocks with these values
+    python3 tests/worked_order.py --print   prints the blocks, as they must stand in the page
+"""
+
+import argparse
+import hashlib
+import itertools
+import sys
+from pathlib import Path
+
+from sheets import right_sheet
+from signatures import (
+    Profile,
+    SigningKey,
+    Verifier,
+    address,
+    chain_start,
+    chain_value,
+    check,
+    issue,
+    message_number,
+    node,
+    root_of,
+    signature_length,
+)
+from vector_calls import GATE_SHAPE, ORDER, SECRET, SEED, R, hexed, number_hex
+from zarosnik import row_of, table_length, ways
+
+PAGE = Path(__file__).resolve().parent.parent / "docs" / "INTERFACE.md"
+# The gate's shape, so that every text has a row, under the lowest tree that shows a node with an
+# index other than 0. The path of leaf 2 has a right sibling, then a left one.
+WORKED = Profile(*GATE_SHAPE, 2)
+LEAF = 2
+CHAIN = 5
+# The search for a length is shown at so many places.
+PLACES = 3
+COUNTS = (3, 3, 3)
+# Bytes of a long value that stand in one line.
+LINE_BYTES = 32
+
+
+def long(label, data):
+    """A value over several lines."""
+    lines = [hexed(data[at : at + LINE_BYTES]) for at in range(0, len(data), LINE_BYTES)]
+    return [f"{label} =", *(f"  {line}" for line in lines)]
+
+
+def counts_block():
+    l, w, s = COUNTS
+    for i in range(l + 1):
+        counts = ", ".join(str(ways(w, i, t)) for t in range(s + 1))
+        yield f"D({i}, 0) to D({i}, {s}) = {counts}"
+    for number in range(ways(w, l, s)):
+        yield f"row of {number} = {', '.join(map(str, row_of(l, w, s, number)))}"
+
+
+def key_block():
+    p = WORKED
+    yield f"l = {p.l}, w = {p.w}, s = {p.s}, h = {p.h}"
+    yield f"public seed = {hexed(SEED)}"
+    yield f"secret seed = {hexed(SECRET)}"
+    yield f"next leaf = {LEAF}"
+
+
+def tree_block():
+    p = WORKED
+    for height in range(p.h + 1):
+        for index in range(2 ** (p.h - height)):
+            value = hexed(node(p.l, p.w, SEED, SECRET, height, index))
+            yield f"node at height {height}, index {index} = {value}"
+
+
+def digest_block(root):
+    message = R + SEED + root + ORDER
+    yield f"R = {hexed(R)}"
+    yield f"order text = {ORDER.decode()}"
+    yield from long("R, public seed, root, order text", message)
+    yield from long("digest", hashlib.sha256(message).digest())
+    yield f"message number = {number_hex(message_number(R, SEED, root, ORDER))}"
+
+
+def row_block(number):
+    """The search at the first places, then the whole row."""
+    l, w, s, _ = WORKED
+    row = row_of(l, w, s, number)
+    yield f"count, D({l}, {s}) = {number_hex(ways(w, l, s))}"
+    for place in range(PLACES):
+        for length in range(row[place] + 1):
+            share = ways(w, l - 1 - place, s - length)
+            yield f"place {place}, D({l - 1 - place}, {s - length}) = {number_hex(share)}"
+            number -= share if length < row[place] else 0
+        s -= row[place]
+        yield f"length {row[place]}, number left = {number_hex(number)}, sum left = {s}"
+    yield f"row = {', '.join(map(str, row))}"
+
+
+def chain_block():
+    first, prefix = chain_start(SEED, SECRET, LEAF, CHAIN), SEED + bytes(48)
+    start, step, last = address(5, LEAF, CHAIN, 0), address(0, LEAF, CHAIN, 0), WORKED.w - 2
+    yield f"address of the start = {hexed(start)}"
+    yield from long("hashed for the start", prefix + start + SECRET)
+    yield f"address of the step from height 0 = {hexed(step)}"
+    yield from long("hashed for the step from height 0", prefix + step + first)
+    yield f"address of the step from height {last} = {hexed(address(0, LEAF, CHAIN, last))}"
+    for height in range(WORKED.w):
+        yield f"height {height} = {hexed(chain_value(SEED, SECRET, LEAF, CHAIN, height))}"
+
+
+def leaf_block():
+    p = WORKED
+    tops = [chain_value(SEED, SECRET, LEAF, chain, p.w - 1) for chain in range(p.l)]
+    yield from long(f"tops of the chains 0 to {p.l - 1}", b"".join(tops))
+    yield f"address of the leaf key = {hexed(address(1, LEAF, 0, 0))}"
+    yield f"address of the node at height 1, index 1 = {hexed(address(2, 0, 1, 1))}"
+    yield f"address of the root = {hexed(address(2, 0, 2, 0))}"
+
+
+def verdict_block(root, signature):
+    cabinet = Verifier(WORKED, SEED, root, 0)
+    work = [0] * table_length(WORKED.l, WORKED.s)
+    outcome, after, steps, _ = check(cabinet, ORDER, signature, work)
+    yield f"verdict = {outcome}"
+    yield f"chain steps = {steps}"
+    yield f"lowest leaf = {after.lowest}"
+
+
+def blocks():
+    """The page's blocks in order: a section's heading and the lines."""
+    root = root_of(WORKED, SEED, SECRET)
+    number = message_number(R, SEED, root, ORDER)
+    work, out = [0] * table_length(WORKED.l, WORKED.s), bytes(signature_length(WORKED))
+    signature = issue(SigningKey(WORKED, SEED, SECRET, LEAF), R, ORDER, work, out)[2]
+    sheet = right_sheet(WORKED, signature, ORDER).decode().splitlines()
+    yield "Counts and rows", list(counts_block())
+    for block in [
+        key_block(),
+        tree_block(),
+        digest_block(root),
+        row_block(number),
+        chain_block(),
+        leaf_block(),
+        long("signature", signature),
+        sheet,
+        verdict_block(root, signature),
+    ]:
+        yield "A worked order", list(block)
+
+
+def page_blocks(text):
+    """The blocks fenced as `values` under the headings above."""
+    wanted = {heading for heading, _ in blocks()}
+    heading = block = None
+    for line in text.splitlines():
+        if block is not None:
+            if line == "```":
+                yield heading, block
+                block = None
+            else:
+                block.append(line)
+        elif line.startswith("#"):
+            heading = line.lstrip("# ")
+        elif line == "```values" and heading in wanted:
+            block = []
+
+
+def differences(text):
+    """In lines: where the page's blocks are not those above."""
+    pairs = itertools.zip_longest(page_blocks(text), blocks(), fillvalue=("nothing", []))
+    for (heading, found), (expected_heading, expected) in pairs:
+        if heading != expected_heading:
+            yield f"a block under {heading}, expected under {expected_heading}"
+        for line, right in itertools.zip_longest(found, expected, fillvalue=""):
+            if line != right:
+                yield f"{heading}: {line!r}, expected {right!r}"
+
+
+def main():
+    parser = argparse.ArgumentParser(description="Compares the page's worked values.")
+    parser.add_argument("--print", action="store_true", help="print the blocks")
+    if parser.parse_args().print:
+        for heading, lines in blocks():
+            print("\n".join([f"[{heading}]", "```values", *lines, "```"]))
+        return
+    wrong = list(differences(PAGE.read_text(encoding="utf-8")))
+    for line in wrong:
+        print(f"tests/worked_order.py: {line}")
+    print(f"tests/worked_order.py: {len(list(blocks()))} blocks, {len(wrong)} differences")
+    sys.exit(1 if wrong else 0)
+
+
+if __name__ == "__main__":
+    main()
