@@ -1,0 +1,176 @@
+#!/usr/bin/env perl
+# Signs, verifies and reads the orders in files of vectors/ by the rules of docs/INTERFACE.md, with nothing of the
+# library and of the other tests: it shows that the page is enough to build a desk and a cabinet from. It needs Perl's
+# core modules alone.
+#
+#     perl tests/orders.pl vectors/orders.json vectors/sheets.json
+#
+# Prints a line for each call of Root, Issue, Check and Read sheet. Fails where one answers other than the file says,
+# and where an operation has no call.
+use strict;
+use warnings;
+use Digest::SHA qw(sha256);
+use JSON::PP qw(decode_json);
+use Math::BigInt;
+
+# The tweaked hash of data, for the address with a type and three fields. Perl's N is a number in 4 bytes.
+sub tweaked_hash {
+    my ($seed, $type, $first, $second, $third, $data) = @_;
+    my $address = "\0" x 9 . pack('CNNN', $type, $first, $second, $third);
+    return substr(sha256($seed . "\0" x 48 . $address . $data), 0, 16);
+}
+
+# A chain's value, from one height up to another.
+sub step_on {
+    my ($seed, $leaf, $chain, $low, $high, $value) = @_;
+    $value = tweaked_hash($seed, 0, $leaf, $chain, $_, $value) for $low .. $high - 1;
+    return $value;
+}
+
+sub chain_value {
+    my ($seed, $secret, $leaf, $chain, $height) = @_;
+    return step_on($seed, $leaf, $chain, 0, $height, tweaked_hash($seed, 5, $leaf, $chain, 0, $secret));
+}
+
+my %nodes;
+sub node {
+    my ($l, $w, $seed, $secret, $height, $index) = @_;
+    return $nodes{"$l $w $seed $secret $height $index"} //= $height == 0
+        ? tweaked_hash($seed, 1, $index, 0, 0,
+            join('', map { chain_value($seed, $secret, $index, $_, $w - 1) } 0 .. $l - 1))
+        : tweaked_hash($seed, 2, 0, $height, $index,
+            join('', map { node($l, $w, $seed, $secret, $height - 1, 2 * $index + $_) } 0, 1));
+}
+
+# The counts D(i, t) up to i = l and t = s.
+my %tables;
+sub counts {
+    my ($l, $w, $s) = @_;
+    return $tables{"$l $w $s"} //= do {
+        my @d = ([map { Math::BigInt->new($_ == 0 ? 1 : 0) } 0 .. $s]);
+        for my $i (1 .. $l) {
+            for my $t (0 .. $s) {
+                $d[$i][$t] = Math::BigInt->new(0);
+                $d[$i][$t]->badd($d[$i - 1][$t - $_]) for 0 .. ($t < $w - 1 ? $t : $w - 1);
+            }
+        }
+        \@d;
+    };
+}
+
+# The row of an order, or nothing where its message number is not below the count.
+sub row_of_order {
+    my ($l, $w, $s, $r, $seed, $root, $text) = @_;
+    my $number = Math::BigInt->from_hex(unpack('H32', sha256($r . $seed . $root . $text)));
+    my $d = counts($l, $w, $s);
+    return if $number >= $d->[$l][$s];
+    my ($left, @row) = ($s);
+    for my $c (0 .. $l - 1) {
+        my $v = 0;
+        while ($number >= $d->[$l - 1 - $c][$left - $v]) {
+            $number -= $d->[$l - 1 - $c][$left - $v];
+            $v++;
+        }
+        push @row, $v;
+        $left -= $v;
+    }
+    return @row;
+}
+
+# The desk. Each operation answers with what the file has in `out`.
+sub sign {
+    my ($l, $w, $s, $h, $seed, $secret, $leaf, $r, $text) = @_;
+    my $refused = sub { (outcome => $_[0], next_leaf => $leaf, signature => 'untouched') };
+    return $refused->(16) if length $text < 1 || length $text > 200;
+    return $refused->(12) if $leaf >= 2**$h;
+    my @tree = ($l, $w, $seed, $secret);
+    my @row = row_of_order($l, $w, $s, $r, $seed, node(@tree, $h, 0), $text) or return $refused->(7);
+    my @values = map { chain_value($seed, $secret, $leaf, $_, $row[$_]) } 0 .. $l - 1;
+    my @siblings = map { node(@tree, $_, ($leaf >> $_) ^ 1) } 0 .. $h - 1;
+    my $signature = join('', pack('N', $leaf), $r, @values, @siblings);
+    return (outcome => 0, next_leaf => $leaf + 1, signature => uc unpack('H*', $signature));
+}
+
+# The cabinet.
+sub verify {
+    my ($l, $w, $s, $h, $seed, $root, $lowest, $text, $signature) = @_;
+    my $steps = 0;
+    my $refused = sub { (outcome => $_[0], lowest_leaf => $lowest, steps => $steps) };
+    return $refused->(16) if length $text < 1 || length $text > 200;
+    return $refused->(13) if length $signature != 20 + 16 * $l + 16 * $h;
+    my ($leaf, $r, @values) = unpack('N a16 (a16)*', $signature);
+    my @siblings = splice @values, $l;
+    return $refused->(11) if $leaf >= 2**$h;
+    return $refused->(14) if $leaf < $lowest;
+    my @row = row_of_order($l, $w, $s, $r, $seed, $root, $text) or return $refused->(7);
+    for my $c (0 .. $l - 1) {
+        for my $k ($row[$c] .. $w - 2) {
+            $values[$c] = tweaked_hash($seed, 0, $leaf, $c, $k, $values[$c]);
+            $steps++;
+        }
+    }
+    my $node = tweaked_hash($seed, 1, $leaf, 0, 0, join('', @values));
+    for my $k (0 .. $h - 1) {
+        my $children = $leaf >> $k & 1 ? $siblings[$k] . $node : $node . $siblings[$k];
+        $node = tweaked_hash($seed, 2, 0, $k + 1, $leaf >> ($k + 1), $children);
+    }
+    return $refused->(15) if $node ne $root;
+    return (outcome => 0, lowest_leaf => $leaf + 1, steps => $steps);
+}
+
+# The signature and the text of a sheet, or the number of the first wrong line. Slices were filled with A5 before.
+sub read_sheet {
+    my ($l, $w, $s, $h, $sheet, $signature_len, $text_len) = @_;
+    my @lines = (['474F31', 0, 0], [sprintf('01%02X%02X%02X%04X', $l, $w, $h, $s), 0, 0], ['02', 4, 4], ['03', 16, 16]);
+    push @lines, map { [sprintf('04%02X', $_), 16, 16] } 0 .. $l - 1;
+    push @lines, map { [sprintf('05%02X', $_), 16, 16] } 0 .. $h - 1;
+    push @lines, ['06', 1, 200];
+    my $refused = sub {
+        (outcome => 17, line => $_[0], message_written => 0, signature => 'untouched', message => 'untouched');
+    };
+    my @carried;
+    for (@lines) {
+        my ($head, $least, $most) = @$_;
+        $sheet =~ s/\A$head((?:[0-9A-F]{2}){$least,$most})\n// or return $refused->(@carried + 1);
+        push @carried, $1;
+    }
+    return $refused->(@carried + 1) if length $sheet;
+    my $text = pop @carried;
+    my $signature = join '', @carried;
+    my $text_written = length($text) / 2;
+    $signature .= 'A5' x ($signature_len - length($signature) / 2);
+    $text .= 'A5' x ($text_len - $text_written);
+    return (outcome => 0, line => 0, message_written => $text_written, signature => $signature, message => $text);
+}
+
+sub answer {
+    my ($operation, $in) = @_;
+    my @profile = @$in{'l', 'w', 's', 'h'};
+    my ($seed, $secret, $root, $r, $text, $signature, $sheet) =
+        map { pack('H*', $in->{$_} // '') } qw(public_seed secret_seed root r message signature sheet);
+    return sign(@profile, $seed, $secret, $in->{next_leaf}, $r, $text) if $operation eq 'sign';
+    return verify(@profile, $seed, $root, $in->{lowest_leaf}, $text, $signature) if $operation eq 'verify';
+    return read_sheet(@profile, $sheet, @$in{'signature_len', 'message_len'}) if $operation eq 'read_sheet';
+    return (outcome => 0, root => uc unpack('H*', node(@profile[0, 1], $seed, $secret, $profile[3], 0)));
+}
+
+my %made = (root => 0, sign => 0, verify => 0, read_sheet => 0);
+my $differing = 0;
+for my $file (@ARGV) {
+    open my $handle, '<', $file or die "$file: $!\n";
+    my $vectors = decode_json(do { local $/; <$handle> })->{vectors};
+    for my $vector (grep { exists $made{$_->{operation}} } @$vectors) {
+        my ($operation, $in, $out) = @$vector{'operation', 'in', 'out'};
+        # profiles out of their limits and slices too short are the library's to refuse
+        next if $out->{outcome} >= 1 && $out->{outcome} <= 6;
+        my %found = answer($operation, $in);
+        my @wrong = grep { $found{$_} ne $out->{$_} } sort keys %found;
+        my $told = join ', ', map { "$_ $found{$_}" } grep { !/^(signature|message)$/ } sort keys %found;
+        print "$operation at @$in{'l', 'w', 's', 'h'}, $vector->{note}: $told\n";
+        print "  DIFFERS: $_ $found{$_}, expected $out->{$_}\n" for @wrong;
+        $made{$operation}++;
+        $differing++ if @wrong;
+    }
+}
+print join(', ', map { "$made{$_} $_" } sort keys %made), ": $differing differ\n";
+exit($differing || grep({ $_ == 0 } values %made) ? 1 : 0);
