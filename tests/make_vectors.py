@@ -103,7 +103,7 @@ def roots_family():
             yield root_vector(f"height {h}", Profile(3, 3, 3, h), seed, secret)
     yield root_vector("the sum has no part in a root", Profile(3, 3, 4, 1), SEED, SECRET)
     yield root_vector("one chain, the highest tree", Profile(1, 2, 1, 10), SEED, SECRET)
-    yield root_vector("the longest leaf", Profile(40, 16, 300, 1), SEED, SECRET)
+    yield root_vector("the most chains of the largest width", Profile(40, 16, 300, 1), SEED, SECRET)
     for h in range(4):
         yield root_vector(f"the gate's shape, height {h}", Profile(*GATE_SHAPE, h), SEED, SECRET)
     yield root_vector("the gate profile", GATE, SEED, SECRET)

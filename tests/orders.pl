@@ -3,10 +3,10 @@
 # library and of the other tests: it shows that the page is enough to build a desk and a cabinet from. It needs Perl's
 # core modules alone.
 #
-#     perl tests/orders.pl vectors/orders.json vectors/sheets.json
+#     perl tests/orders.pl vectors/*.json
 #
 # Prints a line for each call of Root, Issue, Check and Read sheet. Fails where one answers other than the file says,
-# and where an operation has no call.
+# and where one of these has no call. Vectors of other operations are passed over.
 use strict;
 use warnings;
 use Digest::SHA qw(sha256);

@@ -5,6 +5,7 @@ A call is asked for with some causes, and all else in it is right. What the impl
 answers is held to the first of them.
 """
 
+from interface_inputs import CAUSES as DRAWN
 from sheets import right_sheet
 from signatures import GATE, Profile, SigningKey, Verifier, issue, root_of, signature_length
 from vector_calls import (
@@ -36,20 +37,9 @@ PAST_NUMBER = 1 << 160
 # The gate's shape under a low tree: every text has a row.
 LOW_GATE = GATE._replace(h=1)
 
-# The causes of each operation in the order tested.
-CAUSES = {
-    "hash": [18],
-    "count": [1, 2, 3, 5],
-    "unrank": [1, 2, 3, 5, 6, 7],
-    "rank": [1, 2, 3, 5, 8, 9, 10],
-    "leaf_key": [1, 2, 3, 4, 11],
-    "root": [1, 2, 3, 4],
-    "one_time_sign": [1, 2, 3, 4, 5, 6, 11, 7],
-    "one_time_recover": [1, 2, 3, 4, 5, 13, 11, 7],
-    "sign": [1, 2, 3, 4, 5, 16, 6, 12, 7],
-    "verify": [1, 2, 3, 4, 5, 16, 13, 11, 14, 7, 15],
-    "read_sheet": [1, 2, 3, 4, 17, 6],
-}
+# The causes of each operation in the order tested. There the two slices for which Read sheet refuses
+# by 6 are told apart.
+CAUSES = {name: list(dict.fromkeys(map(abs, causes))) for name, causes in DRAWN.items()}
 
 # Numbers of a profile that would be the gate's if they were cut to 8 bits, or s to 16.
 CUT = {"l": 290, "w": 272, "s": 65791, "h": 266}
