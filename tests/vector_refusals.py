@@ -37,8 +37,8 @@ PAST_NUMBER = 1 << 160
 # The gate's shape under a low tree: every text has a row.
 LOW_GATE = GATE._replace(h=1)
 
-# The causes of each operation in the order tested. There the two slices for which Read sheet refuses
-# by 6 are told apart.
+# The causes of each operation in the order tested. In the list drawn from, the two slices for which
+# Read sheet refuses by 6 are told apart.
 CAUSES = {name: list(dict.fromkeys(map(abs, causes))) for name, causes in DRAWN.items()}
 
 # Numbers of a profile that would be the gate's if they were cut to 8 bits, or s to 16.
