@@ -1,13 +1,16 @@
 """Compares the C interface with the independent implementation, through the archive that C programs
-link: thousands of random calls, each compared in its answer and in all memory that it was lent.
+link: thousands of random calls, each compared in its answer and in all memory that it was lent, at
+three places, of which two lie against pages that end the process where a call touches them.
 
     python3 tests/interface.py                          the share that the gate runs, about a minute
     python3 tests/interface.py --seed 2 --count 200000  a long run: other calls, and more of them
     python3 tests/interface.py --seed 1 --case 1234     one case again, as a failure names it
 
 Proves the library and writes the archive first, unless --archive names one. Fails at the first call
-that is not as the scope document says, and where an operation has never been granted, or some cause
-of its refusals, or two of them at once, have never come up.
+that is not as the scope document says, and where something has not come up that must: each
+operation granted, each cause of its refusals and each two, each set of numbers of the profile that
+narrower parameters would cut to right ones or that are 2^31 or 2^32 - 1, with each answer something
+past the named length of each slice, and orders signed and taken at every height of the tree.
 """
 
 import argparse
@@ -21,9 +24,10 @@ from collections import Counter
 from pathlib import Path
 
 import signatures
-from interface_calls import load
-from interface_cases import case
+from interface_calls import LENT, STATES, load
+from interface_cases import case, subsets, wide_numbers
 from interface_inputs import CAUSES
+from interface_memory import unguarded
 
 ROOT = Path(__file__).resolve().parent.parent
 ARCHIVE = ROOT / "target" / "staticlib" / "libzarosnik.a"
@@ -52,16 +56,28 @@ def shared_object(archive, folder):
 
 
 class Met:
-    """What has come up: the answers of each operation, the causes told and those behind them."""
+    """What has come up: the answers of each operation, the causes told and those behind them, wide
+    numbers of the profile, slices longer than they must be and states other than 0 with each
+    answer, and the heights of trees under which orders were signed and taken."""
 
     def __init__(self):
         self.outcomes = Counter()
         self.causes = set()
+        self.wide = set()
+        self.kept = set()
+        self.heights = set()
 
     def add(self, call):
-        self.outcomes[call.operation, call.outcome] += 1
-        told = (call.operation, *call.causes[:1])
+        operation, outcome, arguments = call.operation, call.outcome, call.arguments
+        self.outcomes[operation, outcome] += 1
+        told = (operation, *call.causes[:1])
         self.causes |= {told} | {(*told, later) for later in call.causes[1:]}
+        self.wide.add((operation, call.wide))
+        longer = {name for name in LENT.get(operation, ()) if arguments[name].spare}
+        used = {name for name in STATES.get(operation, ()) if any(arguments[name].before)}
+        self.kept |= {(operation, outcome, name) for name in longer | used}
+        if outcome == 0 and operation in STATES:
+            self.heights.add((operation, arguments["h"]))
 
     def calls(self):
         return self.outcomes.total()
@@ -70,10 +86,25 @@ class Met:
         for operation, causes in CAUSES.items():
             if not self.outcomes[operation, 0]:
                 yield f"{operation} has never been granted"
-            for number in (1, 2):
-                for laid in itertools.combinations(causes, number):
-                    if (operation, *laid) not in self.causes:
-                        yield f"{operation} has never been refused for {laid}"
+            for laid in subsets(causes, 2):
+                if (operation, *laid) not in self.causes:
+                    yield f"{operation} has never been refused for {laid}"
+            for wide in wide_numbers(operation):
+                if (operation, wide) not in self.wide:
+                    yield f"{operation} has never been given wide numbers: {wide}"
+            yield from self.missing_kept(operation, causes)
+        for operation, h in itertools.product(STATES, range(11)):
+            if (operation, h) not in self.heights:
+                yield f"{operation} has never been granted at height {h}"
+
+    def missing_kept(self, operation, causes):
+        """What must not change is seen only where there is some: past the named length of a slice,
+        and in a state that is not 0."""
+        names = [*LENT.get(operation, ()), *STATES.get(operation, ())]
+        for outcome, name in itertools.product(dict.fromkeys([0, *map(abs, causes)]), names):
+            if outcome == LENT[operation].get(name) or (operation, outcome, name) in self.kept:
+                continue
+            yield f"{operation} has never answered {outcome} with something left in {name}"
 
     def lines(self):
         for operation, causes in CAUSES.items():
@@ -127,6 +158,8 @@ def compare(library, seed, numbers, count, at):
 
 def run(path, options, at):
     """Compares, and asks whether everything has come up."""
+    for line in unguarded():
+        sys.exit(f"tests/interface.py: the tests would not see that a call did {line}")
     numbers = itertools.count() if options.case is None else [options.case]
     met, seconds = compare(load(path), options.seed, numbers, options.count, at)
     missing = list(met.missing()) if options.case is None else []

@@ -8,33 +8,45 @@ import hashlib
 import sheets
 import signatures
 import zarosnik
-from interface_memory import Memory, Placed, words_memory
+from interface_memory import Memory, Placed, region, words_memory
 from zarosnik import number_words
 
-# The parameters in order; `name[]` is a pointer and, behind it, a length.
+# The parameters in order; `name[]` is a pointer and, behind it, a length. What `&name` points to is
+# only read.
 PROTOTYPES = {
-    "hash": "data[] digest",
+    "hash": "&data[] digest",
     "count": "l w s table[] number",
-    "unrank": "l w s number table[] row[]",
-    "rank": "l w s row[] table[] number",
-    "leaf_key": "l w s h public_seed secret_seed leaf key",
-    "root": "l w s h public_seed secret_seed root",
-    "one_time_sign": "l w s h public_seed secret_seed leaf number table[] values[]",
-    "one_time_recover": "l w s h public_seed leaf number values[] table[] key steps",
-    "sign": "l w s h public_seed secret_seed next_leaf r message[] table[] signature[]",
-    "verify": "l w s h public_seed root lowest_leaf message[] signature[] table[] steps",
-    "read_sheet": "l w s h sheet[] signature[] message[] message_written line",
+    "unrank": "l w s &number table[] row[]",
+    "rank": "l w s &row[] table[] number",
+    "leaf_key": "l w s h &public_seed &secret_seed leaf key",
+    "root": "l w s h &public_seed &secret_seed root",
+    "one_time_sign": "l w s h &public_seed &secret_seed leaf &number table[] values[]",
+    "one_time_recover": "l w s h &public_seed leaf &number &values[] table[] key steps",
+    "sign": "l w s h &public_seed &secret_seed next_leaf &r &message[] table[] signature[]",
+    "verify": "l w s h &public_seed &root lowest_leaf &message[] &signature[] table[] steps",
+    "read_sheet": "l w s h &sheet[] signature[] message[] message_written line",
 }
 # Every other parameter is a pointer.
-BY_VALUE = {
-    "l": ctypes.c_uint8,
-    "w": ctypes.c_uint8,
-    "s": ctypes.c_uint16,
-    "h": ctypes.c_uint8,
-    "leaf": ctypes.c_uint32,
+BY_VALUE = dict.fromkeys(["l", "w", "s", "h", "leaf"], ctypes.c_uint32)
+# The slices that a call may write, and the cause of refusal where one is too short; Read sheet
+# refuses by 6 for two, and the text's is told apart here.
+TEXT_SLICE = -6
+LENT = {
+    "count": {"table": 5},
+    "unrank": {"table": 5, "row": 6},
+    "rank": {"table": 5},
+    "one_time_sign": {"table": 5, "values": 6},
+    "one_time_recover": {"table": 5},
+    "sign": {"table": 5, "signature": 6},
+    "verify": {"table": 5},
+    "read_sheet": {"signature": 6, "message": TEXT_SLICE},
 }
+# What a call is given and hands back by pointer.
+STATES = {"sign": ["next_leaf"], "verify": ["lowest_leaf"]}
 
 MOST_HASHED = 65535
+# No call has more.
+POINTERS = 8
 
 
 def load(shared_object):
@@ -53,7 +65,8 @@ def load(shared_object):
 
 class Call:
     """An operation, its arguments by name, and the number that it must answer with. The causes are
-    those that were laid on purpose, in the document's order."""
+    those that were laid on purpose, in the document's order; for wide numbers of the profile, which
+    they are and in what way."""
 
     def __init__(self, operation, outcome, shift, arguments):
         self.operation = operation
@@ -61,32 +74,42 @@ class Call:
         self.shift = shift
         self.arguments = arguments
         self.causes = []
+        self.wide = None
 
     def __str__(self):
         lines = [f"zarosnik_{self.operation} must answer {self.outcome}"]
         lines += [f"  {name} = {argument}" for name, argument in self.arguments.items()]
         return "\n".join(lines + [f"  (memory shifted by {self.shift})"])
 
-    def make(self, library):
-        """Makes the call. Answers with a line for each thing that is not as it must be."""
-        placed = {}
-        values = []
+    def place(self, shifts):
+        """The arguments as the function takes them, and the memory laid out for them by name."""
+        values, placed = [], {}
         for parameter in PROTOTYPES[self.operation].split():
-            name = parameter.removesuffix("[]")
+            name = parameter.removeprefix("&").removesuffix("[]")
             argument = self.arguments[name]
-            if isinstance(argument, Memory):
-                placed[name] = Placed(argument, (self.shift + 7 * len(placed)) % 16)
-                values.append(placed[name].address)
-                if parameter.endswith("[]"):
-                    values.append(argument.length)
-            else:
+            if not isinstance(argument, Memory):
                 values.append(argument)
-        outcome = getattr(library, f"zarosnik_{self.operation}")(*values)
+                continue
+            within = region(len(placed), parameter.startswith("&"))
+            placed[name] = Placed(argument, within, shifts[len(placed)])
+            values.append(placed[name].address)
+            if parameter.endswith("[]"):
+                values.append(argument.length)
+        return values, placed
+
+    def make(self, library):
+        """Makes the call three times: all its memory ends at a page that must not be touched, then
+        begins at one, then stands at any address. Answers with a line for each thing that is not as
+        it must be."""
         wrong = []
-        if outcome != self.outcome:
-            wrong.append(f"answer: expected {self.outcome}, got {outcome}")
-        for name, memory in placed.items():
-            wrong += [f"{name}: {line}" for line in memory.differences()]
+        anywhere = [(self.shift + 7 * k) % 16 for k in range(POINTERS)]
+        for shifts in ([None] * POINTERS, [0] * POINTERS, anywhere):
+            values, placed = self.place(shifts)
+            outcome = getattr(library, f"zarosnik_{self.operation}")(*values)
+            if outcome != self.outcome:
+                wrong.append(f"answer: expected {self.outcome}, got {outcome}")
+            for name, memory in placed.items():
+                wrong += [f"{name}: {line}" for line in memory.differences()]
         return wrong
 
 

@@ -1,9 +1,11 @@
 """The cases of a run. A case is one call or a sequence of calls; the run's seed and the case's
 number give it, so that it can be made again alone.
 
-Every round of cases has, for each operation, granted calls, each cause of refusal alone, each two
-together, and several; slices whose length passes 32 bits; and sequences in which a fresh key signs
-and a fresh verifier checks.
+A run begins with the tallest trees, once for each height. Every round of cases has, for each
+operation, granted calls, each cause of refusal alone, each two together, and several; numbers of
+the profile that narrower parameters would cut to right ones, or that are the ends of what wide ones
+hold; slices whose length passes 32 bits; and sequences in which a fresh key signs and a fresh
+verifier checks.
 """
 
 import itertools
@@ -12,7 +14,7 @@ from functools import cache, lru_cache, partial
 
 from interface_calls import Calls
 from interface_damage import Order, flipped, swapped
-from interface_inputs import CAUSES, FAR, Inputs, cheap_height, signable_shape
+from interface_inputs import CAUSES, CUTS, FAR, WIDE, Inputs, cheap_height, signable_shape
 from interface_memory import Memory
 from sheets import right_sheet
 from signatures import GATE, Profile, SigningKey, Verifier, pieces, root_of, signature_length
@@ -24,6 +26,16 @@ MANIFOLD = [("rank", 10), ("verify", 15), ("read_sheet", 17)]
 HALF_SIGNABLE = [(40, 10, 168), (40, 11, 144), (40, 16, 130), (34, 15, 238)]
 
 
+def subsets(causes, most):
+    return [laid for n in range(1, most + 1) for laid in itertools.combinations(causes, n)]
+
+
+def wide_numbers(operation):
+    """Each set of numbers of the profile, by their causes, with each way in which they are wide."""
+    causes = [cause for cause in CAUSES[operation] if cause in CUTS]
+    return list(itertools.product(subsets(causes, len(causes)), WIDE))
+
+
 class Unsound(Exception):
     """A call is not what it was drawn to be: a fault of the tests, not of the library."""
 
@@ -33,17 +45,21 @@ def demand(holds, call):
         raise Unsound(f"drawn otherwise, with the causes {call.causes}: {call}")
 
 
-def single(operation, causes, far, pick):
-    """One call. A far slice is one whose length passes 32 bits."""
-    call = getattr(Inputs(pick, operation, causes, far), operation)()
+def single(operation, causes, pick, far=None, wide=None):
+    """One call. A far slice is one whose length passes 32 bits. Where l is the end of what a number
+    can be, no s is too large, so just the first cause is sure then."""
+    call = getattr(Inputs(pick, operation, causes, far, wide), operation)()
     call.causes = [cause for cause in CAUSES[operation] if cause in causes]
     demand(call.outcome == abs(next(iter(call.causes), 0)), call)
+    if wide:
+        call.wide = tuple(causes), wide
+        call.causes = call.causes[:1]
     yield call
 
 
 def several(operation, pick):
     causes = [cause for cause in CAUSES[operation] if pick.random() < 0.3]
-    yield from single(operation, causes, None, pick)
+    yield from single(operation, causes, pick)
 
 
 class Sequence:
@@ -64,7 +80,7 @@ class Sequence:
         causes = self.pick.choice([[], [], [], [5], [16], [6]])
         inputs = Inputs(self.pick, "sign", causes, profile=self.p)
         size = signature_length(self.p)
-        message, out = inputs.message(), inputs.lent("signature", size, 6)
+        message, out = inputs.message(), inputs.lent("signature", size)
         r = self.pick.randbytes(16)
         call, self.key = self.calls.sign(self.key, r, message, inputs.table(), out)
         if call.outcome == 0:
@@ -139,11 +155,12 @@ def sequence(pick):
     yield from Sequence(pick, Profile(l, w, s, cheap_height(pick, l, w))).run()
 
 
-def gate(pick):
-    """The gate profile at its full height, once in a run: the first leaf, any, and the last."""
-    orders = Sequence(pick, GATE)
-    yield orders.calls.root(GATE, orders.key.seed, orders.key.secret)
-    for leaf in (0, pick.randrange(1, 1023), 1023):
+def tall(p, pick):
+    """A tree that takes long to hash, once in a run: the first leaf, any between, and the last."""
+    orders = Sequence(pick, p)
+    yield orders.calls.root(p, orders.key.seed, orders.key.secret)
+    last = (1 << p.h) - 1
+    for leaf in (0, pick.randrange(1, last), last):
         orders.key = orders.key._replace(next=leaf)
         while orders.key.next == leaf:
             yield orders.sign()
@@ -153,16 +170,21 @@ def gate(pick):
         yield orders.check(signature, text)
 
 
+# The gate profile, and every height that a sequence has not, at the shape of the shortest chains at
+# which every order has a row.
+TALL = [GATE, *(Profile(39, 11, 195, h) for h in range(4, 10))]
+
+
 @cache
 def plan():
-    cases = [partial(single, operation, causes, far) for operation, far, causes in FAR]
+    cases = [partial(single, operation, causes, far=far) for operation, far, causes in FAR]
     for operation, causes in CAUSES.items():
-        alone = [[cause] for cause in causes]
-        pairs = list(itertools.combinations(causes, 2))
         granted = [[]] * (2 + 2 * len(causes))
-        cases += [partial(single, operation, c, None) for c in granted + 3 * alone + pairs]
+        alone = subsets(causes, 1)
+        cases += [partial(single, operation, c) for c in granted + 2 * alone + subsets(causes, 2)]
         cases += [partial(several, operation)] * len(causes)
-    cases += [partial(single, operation, [cause], None) for operation, cause in MANIFOLD * 20]
+        cases += [partial(single, operation, c, wide=w) for c, w in wide_numbers(operation)]
+    cases += [partial(single, operation, [cause]) for operation, cause in MANIFOLD * 20]
     return cases + [sequence] * SEQUENCES
 
 
@@ -176,7 +198,7 @@ def round_of(seed, number):
 def case(seed, number):
     """The calls of a case, each drawn when the one before was made."""
     pick = random.Random(f"{seed} case {number}")
-    if number == 0:
-        return gate(pick)
-    turn, place = divmod(number - 1, len(plan()))
+    if number < len(TALL):
+        return tall(TALL[number], pick)
+    turn, place = divmod(number - len(TALL), len(plan()))
     return round_of(seed, turn)[place](pick)

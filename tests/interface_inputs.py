@@ -2,15 +2,12 @@
 for: none, one, or several at once, of which the first in the document's order must be told.
 """
 
-from interface_calls import MOST_HASHED, Calls
+from interface_calls import LENT, MOST_HASHED, TEXT_SLICE, Calls
 from interface_damage import Order, flipped, wrong_sheet
 from interface_memory import Filling, Memory
 from sheets import right_sheet
 from signatures import Profile, SigningKey, Verifier, revealed, signature_length
 from zarosnik import row_of, table_length, ways
-
-# Read sheet refuses by 6 for two slices. This is the text's.
-TEXT_SLICE = -6
 
 # The causes of each operation in the document's order.
 CAUSES = {
@@ -64,6 +61,12 @@ SIGNABLE = [
 ]
 
 PAST_WORD = 1 << 32
+# For each number of the profile, the cause of refusal where it is out of its range, and the bits of
+# the narrowest parameter that holds this range. It would cut wider numbers.
+CUTS = {1: 8, 2: 8, 3: 16, 4: 8}
+# What wide numbers may be: good but for bits that a cut drops, or these.
+CUT = "cut to good ones"
+WIDE = [CUT, PAST_WORD // 2, PAST_WORD - 1]
 PAST_NUMBER = 1 << 160
 # So many hashes may go into one tree, so many words into the table of a profile out of its limits.
 MOST_HASHES = 6000
@@ -99,21 +102,30 @@ def cheap_height(pick, l, w):
     return pick.choice([h for h in range(11) if (l * w) << h <= MOST_HASHES])
 
 
+def cut(p):
+    """The profile that the narrowest parameters would make of one."""
+    return Profile(*(number % (1 << bits) for number, bits in zip(p, CUTS.values())))
+
+
 class Inputs:
     """Draws the arguments of one call: one method an operation. Where a number of the profile is to
-    be wrong, slices have the sizes that go with it, as far as it can be: a library that takes such
-    a profile is not saved by a slice that is too short."""
+    be wrong, slices have the sizes that go with it, as far as it can be, or with what a cut makes
+    of it: a library that takes such a profile is not saved by a slice that is too short. The wrong
+    numbers may all be asked to be wide, in one way."""
 
-    def __init__(self, pick, operation, causes=(), far=None, profile=None):
+    def __init__(self, pick, operation, causes=(), far=None, wide=None, profile=None):
         self.pick = pick
+        self.operation = operation
         self.causes = set(causes)
         self.far = far
+        self.wide = wide
         self.calls = Calls(pick)
-        self.good = profile or self.good_profile(operation)
+        self.good = profile or self.good_profile()
         self.p = self.given_profile()
+        self.sized = cut(self.p)
 
-    def good_profile(self, operation):
-        pick = self.pick
+    def good_profile(self):
+        pick, operation = self.pick, self.operation
         if operation == "rank" and 10 in self.causes and pick.random() < 0.3:
             # room for a sum that is the same in its low byte
             l, w, s = pick.randrange(20, 41), 16, pick.randrange(40)
@@ -126,18 +138,33 @@ class Inputs:
         return Profile(l, w, s, cheap_height(pick, l, w) if hashed else pick.randrange(11))
 
     def given_profile(self):
-        pick, (l, w, s, h) = self.pick, self.good
-        if 1 in self.causes:
-            l = pick.choice([0, 41, 42, 255, pick.randrange(41, 256)])
-        if 2 in self.causes:
-            w = pick.choice([0, 1, 17, 255, pick.randrange(17, 256)])
-        if 3 in self.causes:
+        """Drawn again where l and w are so large that no s of 32 bits is over their largest sum."""
+        pick, good = self.pick, self.good
+        while True:
+            l = self.given(1, 1, 41, [0, 41, 42, 255, pick.randrange(41, 256)])
+            w = self.given(2, 2, 17, [0, 1, 17, 255, pick.randrange(17, 256)])
             over = max(0, l * (w - 1) + 1)
             # one of them has the low byte of the good sum
-            s = pick.choice([over, over + (s - over) % 256, 65535, pick.randrange(over, 65536)])
-        if 4 in self.causes:
-            h = pick.choice([11, 12, h + 32, 255, pick.randrange(11, 256)])
-        return Profile(l, w, s, h)
+            s = self.given(3, 0, over, [over, over + (good.s - over) % 256, 65535])
+            h = self.given(4, 0, 11, [11, 12, good.h + 32, 255, pick.randrange(11, 256)])
+            if s is not None:
+                return Profile(l, w, s, h)
+
+    def given(self, cause, low, end, near):
+        """A number of the profile. Where it is to be wrong, it is not one from low to end - 1, but
+        near to these, or wide. None where there is none."""
+        pick, good, bits = self.pick, self.good[cause - 1], CUTS[cause]
+        if cause not in self.causes:
+            return good
+        if isinstance(self.wide, int):
+            return self.wide
+        least = max(1, -(-(end - good) // (1 << bits)))
+        numbers = [good + (k << bits) for k in (least, 1, pick.randrange(1 << 32 - bits))]
+        numbers += [good + (1 << 16), good + (1 << 31)]
+        if self.wide != CUT:
+            numbers += 2 * near + [*WIDE[1:], pick.randrange(PAST_WORD)]
+        wrong = [n for n in numbers if not low <= n < end and n < PAST_WORD]
+        return pick.choice(wrong) if wrong else None
 
     def filling(self, size):
         return Filling(self.pick.getrandbits(32), size)
@@ -145,16 +172,17 @@ class Inputs:
     def seed(self):
         return self.pick.choice([bytes(16), b"\xff" * 16] + [self.pick.randbytes(16)] * 6)
 
-    def lent(self, name, right, cause, unit=1):
+    def lent(self, name, right, unit=1):
         """A slice to write to: too short where that is the cause, else right or longer."""
-        pick = self.pick
+        pick, cause = self.pick, LENT[self.operation][name]
         if self.far == name:
             return Memory(self.filling(unit * (right + 1)), unit).stretch(PAST_WORD + right - 1)
         if cause in self.causes:
             sizes = [right - 1, right - 1, 0, pick.randrange(max(1, right))]
         else:
             sizes = [right, right, right + 1, right + pick.randrange(2, 40)]
-        return Memory(self.filling(unit * max(0, pick.choice(sizes))), unit)
+        size = max(0, pick.choice(sizes))
+        return Memory(self.filling(unit * size), unit, spare=max(0, size - right))
 
     def exact(self, name, content, cause):
         """A slice to read from, which has one right length."""
@@ -168,8 +196,8 @@ class Inputs:
         return Memory((content + pick.randbytes(right + 17))[:size], behind=content[size:])
 
     def table(self):
-        p = self.p if table_length(self.p.l, self.p.s) <= MOST_WORDS else self.good
-        return self.lent("table", table_length(p.l, p.s), 5, unit=4)
+        sized, good = (table_length(p.l, p.s) for p in (self.sized, self.good))
+        return self.lent("table", sized if sized <= MOST_WORDS else good, unit=4)
 
     def number(self):
         pick, count = self.pick, ways(self.good.w, self.good.l, self.good.s)
@@ -213,7 +241,7 @@ class Inputs:
         return self.calls.count(self.p, self.table())
 
     def unrank(self):
-        row = self.lent("row", self.p.l, 6)
+        row = self.lent("row", self.sized.l)
         return self.calls.unrank(self.p, self.number(), self.table(), row)
 
     def rank(self):
@@ -224,7 +252,7 @@ class Inputs:
             at, w = self.pick.randrange(len(row)), self.good.w
             wide = self.pick.choice([w, 255, self.pick.randrange(w, 256)])
             row = row[:at] + bytes([wide]) + row[at + 1 :]
-        row = self.exact("row", self.padded(row, self.p.l), 8)
+        row = self.exact("row", self.padded(row, self.sized.l), 8)
         return self.calls.rank(self.p, row, self.table())
 
     def other_sum(self, row):
@@ -242,7 +270,7 @@ class Inputs:
         return self.calls.root(self.p, self.seed(), self.seed())
 
     def one_time_sign(self):
-        values = self.lent("values", 16 * self.p.l, 6)
+        values = self.lent("values", 16 * self.sized.l)
         seeds = self.seed(), self.seed()
         return self.calls.one_time_sign(
             self.p, *seeds, self.leaf(11), self.number(), self.table(), values
@@ -256,12 +284,12 @@ class Inputs:
             values = revealed(p, seed, self.seed(), leaf, number)
             if self.pick.random() < 0.5:
                 values = flipped(self.pick, values)
-        values = self.exact("values", self.padded(values, 16 * self.p.l), 13)
+        values = self.exact("values", self.padded(values, 16 * self.sized.l), 13)
         return self.calls.one_time_recover(self.p, seed, leaf, number, values, self.table())
 
     def sign(self):
         key = SigningKey(self.p, self.seed(), self.seed(), self.leaf(12))
-        signature = self.lent("signature", signature_length(self.p), 6)
+        signature = self.lent("signature", signature_length(self.sized))
         r = self.pick.randbytes(16)
         return self.calls.sign(key, r, self.message(), self.table(), signature)[0]
 
@@ -276,7 +304,7 @@ class Inputs:
             above = min(order.leaf + 1, PAST_WORD - 1)
             lowest = self.pick.choice([above, PAST_WORD - 1, self.pick.randrange(above, PAST_WORD)])
         verifier = Verifier(self.p, order.seed, order.root, lowest)
-        signature = self.padded(order.signature(), signature_length(self.p))
+        signature = self.padded(order.signature(), signature_length(self.sized))
         signature = self.exact("signature", signature, 13)
         message = self.message() if 16 in self.causes else Memory(order.text)
         return self.calls.verify(verifier, message, signature, self.table())[0]
@@ -290,6 +318,6 @@ class Inputs:
             given = self.exact("sheet", sheet, 17)
         elif 17 in self.causes:
             given = wrong_sheet(pick, p, sheet)
-        signature = self.lent("signature", signature_length(self.p), 6)
-        message = self.lent("message", len(text), TEXT_SLICE)
+        signature = self.lent("signature", signature_length(self.sized))
+        message = self.lent("message", len(text))
         return self.calls.read_sheet(self.p, given, signature, message)
