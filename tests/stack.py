@@ -1,0 +1,170 @@
+"""Measures the stack that each function of the C interface takes, and holds it to the bound that
+docs/INTERFACE.md states.
+
+    python3 tests/stack.py                  proves the library and writes the archive first
+    python3 tests/stack.py --archive FILE   takes this one
+
+Each function is called at the gate profile, and at the largest l, w and h with sums at which most is
+to be done: granted and, where a refusal comes late, refused. It runs on a stack of its own that was
+painted before; a byte may come to be as it was painted, so it runs with two paints. What is counted
+begins at the frame of the caller, and has the arguments and the return address in it.
+"""
+
+import argparse
+import ctypes
+import re
+import sys
+import tempfile
+from collections import Counter
+from pathlib import Path
+
+from interface import ARCHIVE, ROOT, command
+from interface_calls import BY_VALUE, PROTOTYPES
+from sheets import right_sheet
+from signatures import GATE, Profile, signature_length
+from zarosnik import number_words, table_length, ways
+
+PAINTS = (0xA5, 0x5A)
+ARGUMENTS = 14
+# The most steps; the most where every order has a row; the largest count; the largest table.
+SUMS = (0, 133, 300, 600)
+PROFILES = [GATE, *(Profile(40, 16, s, 10) for s in SUMS)]
+PAGE = ROOT / "docs" / "INTERFACE.md"
+
+
+def bound():
+    """As the page states it, in bytes."""
+    stated = re.findall(r"less than (\d+) KiB of stack", PAGE.read_text(encoding="utf-8"))
+    if len(stated) != 1:
+        sys.exit("tests/stack.py: docs/INTERFACE.md must say 'less than N KiB of stack', once")
+    return 1024 * int(stated[0])
+
+
+def built(archive, folder):
+    path = str(Path(folder) / "libstack.so")
+    options = ["-std=c11", "-O2", "-fPIC", "-Wall", "-Wextra", "-Wpedantic", "-Werror"]
+    whole = ["-Wl,--whole-archive", str(archive), "-Wl,--no-whole-archive"]
+    command("gcc", "-shared", *options, "tests/stack.c", *whole, "-o", path)
+    library = ctypes.CDLL(path)
+    library.stack_taken.restype = ctypes.c_size_t
+    return library
+
+
+def octets(content):
+    return (ctypes.c_uint8 * len(content))(*content)
+
+
+def words(content):
+    return (ctypes.c_uint32 * len(content))(*content)
+
+
+class Caller:
+    """Calls functions at one profile. What a call writes, the next may read."""
+
+    def __init__(self, library, p):
+        self.library = library
+        self.p = p
+        self.taken = Counter()
+        signature, text = bytes(signature_length(p)), bytes(range(200))
+        self.memory = {
+            "data": octets(bytes(65535)),
+            "table": words([0] * table_length(p.l, p.s)),
+            "number": words([0] * 5),
+            "row": octets(bytes(p.l)),
+            "values": octets(bytes(16 * p.l)),
+            "message": octets(text),
+            "signature": octets(signature),
+            "sheet": octets(right_sheet(p, signature, text)),
+            "message_written": (ctypes.c_size_t * 1)(),
+        }
+        self.memory |= {name: words([0]) for name in ("steps", "line")}
+        self.memory |= {name: octets(bytes(32)) for name in ("digest", "public_seed", "root", "r")}
+        self.memory |= {name: octets(bytes(32)) for name in ("secret_seed", "key")}
+
+    def arguments(self, operation):
+        """Every call begins with the last leaf left to sign with, and every leaf still taken."""
+        last = (1 << self.p.h) - 1
+        self.memory |= {"next_leaf": words([last]), "lowest_leaf": words([0])}
+        values = {**self.p._asdict(), "leaf": last}
+        for parameter in PROTOTYPES[operation].split():
+            name = parameter.removeprefix("&").removesuffix("[]")
+            if name in BY_VALUE:
+                yield values[name]
+                continue
+            yield ctypes.addressof(self.memory[name])
+            if parameter.endswith("[]"):
+                yield len(self.memory[name])
+
+    def call(self, operation, expected):
+        function = getattr(self.library, f"zarosnik_{operation}")
+        outcome = ctypes.c_uint32()
+        for paint in PAINTS:
+            given = (ctypes.c_uint64 * ARGUMENTS)(*self.arguments(operation))
+            taken = self.library.stack_taken(function, given, paint, ctypes.byref(outcome))
+            if taken == 0 or outcome.value != expected:
+                sys.exit(
+                    f"tests/stack.py: {operation} at {self.p} must answer {expected}:"
+                    f" answered {outcome.value}, took {taken} bytes"
+                )
+            self.taken[operation] = max(self.taken[operation], taken)
+
+    def granted(self):
+        """Every function; where the count is small, an order has no row."""
+        count = ways(self.p.w, self.p.l, self.p.s)
+        order = 0 if count >= 1 << 128 else 7
+        self.call("hash", 0)
+        self.call("count", 0)
+        self.memory["number"][:] = number_words(count // 2)
+        for operation in ("unrank", "rank", "leaf_key", "root"):
+            self.call(operation, 0)
+        for operation in ("one_time_sign", "one_time_recover"):
+            self.call(operation, 0)
+        for operation in ("sign", "verify"):
+            self.call(operation, order)
+        if order == 0:
+            self.memory["message"][0] ^= 1
+            self.call("verify", 15)
+        self.call("read_sheet", 0)
+
+    def refused(self):
+        """By the last cause of each, on what the granted calls left."""
+        self.memory["data"] = octets(bytes(65536))
+        self.memory["number"][:] = [0xFFFFFFFF] * 5
+        self.memory["sheet"][-1] = 0
+        self.call("hash", 18)
+        for operation in ("unrank", "one_time_sign", "one_time_recover"):
+            self.call(operation, 7)
+        self.call("read_sheet", 17)
+        self.memory["row"][0] ^= 1
+        self.call("rank", 10)
+
+
+def measured(library, p):
+    caller = Caller(library, p)
+    caller.granted()
+    caller.refused()
+    return caller.taken
+
+
+def main():
+    parser = argparse.ArgumentParser(description="Measures the stack of the C interface.")
+    parser.add_argument("--archive", type=Path, help="take this one, build none")
+    archive = parser.parse_args().archive
+    if archive is None:
+        command("rt", "staticlib", "zarosnik")
+    with tempfile.TemporaryDirectory() as folder:
+        library = built((archive or ARCHIVE).resolve(), folder)
+        taken = [measured(library, p) for p in PROFILES]
+    if any(profile.keys() != PROTOTYPES.keys() for profile in taken):
+        sys.exit("tests/stack.py: not every function was called")
+    for operation in PROTOTYPES:
+        numbers = ", ".join(f"{profile[operation]}" for profile in taken)
+        print(f"tests/stack.py: zarosnik_{operation}: {numbers} bytes")
+    print("tests/stack.py: at", "; ".join("l {}, w {}, s {}, h {}".format(*p) for p in PROFILES))
+    most, limit = max(max(profile.values()) for profile in taken), bound()
+    print(f"tests/stack.py: at most {most} bytes; docs/INTERFACE.md: less than {limit}")
+    sys.exit(0 if most < limit else 1)
+
+
+if __name__ == "__main__":
+    main()
