@@ -6,8 +6,8 @@ deleted.
 What stands in backquotes is a name. It must be one of these, and is looked for in this order:
 
 - A path, which has a slash or the ending of a file: a file or a folder, below crates/ or below the
-  repository. A file without its folder is the one of that name in the specs/ of the crates, of which
-  there must be one only. A folder must-fail/ must hold edits. `specs/` and the like, alone, stand for
+  repository. A file without its folder is the one of that name in the specs/ of the crates, and
+  must be the only one. A folder must-fail/ must hold edits. `specs/` and the like, alone, stand for
   that folder of every crate.
 - An edit: in a column about edits, and everywhere behind the word "edit" or "edits". It is a file
   must-fail/NAME.edit; with a star, all that match, at least one.
@@ -18,11 +18,11 @@ What stands in backquotes is a name. It must be one of these, and is looked for 
 
 Where the page says in which file, crate or record a name is, it must be there:
 
-- "`FILE`: `a`, `b` and `c`" and "`a`, `b` and `c` in `FILE`" bind all these names. What a source file
-  only uses is found in it too.
-- "`a`, `b` of `RECORD`" and "`a` and `b` of `CRATE`" bind all these names, "`a`, `b` of `CRATE`" the
-  last, since the crate may be said of it alone; "of `X`, of `Y` and of `Z`" means each of them. The
-  head of a column may name the crate.
+- "`FILE`: `a`, `b` and `c`" and "`a`, `b` and `c` in `FILE`" bind all these names. What a source
+  file only uses is found in it too.
+- "`a`, `b` of `RECORD`" and "`a` and `b` of `CRATE`" bind all these names, "`a`, `b` of `CRATE`"
+  the last, since the crate may be said of it alone; "of `X`, of `Y` and of `Z`" means each of them.
+  The head of a column may name the crate.
 """
 
 import re

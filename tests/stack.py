@@ -4,10 +4,10 @@ docs/INTERFACE.md states.
     python3 tests/stack.py                  proves the library and writes the archive first
     python3 tests/stack.py --archive FILE   takes this one
 
-Each function is called at the gate profile, and at the largest l, w and h with sums at which most is
-to be done: granted and, where a refusal comes late, refused. It runs on a stack of its own that was
-painted before; a byte may come to be as it was painted, so it runs with two paints. What is counted
-begins at the frame of the caller, and has the arguments and the return address in it.
+Each function is called at the gate profile, and at the largest l, w and h with sums at which most
+is to be done: granted and, where a refusal comes late, refused. It runs on a stack of its own that
+was painted before; a byte may come to be as it was painted, so it runs with two paints. What is
+counted begins at the frame of the caller, and has the arguments and the return address in it.
 """
 
 import argparse
