@@ -1,4 +1,5 @@
-/* A plain C11 baseline, written for speed without intrinsics or assembly. The one extension is a 128-bit integer. */
+/* A plain C11 baseline, written for speed without intrinsics or assembly. The one extension is a 128-bit integer.
+ * Each compiler that is compared with makes its own of it; -DCOMPILER gives the compiler's name. */
 #include "baseline.h"
 
 #include <string.h>
@@ -101,7 +102,10 @@ static void hash_on(const uint32_t state[8], size_t before, const uint8_t *data,
         put32(digest + 4 * i, v[i]);
 }
 
-void baseline_hash(const uint8_t *data, size_t len, uint8_t digest[32]) { hash_on(INITIAL, 0, data, len, digest, 8); }
+static void baseline_hash(const uint8_t *data, size_t len, uint8_t digest[32])
+{
+    hash_on(INITIAL, 0, data, len, digest, 8);
+}
 
 /* Tweaked hashes: each goes on from the eight words after the block of the public seed and 48 zero bytes. */
 
@@ -216,7 +220,8 @@ static void tree(struct profile p, const uint32_t state[8], const uint8_t secret
     memcpy(root, node, VALUE);
 }
 
-void baseline_root(struct profile p, const uint8_t public_seed[16], const uint8_t secret_seed[16], uint8_t root[16])
+static void baseline_root(struct profile p, const uint8_t public_seed[16], const uint8_t secret_seed[16],
+                          uint8_t root[16])
 {
     uint32_t state[8];
     seed_state(public_seed, state);
@@ -236,7 +241,7 @@ static u128 low(const uint32_t *number)
     return x;
 }
 
-void baseline_count(struct profile p, uint32_t *table, uint32_t number[5])
+static void baseline_count(struct profile p, uint32_t *table, uint32_t number[5])
 {
     size_t row = 5 * ((size_t)p.s + 1);
     memset(table, 0, row * sizeof *table);
@@ -293,8 +298,9 @@ static int codeword(struct profile p, const uint8_t r[16], const uint8_t seed[16
     return 1;
 }
 
-int baseline_sign(struct profile p, const uint8_t public_seed[16], const uint8_t secret_seed[16], uint32_t leaf,
-                  const uint8_t r[16], const uint8_t *message, size_t message_len, uint32_t *table, uint8_t *signature)
+static int baseline_sign(struct profile p, const uint8_t public_seed[16], const uint8_t secret_seed[16], uint32_t leaf,
+                         const uint8_t r[16], const uint8_t *message, size_t message_len, uint32_t *table,
+                         uint8_t *signature)
 {
     uint8_t *values = signature + 20;
     uint8_t root[VALUE], lengths[40];
@@ -310,8 +316,9 @@ int baseline_sign(struct profile p, const uint8_t public_seed[16], const uint8_t
     return 1;
 }
 
-int baseline_verify(struct profile p, const uint8_t public_seed[16], const uint8_t root[16], const uint8_t *message,
-                    size_t message_len, const uint8_t *signature, uint32_t *table, uint32_t *steps)
+static int baseline_verify(struct profile p, const uint8_t public_seed[16], const uint8_t root[16],
+                           const uint8_t *message, size_t message_len, const uint8_t *signature, uint32_t *table,
+                           uint32_t *steps)
 {
     const uint8_t *value = signature + 20;
     uint32_t leaf = get32(signature);
@@ -334,3 +341,10 @@ int baseline_verify(struct profile p, const uint8_t public_seed[16], const uint8
     }
     return memcmp(node, root, VALUE) == 0;
 }
+
+#define NAME_OF(compiler) #compiler
+#define BASELINE_OF(compiler) compiler##_baseline
+#define NAME(compiler) NAME_OF(compiler)
+#define BASELINE(compiler) BASELINE_OF(compiler)
+const struct baseline BASELINE(COMPILER) = {NAME(COMPILER), baseline_hash, baseline_count,
+                                            baseline_root,  baseline_sign, baseline_verify};

@@ -10,15 +10,23 @@ struct profile {
     uint32_t l, w, s, h;
 };
 
-/* Parameters as in the library's functions; every slice is long enough. */
-void baseline_hash(const uint8_t *data, size_t len, uint8_t digest[32]);
-void baseline_count(struct profile p, uint32_t *table, uint32_t number[5]);
-void baseline_root(struct profile p, const uint8_t public_seed[16], const uint8_t secret_seed[16], uint8_t root[16]);
-/* Whether the order is signed: its number may be no codeword's. */
-int baseline_sign(struct profile p, const uint8_t public_seed[16], const uint8_t secret_seed[16], uint32_t leaf,
-                  const uint8_t r[16], const uint8_t *message, size_t message_len, uint32_t *table, uint8_t *signature);
-/* Whether the signature is accepted. */
-int baseline_verify(struct profile p, const uint8_t public_seed[16], const uint8_t root[16], const uint8_t *message,
-                    size_t message_len, const uint8_t *signature, uint32_t *table, uint32_t *steps);
+/* What one compiler makes of baseline.c. Parameters as in the library's functions; every slice is long enough. */
+struct baseline {
+    const char *name;
+    void (*hash)(const uint8_t *data, size_t len, uint8_t digest[32]);
+    void (*count)(struct profile p, uint32_t *table, uint32_t number[5]);
+    void (*root)(struct profile p, const uint8_t public_seed[16], const uint8_t secret_seed[16], uint8_t root[16]);
+    /* Whether the order is signed: its number may be no codeword's. */
+    int (*sign)(struct profile p, const uint8_t public_seed[16], const uint8_t secret_seed[16], uint32_t leaf,
+                const uint8_t r[16], const uint8_t *message, size_t message_len, uint32_t *table, uint8_t *signature);
+    /* Whether the signature is accepted. */
+    int (*verify)(struct profile p, const uint8_t public_seed[16], const uint8_t root[16], const uint8_t *message,
+                  size_t message_len, const uint8_t *signature, uint32_t *table, uint32_t *steps);
+};
+
+extern const struct baseline gcc_baseline;
+#ifdef HAVE_CLANG
+extern const struct baseline clang_baseline;
+#endif
 
 #endif

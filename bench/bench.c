@@ -1,10 +1,11 @@
-/* Times the library against the baseline at the gate profile, after checking that both give the same bytes; with
- * --growth, the library alone as one number of the profile varies.
+/* Times the library against the baseline at the gate profile, and verify at the profile where it takes longest, after
+ * checking that both give the same bytes; with --check, only checks; with --growth, times the library alone as one
+ * number of the profile varies.
  *
- *   bench [--growth] [--lines FILE] [--repeats N]
+ *   bench [--check] [--growth] [--lines FILE] [--repeats N]
  *
  * Prints Markdown tables. FILE gets the same times in seconds: "gate, operation, time, against, time" or
- * "growth, parameter, value, operation, time", with tabs between. */
+ * "growth, parameter, value, operation, time", with tabs between. Fails where answers differ or a limit is missed. */
 #define _POSIX_C_SOURCE 200809L
 
 #include "baseline.h"
@@ -19,14 +20,15 @@
 #include <string.h>
 #include <time.h>
 
-enum { BLOCKS = 1024, MAX_REPEATS = 100, SHORT = 30, MESSAGE = 60 };
+enum { BLOCKS = 1024, MAX_REPEATS = 100, SHORT = 30, GATE_MESSAGE = 60 };
 
 static struct {
     struct profile p;
-    uint8_t public_seed[16], secret_seed[16], r[16], root[16], message[MESSAGE];
+    uint8_t public_seed[16], secret_seed[16], r[16], root[16], message[ZAROSNIK_MESSAGE_MAX];
     uint8_t signature[ZAROSNIK_SIGNATURE_BYTES_MAX];
     uint8_t data[64 * (BLOCKS - 1)]; /* the padding is the last block */
     uint32_t number[5], leaf;
+    size_t message_len;
 } in;
 
 static struct output {
@@ -34,11 +36,20 @@ static struct output {
     uint8_t digest[32], root[16], signature[ZAROSNIK_SIGNATURE_BYTES_MAX];
 } ours, plain;
 
-static FILE *lines;
-static int repeats;
+static const struct baseline *const baselines[] = {
+    &gcc_baseline,
+#ifdef HAVE_CLANG
+    &clang_baseline,
+#endif
+};
+enum { BASELINES = sizeof baselines / sizeof *baselines };
 
-#define SHAPE (uint8_t)in.p.l, (uint8_t)in.p.w, (uint16_t)in.p.s
-#define PROFILE SHAPE, (uint8_t)in.p.h
+static const struct baseline *c; /* the one that is compared with */
+static FILE *lines;
+static int repeats, missed;
+
+#define SHAPE in.p.l, in.p.w, in.p.s
+#define PROFILE SHAPE, in.p.h
 #define TABLE ours.table, ZAROSNIK_TABLE_WORDS_MAX
 
 static void our_hash(void) { ours.refused = zarosnik_hash(in.data, sizeof in.data, ours.digest); }
@@ -57,33 +68,33 @@ static void our_recover(void)
 static void our_sign(void)
 {
     uint32_t next = in.leaf;
-    ours.refused = zarosnik_sign(PROFILE, in.public_seed, in.secret_seed, &next, in.r, in.message, MESSAGE, TABLE,
-                                 ours.signature, sizeof ours.signature);
+    ours.refused = zarosnik_sign(PROFILE, in.public_seed, in.secret_seed, &next, in.r, in.message, in.message_len,
+                                 TABLE, ours.signature, sizeof ours.signature);
 }
 
 static void our_verify(void)
 {
     uint32_t lowest = 0;
-    ours.refused = zarosnik_verify(PROFILE, in.public_seed, in.root, &lowest, in.message, MESSAGE, in.signature,
-                                   ZAROSNIK_SIGNATURE_BYTES(in.p.l, in.p.h), TABLE, &ours.steps);
+    ours.refused = zarosnik_verify(PROFILE, in.public_seed, in.root, &lowest, in.message, in.message_len,
+                                   in.signature, ZAROSNIK_SIGNATURE_BYTES(in.p.l, in.p.h), TABLE, &ours.steps);
 }
 
-static void plain_hash(void) { baseline_hash(in.data, sizeof in.data, plain.digest); }
+static void plain_hash(void) { c->hash(in.data, sizeof in.data, plain.digest); }
 
-static void plain_count(void) { baseline_count(in.p, plain.table, plain.number); }
+static void plain_count(void) { c->count(in.p, plain.table, plain.number); }
 
-static void plain_root(void) { baseline_root(in.p, in.public_seed, in.secret_seed, plain.root); }
+static void plain_root(void) { c->root(in.p, in.public_seed, in.secret_seed, plain.root); }
 
 static void plain_sign(void)
 {
-    plain.refused = !baseline_sign(in.p, in.public_seed, in.secret_seed, in.leaf, in.r, in.message, MESSAGE,
-                                   plain.table, plain.signature);
+    plain.refused = !c->sign(in.p, in.public_seed, in.secret_seed, in.leaf, in.r, in.message, in.message_len,
+                             plain.table, plain.signature);
 }
 
 static void plain_verify(void)
 {
-    plain.refused =
-        !baseline_verify(in.p, in.public_seed, in.root, in.message, MESSAGE, in.signature, plain.table, &plain.steps);
+    plain.refused = !c->verify(in.p, in.public_seed, in.root, in.message, in.message_len, in.signature, plain.table,
+                               &plain.steps);
 }
 
 static void fail(const char *operation, const char *what)
@@ -104,14 +115,14 @@ static int make_order(struct profile p)
     return ours.refused == ZAROSNIK_GRANTED;
 }
 
-/* The time of one call. */
+/* The time of one call: the processor's, so that what else runs counts little. No call waits for anything. */
 static double seconds(void (*run)(void), unsigned calls)
 {
     struct timespec from, to;
-    clock_gettime(CLOCK_MONOTONIC, &from);
+    clock_gettime(CLOCK_PROCESS_CPUTIME_ID, &from);
     for (unsigned i = 0; i < calls; i++)
         run();
-    clock_gettime(CLOCK_MONOTONIC, &to);
+    clock_gettime(CLOCK_PROCESS_CPUTIME_ID, &to);
     return ((double)(to.tv_sec - from.tv_sec) + 1e-9 * (double)(to.tv_nsec - from.tv_nsec)) / calls;
 }
 
@@ -121,24 +132,30 @@ static int by_size(const void *a, const void *b)
     return (x > y) - (x < y);
 }
 
-/* The time of a call of each: a quantile, 0.5 for the median. They run in turn, so that a change of the machine's pace
- * meets all of them. A turn has as many calls as fill a tenth of a millisecond, which few interruptions meet; where a
- * call takes less than 10 ms, there are SHORT times as many turns. */
-static void measure(void (*const *runs)(void), int n, double quantile, double *results)
+static double times[2][MAX_REPEATS * SHORT], ratios[MAX_REPEATS * SHORT];
+
+/* Fills `times`, one row each, and answers with the turns. They run in turn, every other turn in the other order, so
+ * that a change of the machine's pace meets all of them. A turn has as many calls as fill a tenth of a millisecond,
+ * which few interruptions meet; where a call takes less than 10 ms, there are SHORT times as many turns. */
+static size_t measure(void (*const *runs)(void), int n)
 {
-    static double times[2][MAX_REPEATS * SHORT];
     unsigned calls = 1;
     double call;
     while ((call = seconds(runs[0], calls)) * calls < 1e-4)
         calls *= 2;
     int turns = call < 1e-2 ? repeats * SHORT : repeats;
     for (int k = 0; k < turns; k++)
-        for (int i = 0; i < n; i++)
-            times[i][k] = seconds(runs[i], calls);
-    for (int i = 0; i < n; i++) {
-        qsort(times[i], (size_t)turns, sizeof times[i][0], by_size);
-        results[i] = times[i][(int)(quantile * turns)];
-    }
+        for (int i = 0; i < n; i++) {
+            int at = k % 2 ? n - 1 - i : i;
+            times[at][k] = seconds(runs[at], calls);
+        }
+    return (size_t)turns;
+}
+
+static double quantile(double *values, size_t n, double part)
+{
+    qsort(values, n, sizeof *values, by_size);
+    return values[(size_t)(part * (double)n)];
 }
 
 static void print_time(double t)
@@ -156,54 +173,121 @@ static void openssl_hash(void) { SHA256(in.data, sizeof in.data, plain.digest); 
 #endif
 
 static const struct comparison {
-    const char *operation, *against;
+    const char *operation, *against; /* null for plain C */
     void (*runs[2])(void);
     double limit; /* 0 for none */
 } comparisons[] = {
-    {"compression", "plain C", {our_hash, plain_hash}, 1.2},
+    {"compression", NULL, {our_hash, plain_hash}, 1.2},
+    {"count", NULL, {our_count, plain_count}, 0},
+    {"root", NULL, {our_root, plain_root}, 1.2},
+    {"sign", NULL, {our_sign, plain_sign}, 1.2},
+    {"verify", NULL, {our_verify, plain_verify}, 1.3},
+    {"count", "zarosnik's verify", {our_count, our_verify}, 0.5},
 #ifdef HAVE_OPENSSL
     {"compression", "OpenSSL", {our_hash, openssl_hash}, 0},
 #endif
-    {"count", "plain C", {our_count, plain_count}, 0},
-    {"root", "plain C", {our_root, plain_root}, 1.2},
-    {"sign", "plain C", {our_sign, plain_sign}, 1.2},
-    {"verify", "plain C", {our_verify, plain_verify}, 1.3},
-    {"count", "zarosnik's verify", {our_count, our_verify}, 0.5},
 };
+enum { COMPARISONS = sizeof comparisons / sizeof *comparisons };
+static const struct comparison dearest_verify = {"verify, dearest", NULL, {our_verify, plain_verify}, 0};
+
+/* The profile whose checks take longest among those under which every order has a number: at the largest l, w and h the
+ * least s with a count of 2^128. One more of s would save a chain step and cost l + 1 cells of the table, which take
+ * less. */
+static struct profile dearest(void)
+{
+    in.p = (struct profile){ZAROSNIK_L_MAX, ZAROSNIK_W_MAX, 0, ZAROSNIK_H_MAX};
+    for (our_count(); ours.number[4] == 0; our_count())
+        in.p.s++;
+    return in.p;
+}
+
+static void take_order(struct profile p, size_t message_len)
+{
+    in.message_len = message_len;
+    if (!make_order(p))
+        fail("sign", "refused");
+}
+
+/* Whether the library and every baseline give the same bytes. */
+static void check_at(struct profile p, size_t message_len)
+{
+    take_order(p, message_len);
+    for (int b = 0; b < BASELINES; b++) {
+        c = baselines[b];
+        memset(&ours, 0, sizeof ours);
+        memset(&plain, 0, sizeof plain);
+        for (int i = 0; i < COMPARISONS; i++) {
+            comparisons[i].runs[0]();
+            comparisons[i].runs[1]();
+            if (ours.refused || memcmp(&ours, &plain, sizeof ours))
+                fail(comparisons[i].operation, "answers differ");
+        }
+    }
+}
+
+static void check(struct profile gate)
+{
+    struct profile other = dearest();
+    check_at(gate, GATE_MESSAGE);
+    check_at(other, ZAROSNIK_MESSAGE_MAX);
+    printf("bench: the same bytes as plain C of");
+    for (int b = 0; b < BASELINES; b++)
+        printf("%s %s", b ? " and" : "", baselines[b]->name);
+    printf(", at the gate profile and at l = %u, w = %u, s = %u, h = %u\n", other.l, other.w, other.s, other.h);
+}
+
+/* A row of the table: medians of the times, and of the ratios of each turn, with their quartiles. */
+static void compare_row(const struct comparison *k, const char *against, const char *compiler)
+{
+    size_t turns = measure(k->runs, 2);
+    double parts = k->runs[0] == our_hash ? BLOCKS : 1;
+    for (size_t i = 0; i < turns; i++)
+        ratios[i] = times[0][i] / times[1][i];
+    double t = quantile(times[0], turns, 0.5) / parts, u = quantile(times[1], turns, 0.5) / parts;
+    double ratio = quantile(ratios, turns, 0.5);
+    printf("| %s |", k->operation);
+    print_time(t);
+    printf(" %s%s |", against, compiler);
+    print_time(u);
+    printf(" %.2f | %.2f to %.2f |", ratio, quantile(ratios, turns, 0.25), quantile(ratios, turns, 0.75));
+    if (k->limit > 0)
+        printf(" %.1f | %s |\n", k->limit, ratio <= k->limit ? "met" : "missed");
+    else
+        printf(" – | – |\n");
+    missed |= k->limit > 0 && ratio > k->limit;
+    fflush(stdout);
+    if (lines)
+        fprintf(lines, "gate\t%s\t%.9e\t%s%s\t%.9e\n", k->operation, t, against, compiler, u);
+}
+
+static void compare_rows(const struct comparison *k)
+{
+    if (k->against)
+        compare_row(k, k->against, "");
+    else
+        for (int b = 0; b < BASELINES; b++) {
+            c = baselines[b];
+            compare_row(k, "plain C, ", c->name);
+        }
+}
 
 static void compare(struct profile gate)
 {
-    const int n = sizeof comparisons / sizeof *comparisons;
-    if (!make_order(gate))
-        fail("sign", "refused");
-    memset(&ours, 0, sizeof ours);
-    for (int i = 0; i < n; i++) {
-        comparisons[i].runs[0]();
-        comparisons[i].runs[1]();
-        if (ours.refused || memcmp(&ours, &plain, sizeof ours))
-            fail(comparisons[i].operation, "answers differ");
-    }
-    printf("| Operation | zarosnik | against | | ratio | limit | |\n|---|--:|---|--:|--:|--:|---|\n");
-    for (int i = 0; i < n; i++) {
-        const struct comparison *c = &comparisons[i];
-        double t[2];
-        measure(c->runs, 2, 0.5, t);
-        double parts = c->runs[0] == our_hash ? BLOCKS : 1;
-        printf("| %s |", c->operation);
-        print_time(t[0] / parts);
-        printf(" %s |", c->against);
-        print_time(t[1] / parts);
-        printf(" %.2f |", t[0] / t[1]);
-        if (c->limit > 0)
-            printf(" %.1f | %s |\n", c->limit, t[0] <= c->limit * t[1] ? "met" : "missed");
-        else
-            printf(" – | – |\n");
-        fflush(stdout);
-        if (lines)
-            fprintf(lines, "gate\t%s\t%.9e\t%s\t%.9e\n", c->operation, t[0] / parts, c->against, t[1] / parts);
-    }
-    printf("\nMedians of %d repeats in turn, for root and sign of %d; compression: one block of %d in a call.\n",
-           repeats * SHORT, repeats, BLOCKS);
+    struct profile other = dearest();
+    check_at(gate, GATE_MESSAGE);
+    check_at(other, ZAROSNIK_MESSAGE_MAX);
+    printf("| Operation | zarosnik | against | | ratio | quartiles | limit | |\n|---|--:|---|--:|--:|--:|--:|---|\n");
+    take_order(gate, GATE_MESSAGE);
+    for (int i = 0; i < COMPARISONS; i++)
+        compare_rows(&comparisons[i]);
+    take_order(other, ZAROSNIK_MESSAGE_MAX);
+    compare_rows(&dearest_verify);
+    printf("\nMedians of %d turns, for root and sign of %d, and of the ratios of each turn, with their quartiles.\n",
+           repeats * SHORT, repeats);
+    printf("Compression: one block of %d in a call. Verify, dearest: l = %u, w = %u, s = %u, h = %u, so %u steps, and\n"
+           "a text of %u bytes; else the gate profile, and a text of %d bytes.\n",
+           BLOCKS, other.l, other.w, other.s, other.h, ZAROSNIK_STEPS(other.l, other.w, other.s), ZAROSNIK_MESSAGE_MAX,
+           GATE_MESSAGE);
 #ifdef HAVE_OPENSSL
     printf("%s uses the processor's SHA instructions where it has them; the library and plain C use none.\n",
            OpenSSL_version(OPENSSL_VERSION));
@@ -227,7 +311,7 @@ static void grow(struct profile p, char parameter, unsigned value)
             printf(" – |");
             continue;
         }
-        measure(&runs[i], 1, 0, &t);
+        t = quantile(times[0], measure(&runs[i], 1), 0);
         if (ours.refused)
             fail(names[i], "refused");
         print_time(t);
@@ -242,6 +326,7 @@ static void grow(struct profile p, char parameter, unsigned value)
 static void growth(struct profile gate)
 {
     struct profile p = gate;
+    in.message_len = GATE_MESSAGE;
     const struct {
         char name;
         uint32_t *field, low, high, step;
@@ -270,6 +355,8 @@ int main(int argc, char **argv)
     for (int i = 1; i < argc; i++) {
         if (strcmp(argv[i], "--growth") == 0)
             job = growth;
+        else if (strcmp(argv[i], "--check") == 0)
+            job = check;
         else if (strcmp(argv[i], "--lines") == 0 && i + 1 < argc && (lines = fopen(argv[++i], "w")))
             continue;
         else if (strcmp(argv[i], "--repeats") == 0 && i + 1 < argc && (repeats = atoi(argv[++i])) > 0 &&
@@ -286,5 +373,9 @@ int main(int argc, char **argv)
     set_bytes(in.message, sizeof in.message, 4);
     set_bytes(in.data, sizeof in.data, 5);
     job(gate);
-    return lines ? fclose(lines) : 0;
+    if (lines && fclose(lines))
+        fail("--lines", "not written");
+    if (missed)
+        fail("limits", "missed");
+    return 0;
 }
