@@ -133,6 +133,8 @@ class Placed:
         self.memory = memory
         size = memory.length * memory.unit
         self.to_ours = within.to_ours
+        if not memory.stretched and size + len(memory.behind) + 2 * len(GUARD) > REGION_BYTES:
+            raise ValueError(f"no region has room for {size} bytes")
         if memory.stretched:
             self.address, self.to_ours = address_of(far_pages()) + len(GUARD), 0
             near_end = self.piece(GUARD, bytes(mmap.PAGESIZE))
