@@ -44,7 +44,7 @@ static const struct baseline *const baselines[] = {
 };
 enum { BASELINES = sizeof baselines / sizeof *baselines };
 
-static const struct baseline *c; /* the one that is compared with */
+static const struct baseline *plain_c; /* the one that is compared with */
 static FILE *lines;
 static int repeats, missed;
 
@@ -79,22 +79,22 @@ static void our_verify(void)
                                    in.signature, ZAROSNIK_SIGNATURE_BYTES(in.p.l, in.p.h), TABLE, &ours.steps);
 }
 
-static void plain_hash(void) { c->hash(in.data, sizeof in.data, plain.digest); }
+static void plain_hash(void) { plain_c->hash(in.data, sizeof in.data, plain.digest); }
 
-static void plain_count(void) { c->count(in.p, plain.table, plain.number); }
+static void plain_count(void) { plain_c->count(in.p, plain.table, plain.number); }
 
-static void plain_root(void) { c->root(in.p, in.public_seed, in.secret_seed, plain.root); }
+static void plain_root(void) { plain_c->root(in.p, in.public_seed, in.secret_seed, plain.root); }
 
 static void plain_sign(void)
 {
-    plain.refused = !c->sign(in.p, in.public_seed, in.secret_seed, in.leaf, in.r, in.message, in.message_len,
-                             plain.table, plain.signature);
+    plain.refused = !plain_c->sign(in.p, in.public_seed, in.secret_seed, in.leaf, in.r, in.message, in.message_len,
+                                   plain.table, plain.signature);
 }
 
 static void plain_verify(void)
 {
-    plain.refused = !c->verify(in.p, in.public_seed, in.root, in.message, in.message_len, in.signature, plain.table,
-                               &plain.steps);
+    plain.refused = !plain_c->verify(in.p, in.public_seed, in.root, in.message, in.message_len, in.signature,
+                                     plain.table, &plain.steps);
 }
 
 static void fail(const char *operation, const char *what)
@@ -213,7 +213,7 @@ static void check_at(struct profile p, size_t message_len)
 {
     take_order(p, message_len);
     for (int b = 0; b < BASELINES; b++) {
-        c = baselines[b];
+        plain_c = baselines[b];
         memset(&ours, 0, sizeof ours);
         memset(&plain, 0, sizeof plain);
         for (int i = 0; i < COMPARISONS; i++) {
@@ -266,8 +266,8 @@ static void compare_rows(const struct comparison *k)
         compare_row(k, k->against, "");
     else
         for (int b = 0; b < BASELINES; b++) {
-            c = baselines[b];
-            compare_row(k, "plain C, ", c->name);
+            plain_c = baselines[b];
+            compare_row(k, "plain C, ", plain_c->name);
         }
 }
 
