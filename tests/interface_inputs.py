@@ -213,7 +213,9 @@ class Inputs:
         if cause not in self.causes:
             return pick.choice([0, end - 1, pick.randrange(end)])
         leaves = [end, end, end + 1, PAST_WORD - 1, pick.randrange(end, PAST_WORD)]
-        return pick.choice(leaves + [pick.randrange(end) | 1 << pick.randrange(self.good.h, 32)])
+        # good but for one bit, which a cut may drop
+        bits = [pick.randrange(self.good.h, 32), pick.randrange(16, 32), 16]
+        return pick.choice(leaves + [pick.randrange(end) | 1 << bit for bit in bits])
 
     def message(self):
         pick = self.pick

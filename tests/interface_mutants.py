@@ -1,0 +1,213 @@
+"""Shows that tests/interface.py sees what it is to see: puts something wrong around one function of
+the C interface at a time, and fails where the comparison finds no difference then.
+
+    python3 tests/interface_mutants.py                  proves the library, writes the archive first
+    python3 tests/interface_mutants.py --archive FILE   takes this one
+
+A wrong function cuts a number or a length; reads just before or behind memory that it is lent;
+writes what it is to read only; changes a slice or a state where it refuses, for each cause, or a
+slice past its named length where it grants; or leaves an old answer where it refuses.
+"""
+
+import argparse
+import ctypes
+import itertools
+import os
+import random
+import sys
+import tempfile
+from pathlib import Path
+
+from interface import ARCHIVE, command, shared_object
+from interface_calls import BY_VALUE, LENT, PROTOTYPES, STATES, load
+from interface_cases import plan
+from interface_inputs import CAUSES, FAR
+
+# Bytes of what has no length of its own; all else has 16.
+SIZES = {"digest": 32, "number": 20, "message_written": 8}
+SIZES |= dict.fromkeys(["steps", "line", "next_leaf", "lowest_leaf"], 4)
+ROUNDS = 3
+SEEN, UNSEEN = 10, 11
+
+
+class Given:
+    """The arguments of one call by name; `NAME_len` is a slice's length."""
+
+    def __init__(self, operation, values):
+        names = []
+        for parameter in PROTOTYPES[operation].split():
+            name = parameter.strip("&[]")
+            names += [name, f"{name}_len"] if parameter.endswith("[]") else [name]
+        self.values = dict(zip(names, values, strict=True))
+
+    def __getitem__(self, name):
+        return self.values[name]
+
+    def size(self, name):
+        """In bytes."""
+        length = self.values.get(f"{name}_len")
+        if length is None:
+            return SIZES.get(name, 16)
+        return 4 * length if name == "table" else length
+
+    def named(self, name):
+        """How many bytes of a slice the document names."""
+        l, s, h = self["l"], self["s"], self.values.get("h", 0)
+        if name == "message":
+            return ctypes.c_size_t.from_address(self["message_written"]).value
+        table, signature = 20 * (l + 1) * (s + 1), 20 + 16 * l + 16 * h
+        return {"table": table, "row": l, "values": 16 * l, "signature": signature}[name]
+
+    def flip(self, name, at):
+        byte = ctypes.c_uint8.from_address(self[name] + at)
+        byte.value ^= 1
+
+
+# Each takes the right function and a call's arguments, and answers as a wrong function would.
+
+
+def cut(name, bits):
+    def wrong(right, given):
+        return right(*(given.values | {name: given[name] % (1 << bits)}).values())
+
+    return wrong
+
+
+def read(name, behind):
+    def wrong(right, given):
+        ctypes.string_at(given[name] + (given.size(name) if behind else -1), 1)
+        return right(*given.values.values())
+
+    return wrong
+
+
+def write_the_same(name):
+    def wrong(right, given):
+        if given.size(name):
+            byte = ctypes.c_uint8.from_address(given[name])
+            byte.value = byte.value
+        return right(*given.values.values())
+
+    return wrong
+
+
+def change_where_refused(name, cause):
+    def wrong(right, given):
+        outcome = right(*given.values.values())
+        if outcome == cause and given.size(name):
+            given.flip(name, given.size(name) - 1)
+        return outcome
+
+    return wrong
+
+
+def change_past(name):
+    def wrong(right, given):
+        outcome = right(*given.values.values())
+        if outcome == 0 and given.named(name) < given.size(name):
+            given.flip(name, given.named(name))
+        return outcome
+
+    return wrong
+
+
+def leave_answer(name):
+    def wrong(right, given):
+        before = ctypes.string_at(given[name], given.size(name))
+        outcome = right(*given.values.values())
+        if outcome:
+            ctypes.memmove(given[name], before, len(before))
+        return outcome
+
+    return wrong
+
+
+def mutants():
+    """What is wrong, with which operation, and the wrong function."""
+    for operation, parameters in PROTOTYPES.items():
+        causes = dict.fromkeys(map(abs, CAUSES[operation]))
+        kept = [*LENT.get(operation, ()), *STATES.get(operation, ())]
+        for parameter in parameters.split():
+            name = parameter.strip("&[]")
+            if name in BY_VALUE:
+                for bits in (8, 16):
+                    yield f"{name} cut to {bits} bits", operation, cut(name, bits)
+                continue
+            yield f"{name} read before", operation, read(name, False)
+            yield f"{name} read behind", operation, read(name, True)
+            if parameter.startswith("&"):
+                yield f"{name} written", operation, write_the_same(name)
+            elif name not in kept:
+                yield f"{name} left where refused", operation, leave_answer(name)
+        for name, cause in itertools.product(kept, causes):
+            yield f"{name} changed by {cause}", operation, change_where_refused(name, cause)
+        for name in LENT.get(operation, ()):
+            yield f"{name} changed past its length", operation, change_past(name)
+    for operation, name, _ in FAR:
+        yield f"length of {name} cut to 32 bits", operation, cut(f"{name}_len", 32)
+
+
+class Wrong:
+    """The library with one function wrong, or with none."""
+
+    def __init__(self, library, operation, wrong):
+        self.library, self.name, self.wrong = library, f"zarosnik_{operation}", wrong
+        self.operation = operation
+
+    def __getattr__(self, name):
+        right = getattr(self.library, name)
+        if self.wrong is None or name != self.name:
+            return right
+        return lambda *values: self.wrong(right, Given(self.operation, values))
+
+
+def seen(library, operation):
+    """Whether a difference is found in the cases of the operation."""
+    cases = [case for case in plan() if getattr(case, "args", ())[:1] == (operation,)]
+    pick = random.Random(operation)
+    for _ in range(ROUNDS):
+        pick.shuffle(cases)
+        if any(call.make(library) for case in cases for call in case(pick)):
+            return True
+    return False
+
+
+def seen_apart(library, operation, wrong):
+    """The same in a process of its own, which a call may end."""
+    child = os.fork()
+    if child == 0:
+        status = 1
+        try:
+            status = SEEN if seen(Wrong(library, operation, wrong), operation) else UNSEEN
+        finally:
+            os._exit(status)
+    status = os.waitpid(child, 0)[1]
+    if not os.WIFSIGNALED(status) and os.WEXITSTATUS(status) not in (SEEN, UNSEEN):
+        sys.exit(f"tests/interface_mutants.py: {operation} could not be tried")
+    return os.WIFSIGNALED(status) or os.WEXITSTATUS(status) == SEEN
+
+
+def main():
+    parser = argparse.ArgumentParser(description="Tries tests/interface.py on wrong functions.")
+    parser.add_argument("--archive", type=Path, help="take this one, build none")
+    archive = parser.parse_args().archive
+    if archive is None:
+        command("rt", "staticlib", "zarosnik")
+    unseen, tried = [], 0
+    with tempfile.TemporaryDirectory() as folder:
+        library = load(shared_object((archive or ARCHIVE).resolve(), folder))
+        for operation in PROTOTYPES:
+            if seen_apart(library, operation, None):
+                sys.exit(f"tests/interface_mutants.py: {operation} differs with nothing wrong")
+        for what, operation, wrong in mutants():
+            tried += 1
+            if not seen_apart(library, operation, wrong):
+                unseen.append(f"{operation}: {what}")
+    for line in unseen:
+        print(f"tests/interface_mutants.py: not seen: {line}")
+    print(f"tests/interface_mutants.py: {tried} wrong functions, {len(unseen)} not seen")
+    sys.exit(1 if unseen or not tried else 0)
+
+
+if __name__ == "__main__":
+    main()
