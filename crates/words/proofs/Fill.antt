@@ -33,16 +33,19 @@ module _ {A : Type 0} where
       let long : length (l ++ replicate (k - n) z) ≡ k = length-append l (replicate (k - n) z) ∙ rw (length-replicate, e) (omega arith) in
       rw (← whole, ← replicate-append-replicate, ← append-assoc) (take-at (l ++ replicate (k - n) z) (replicate (m - k) z) k long)
 
-  -- a paste behind the n elements that are there replaces as much of the fill
+  -- a paste behind the n elements in front replaces as many behind them
+  pub paste-behind : (front l s : List A) (n : ℕ) → length front ≡ n → paste (front ++ l) n s (length s) ≡ front ++ s ++ drop (length s) l
+  paste-behind front l s n e =
+      let back : drop (n + length s) (front ++ l) ≡ drop (length s) l =
+      ap (λ k. drop (k + length s) (front ++ l)) (sym e) ∙ drop-append-add front l (length s) in
+      rw (take-at front l n e, take-length, back)
+
+  -- as much of a fill
   pub paste-next : (l : List A) (z : A) (s : List A) (n m : ℕ) → length l ≡ n → n + length s ≤ m
       → paste (l ++ replicate (m - n) z) n s (length s) ≡ l ++ s ++ replicate (m - (n + length s)) z
   paste-next l z s n m e h =
       let behind : m - n - length s ≡ m - (n + length s) = omega arith in
-      let front = take-at l (replicate (m - n) z) n e in
-      let back : drop (n + length s) (l ++ replicate (m - n) z) ≡ replicate (m - (n + length s)) z =
-      ap (λ k. drop (k + length s) (l ++ replicate (m - n) z)) (sym e) ∙ drop-append-add l (replicate (m - n) z) (length s)
-      ∙ drop-replicate (length s) (m - n) z (omega arith) ∙ ap (λ k. replicate k z) behind in
-      rw (front, take-length, back)
+      paste-behind l (replicate (m - n) z) s n e ∙ rw (drop-replicate (length s) (m - n) z (omega arith), behind)
 
   -- the same of a list that is known by equations
   pub pasted : (l : List A) (z : A) (s : List A) (n m : ℕ) {d r : List A} → length l ≡ n → n + length s ≤ m

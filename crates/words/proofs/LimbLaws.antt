@@ -22,12 +22,14 @@ one-small h = omega arith
 pub both-small : {first second : ℕ} → first ≤ 1 → second ≤ 1 → first + second < 2 ^ 64
 both-small h k = omega arith
 
--- two sums in turn, and two differences
-pub carried : (a b carry sum first limb second : ℕ) → sum + 2 ^ 64 * first ≡ a + b → limb + 2 ^ 64 * second ≡ sum + carry → limb + 2 ^ 64 * (first + second) ≡ a + b + carry
+-- two sums in turn
+pub carried : (a b carry sum first limb second : ℕ) → sum + 2 ^ 64 * first ≡ a + carry → limb + 2 ^ 64 * second ≡ sum + b → limb + 2 ^ 64 * (first + second) ≡ a + b + carry
 carried a b carry sum first limb second e f = omega arith
 
-pub lent : (a b borrow difference first limb second : ℕ) → difference + b ≡ a + 2 ^ 64 * first → limb + borrow ≡ difference + 2 ^ 64 * second → limb + b + borrow ≡ a + 2 ^ 64 * (first + second)
-lent a b borrow difference first limb second e f = omega arith
+-- the limb that is left of a, added again to what was taken off
+pub added-again : (a b borrow left limb sum over : ℕ) → sum < 2 ^ 64 → (left + b) % 2 ^ 64 ≡ a → (limb + borrow) % 2 ^ 64 ≡ left → sum + 2 ^ 64 * over ≡ limb + b + borrow
+    → limb + b + borrow ≡ a + 2 ^ 64 * over
+added-again a b borrow left limb sum over h e f g = omega arith
 
 -- what is above a limb of a number that is small
 above-small : (x n m : ℕ) → x + 2 ^ 64 * n < 2 ^ 64 * m → n < m

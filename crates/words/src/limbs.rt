@@ -42,42 +42,24 @@ fn add_with_carry(a: u64, b: u64, carry: u64) -> Digit
     requires { ⌜ carry ≤ 1 ⌝ }
     ensures { λ r. ⌜ (r .limb + 2 ^ 64 * r .over ≡ a + b + carry) × (r .over ≤ 1) ⌝ }
 {
-    let sum = add_limb(a, b);
-    let carried = add_limb(sum.limb, carry);
+    let sum = add_limb(a, carry);
+    let carried = add_limb(sum.limb, b);
     Digit {
         limb: carried.limb,
         over: sum.over + carried.over,
     }
 }
 
-// A limb of a difference.
-fn subtract_limb(a: u64, b: u64) -> Digit
-    ensures { λ r. ⌜ (r .limb + b ≡ a + 2 ^ 64 * r .over) × (r .over ≤ 1) ⌝ }
-{
-    let limb = wrapping_sub_u64(a, b);
-    if a < b {
-        Digit {
-            limb: limb,
-            over: 1,
-        }
-    } else {
-        Digit {
-            limb: limb,
-            over: 0,
-        }
-    }
-}
-
-// The same with the borrow from it.
+// A limb of a difference with the borrow from it: added to b and the borrow it gives a, and what that sum carries is the
+// borrow from the next limb.
 fn subtract_with_borrow(a: u64, b: u64, borrow: u64) -> Digit
     requires { ⌜ borrow ≤ 1 ⌝ }
     ensures { λ r. ⌜ (r .limb + b + borrow ≡ a + 2 ^ 64 * r .over) × (r .over ≤ 1) ⌝ }
 {
-    let difference = subtract_limb(a, b);
-    let lent = subtract_limb(difference.limb, borrow);
+    let limb = wrapping_sub_u64(wrapping_sub_u64(a, b), borrow);
     Digit {
-        limb: lent.limb,
-        over: difference.over + lent.over,
+        limb: limb,
+        over: add_with_carry(limb, b, borrow).over,
     }
 }
 
@@ -100,7 +82,7 @@ pub fn subtract(a: Limbs, b: Limbs) -> Limbs
     requires { ⌜ number b ≤ number a ⌝ }
     ensures { λ r. ⌜ number r + number b ≡ number a ⌝ }
 {
-    let low = subtract_limb(a.low, b.low);
+    let low = subtract_with_borrow(a.low, b.low, 0);
     let middle = subtract_with_borrow(a.middle, b.middle, low.over);
     Limbs {
         low: low.limb,

@@ -1,20 +1,16 @@
--- `words::limbs::subtract_with_borrow` meets its contract: two differences in turn, of which at most one borrows.
-use mathlib.Core.Path.{sym}
+-- `words::limbs::subtract_with_borrow` meets its contract: the limb, added again to what was taken off, gives `a` and the carry.
 use borrow.Author.Needs.{needs}
-use Rattle.words.proofs.LimbLaws.{both-small, over-one, lent}
+use Rattle.words.proofs.LimbLaws.{added-again}
 use Rattle.words.proofs.limbs.subtract_with_borrow.Statement.{statement}
 use Rattle.words.proofs.limbs.subtract_with_borrow.Tie as tie
 
-add-t6 : tie.Need-add-t6
-add-t6 c = record { fits = both-small (c .before .before .before .subtract-limb .ensures .1) (c .before .before .subtract-limb2 .ensures .1) }
-
 returns : tie.Need-returns
 returns c =
-    let second = c .before .before in
+    let second = c .before in
     let first = second .before in
-    let start = first .before in
-    let whole = lent (start .args .a) (start .args .b) (start .args .borrow) _ _ _ _ (first .subtract-limb .ensures .0) (second .subtract-limb2 .ensures .0) in
-    (whole, over-one _ (start .args .b) (start .args .borrow) (start .args .a) _ (search needs) (start .fits .b .fits) (start .pre) (sym whole))
+    let a = first .before .args in
+    let sum = c .add-with-carry .ensures in
+    (added-again (a .a) (a .b) (a .borrow) _ _ _ _ (search needs) (first .wrapping-sub-u64 .ensures) (second .wrapping-sub-u642 .ensures) (sum .0), sum .1)
 
 pub subtract-with-borrow-spec : {M : Type 1} → statement M
-subtract-with-borrow-spec = tie.close (tie.spec (λ c κs. search needs) (λ c κs. search needs) add-t6 returns)
+subtract-with-borrow-spec = tie.close (tie.spec (λ c κs. search needs) (λ c κs. search needs) (λ c κs. search needs) returns)
