@@ -7,8 +7,8 @@ use Prim.Native.Nat.{ℕ, zero, suc, _+_, _-_, _*_, _/_, _%_, _≤_, _<_}
 use native.Mathlib.Omega.{arith}
 use borrow.Author.Tests.{lt-ltb, le-ltb, le-leb, lt-leb, ne-eqb, ltb-true, ltb-false, leb-true, leb-false, eqb-true}
 use lib.Dec.{ltb, leb, eqb, lit<}
-use lib.ListN.{length, getD}
-use Rattle.words.proofs.Lists.{Below}
+use lib.ListN.{length}
+use Rattle.words.proofs.Lists.{Below, below-cons}
 use Rattle.hex.specs.Hex.{hexDigit, hexOf, lineEnd, lineOf, digitOf, Line, wrong, right, behind, readLine}
 
 -- the digit of a character, by where the character stands
@@ -107,8 +107,9 @@ pub record Written (chars bytes rest : List ℕ) : Type 0 where
   pub line : chars ≡ lineOf bytes ++ rest
   pub below : Below 256 bytes
 
-wrong-right : {bytes rest : List ℕ} → wrong ≡ right bytes rest → ⊥
-wrong-right e = let z : _≡_ {A = ℕ} 0 1 = cc in omega arith
+-- nothing is both wrong and right
+pub wrong-right : {A : Type 0} {bytes rest : List ℕ} → wrong ≡ right bytes rest → A
+wrong-right e = let z : _≡_ {A = ℕ} 0 1 = cc in absurd (omega arith)
 
 -- a line that ends at once
 ended : (c : ℕ) (more : List ℕ) {bytes rest : List ℕ} → c ≡ lineEnd → right [] more ≡ right bytes rest → Written (c ∷ more) bytes rest
@@ -123,7 +124,7 @@ one-more : (c d : ℕ) (more : List ℕ) {bytes rest : List ℕ} → digitOf c <
     → ((bytes′ rest′ : List ℕ) → l ≡ right bytes′ rest′ → Written more bytes′ rest′)
     → behind (16 * digitOf c + digitOf d) l ≡ right bytes rest → Written (c ∷ d ∷ more) bytes rest
 unfolding behind lineOf hexOf
-one-more c d more h k wrong written e = absurd (wrong-right e)
+one-more c d more h k wrong written e = wrong-right e
 one-more c d more {bytes} {rest} h k (right bytes′ rest′) written e =
     let w = written bytes′ rest′ refl in
     let front : (16 * digitOf c + digitOf d) ∷ bytes′ ≡ bytes = cc in
@@ -132,21 +133,17 @@ one-more c d more {bytes} {rest} h k (right bytes′ rest′) written e =
     let low : (16 * digitOf c + digitOf d) % 16 ≡ digitOf d = omega arith in
     record {
       line = rw (← front, ← same, w .line, high, low, hex-digit c h, hex-digit d k);
-      below = rw (← front) (λ i. below-more (w .below) i);
+      below = rw (← front) (below-cons 256 (16 * digitOf c + digitOf d) bytes′ (omega arith) (w .below));
     }
-  where
-    below-more : Below 256 bytes′ → (i : ℕ) → getD ((16 * digitOf c + digitOf d) ∷ bytes′) i 0 < 256
-    below-more b zero = omega arith
-    below-more b (suc i) = b i
 
 pub line-of-read : (chars : List ℕ) {bytes rest : List ℕ} → readLine chars ≡ right bytes rest → Written chars bytes rest
 unfolding readLine
-line-of-read [] e = absurd (wrong-right e)
+line-of-read [] e = wrong-right e
 line-of-read (c ∷ []) {bytes} {rest} e = by (eqb c lineEnd) refl e
   where
     by : (t : Bool) → eqb c lineEnd ≡ t → cond t (right [] []) wrong ≡ right bytes rest → Written (c ∷ []) bytes rest
     by true p q = ended c [] (eqb-true c lineEnd p) q
-    by false p q = absurd (wrong-right q)
+    by false p q = wrong-right q
 line-of-read (c ∷ d ∷ more) {bytes} {rest} e =
     by (eqb c lineEnd) (ltb (digitOf c) 16) (ltb (digitOf d) 16) (λ bytes′ rest′. line-of-read more {bytes = bytes′} {rest = rest′}) refl refl refl e
   where
@@ -154,7 +151,7 @@ line-of-read (c ∷ d ∷ more) {bytes} {rest} e =
         → cond t (right [] (d ∷ more)) (cond u (cond v (behind (16 * digitOf c + digitOf d) (readLine more)) wrong) wrong) ≡ right bytes rest
         → Written (c ∷ d ∷ more) bytes rest
     by true u v inner p q r k = ended c (d ∷ more) (eqb-true c lineEnd p) k
-    by false false v inner p q r k = absurd (wrong-right k)
-    by false true false inner p q r k = absurd (wrong-right k)
+    by false false v inner p q r k = wrong-right k
+    by false true false inner p q r k = wrong-right k
     by false true true inner p q r k =
         one-more c d more (ltb-true (digitOf c) 16 q) (ltb-true (digitOf d) 16 r) (readLine more) inner k

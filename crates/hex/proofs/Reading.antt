@@ -3,12 +3,13 @@ use mathlib.Core.Path.{_≡_, refl, sym, ap, _∙_}
 use mathlib.Core.Bool.{Bool, true, false, true≢false}
 use mathlib.Core.List.{List, [], _∷_, _++_, append-nil}
 use Prim.Native.Nat.{ℕ, suc, _+_, _*_, _≤_, _<_}
-use native.Mathlib.Numerals.{add-one, add-two}
+use native.Mathlib.Numerals.{add-one}
 use native.Mathlib.Omega.{arith}
 use borrow.Author.Tests.{lt-ltb, le-ltb, ltb-true, ltb-false, eq-eqb, ne-eqb, eqb-true, eqb-false}
 use lib.Dec.{ltb, eqb}
-use lib.ListN.{length, getD, take, drop, set, length-append, take-append-drop, drop-of-length-le, List·getD-eq-default}
+use lib.ListN.{length, getD, take, drop, set, length-append, take-append-drop, drop-of-length-le}
 use lib.Seq.{drop-cons, append-snoc, take-all, take-suc-set, drop-set-lt}
+use Rattle.words.proofs.Lists.{drop-two, getD-within}
 use Rattle.hex.specs.Digits.{byteOf, byteAt, hasBytes, orKept, readInto, ReadsLine}
 use Rattle.hex.specs.Hex.{lineEnd, digitOf, Line, wrong, right, behind, readLine}
 use Rattle.hex.specs.declared.Digits.{Digits}
@@ -36,20 +37,13 @@ module _ (chars : List ℕ) (at : ℕ) where
   byte-right h k l =
       rw (le-ltb (length chars) (at + 2) h, lt-ltb (digitOf (getD chars at 0)) 16 k, lt-ltb (digitOf (getD chars (at + 1) 0)) 16 l)
 
-  -- the characters from the index on
-  from-two : at + 2 ≤ length chars → drop at chars ≡ getD chars at 0 ∷ getD chars (at + 1) 0 ∷ drop (at + 2) chars
-  from-two h = rw (drop-cons chars at 0 (omega arith), add-one, add-two, drop-cons chars (suc at) 0 (omega arith))
-
-  pub past-end : length chars ≤ at → getD chars at 0 ≡ lineEnd → ⊥
-  past-end h e = omega (arith, List·getD-eq-default chars 0 h)
+  -- an ending that stands at the index is there
+  pub ending-within : getD chars at 0 ≡ lineEnd → at < length chars
+  ending-within e = getD-within chars at (omega arith)
 
   -- the line ends at the index
   pub line-ends : getD chars at 0 ≡ lineEnd → readLine (drop at chars) ≡ right [] (drop (at + 1) chars)
-  line-ends e = by (ltb at (length chars)) refl
-    where
-      by : (t : Bool) → ltb at (length chars) ≡ t → readLine (drop at chars) ≡ right [] (drop (at + 1) chars)
-      by true h = rw (drop-cons chars at 0 (ltb-true at (length chars) h), e, add-one) (read-end (drop (suc at) chars))
-      by false h = absurd (past-end (ltb-false at (length chars) h) e)
+  line-ends e = rw (drop-cons chars at 0 (ending-within e), e, add-one) (read-end (drop (suc at) chars))
 
   -- a byte stands at the index: the line goes on behind it
   pub line-byte : {b : ℕ} → byteAt chars at ≡ Byte b → readLine (drop at chars) ≡ behind b (readLine (drop (at + 2) chars))
@@ -69,7 +63,7 @@ module _ (chars : List ℕ) (at : ℕ) where
           let high = ltb-true (digitOf (getD chars at 0)) 16 q in
           let low = ltb-true (digitOf (getD chars (at + 1) 0)) 16 r in
           let same : 16 * digitOf (getD chars at 0) + digitOf (getD chars (at + 1) 0) ≡ b = cc (byte-right room high low) in
-          rw (from-two room, ← same) (read-byte (getD chars at 0) (getD chars (at + 1) 0) (drop (at + 2) chars) high low)
+          rw (drop-two 0 chars at room, ← same) (read-byte (getD chars at 0) (getD chars (at + 1) 0) (drop (at + 2) chars) high low)
 
   -- no byte stands at the index, and no ending: the line is wrong
   pub line-wrong : byteAt chars at ≡ Wrong → (getD chars at 0 ≡ lineEnd → ⊥) → readLine (drop at chars) ≡ wrong
@@ -86,8 +80,8 @@ module _ (chars : List ℕ) (at : ℕ) where
       by true true u v o p q r =
           let last : length chars ≤ suc at = omega (arith, ltb-true (length chars) (at + 2) p) in
           rw (drop-cons chars at 0 (ltb-true at (length chars) o), drop-of-length-le chars last, not-end)
-      by true false false v o p q r = rw (from-two (ltb-false (length chars) (at + 2) p), not-end, q)
-      by true false true false o p q r = rw (from-two (ltb-false (length chars) (at + 2) p), not-end, q, r)
+      by true false false v o p q r = rw (drop-two 0 chars at (ltb-false (length chars) (at + 2) p), not-end, q)
+      by true false true false o p q r = rw (drop-two 0 chars at (ltb-false (length chars) (at + 2) p), not-end, q, r)
       by true false true true o p q r =
           let z : _≡_ {A = ℕ} 0 1 = cc (byte-right (ltb-false _ _ p) (ltb-true _ _ q) (ltb-true _ _ r)) in
           absurd (omega arith)

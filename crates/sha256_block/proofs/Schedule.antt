@@ -6,8 +6,9 @@ use Prim.Native.Nat.{ℕ, zero, suc, _+_, _-_, _*_, _<_, _≤_}
 use native.Mathlib.Nat.{add-zero, eq-or-lt-of-le}
 use native.Mathlib.Omega.{arith}
 use lib.ListN.{length, getD, take, drop, length-append, length-drop, take-append-drop, List·getD-append}
-use lib.Seq.{drop-drop, take-all, take-suc, take-add, take-append-le, length-take-le, getD-drop, getD-at, drop-at}
+use lib.Seq.{drop-drop, take-all, take-suc, take-add, take-append-le, getD-drop, getD-at, drop-at}
 use Rattle.words.specs.Bytes.{fromBytes}
+use Rattle.words.proofs.Lists.{length-part}
 use Rattle.sha256_block.specs.Compression.{wordsOf, nextWord, extend}
 
 pub length-words : (n : ℕ) (bytes : List ℕ) → length (wordsOf n bytes) ≡ n
@@ -82,7 +83,7 @@ module _ (ws : List ℕ) (sixteen : length ws ≡ 16) where
   part-word t n low high =
       let all = extend 48 ws in
       let rest = drop t all in
-      let count : length (take n rest) ≡ n = length-take-le n rest (omega (arith, length-drop t all, length-extend 48 ws)) in
+      let count : length (take n rest) ≡ n = length-part all t n (omega (arith, length-extend 48 ws)) in
       sym (next-of-append n (take n rest) (drop n rest) low (omega arith)) ∙ ap (nextWord n) (take-append-drop n rest) ∙ next-of-drop n t all low
       ∙ sym (by-rule 48 (t + n) (omega arith) (omega arith)) ∙ sym (getD-drop t all n 0)
 
@@ -94,7 +95,7 @@ module _ (ws : List ℕ) (sixteen : length ws ≡ 16) where
       let all = extend 48 ws in
       let rest = drop t all in
       let long : length rest ≡ 64 - t = omega (arith, length-drop t all, length-extend 48 ws) in
-      let count : length (take (16 + i) rest) ≡ 16 + i = length-take-le (16 + i) rest (omega arith) in
+      let count : length (take (16 + i) rest) ≡ 16 + i = length-part all t (16 + i) (omega (arith, length-extend 48 ws)) in
       let one-more : suc (16 + i) ≡ 16 + suc i = omega arith in
       rw (extend-part t i (omega arith), count, part-word t (16 + i) (omega arith) (omega arith))
       (sym (take-suc rest (16 + i) 0 (omega arith)) ∙ ap (λ n. take n rest) one-more)
@@ -104,5 +105,5 @@ module _ (ws : List ℕ) (sixteen : length ws ≡ 16) where
   next-part t h =
       let all = extend 48 ws in
       let rest = drop t all in
-      let long : length (take 16 rest) ≡ 16 = length-take-le 16 rest (omega (arith, length-drop t all, length-extend 48 ws)) in
+      let long : length (take 16 rest) ≡ 16 = length-part all t 16 (omega (arith, length-extend 48 ws)) in
       ap (drop 16) (extend-part t 16 (omega arith) ∙ take-add 16 16 rest) ∙ drop-at (take 16 rest) (take 16 (drop 16 rest)) 16 long ∙ ap (take 16) (drop-drop 16 t all)

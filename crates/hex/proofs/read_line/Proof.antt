@@ -10,7 +10,7 @@ use lib.ListN.{length, getD, take, drop, length-set}
 use lib.Seq.{length-take-le}
 use Rattle.hex.specs.Digits.{readInto, ReadsLine}
 use Rattle.hex.specs.Hex.{lineEnd, readLine}
-use Rattle.hex.proofs.Reading.{past-end, ahead, short-line, long-line, read-begins, read-next, read-all, into-begins, into-next, into-wrong, into-all, byte-room, answer-no, answer-yes}
+use Rattle.hex.proofs.Reading.{ending-within, ahead, short-line, long-line, read-begins, read-next, read-all, into-begins, into-next, into-wrong, into-all, byte-room, answer-no, answer-yes}
 use Rattle.hex.proofs.read_line.Statement.{statement}
 use Rattle.hex.proofs.read_line.Tie as tie
 
@@ -71,7 +71,7 @@ same-length-2 : tie.Need-same-length-2 Inv-loop μ-loop
 same-length-2 c = c .before .before .loop .inv .2
 
 returns-2 : tie.Need-returns-2 Inv-loop μ-loop
-returns-2 c = not-ended (c .before .before) (c .before .loop-test .left) (past-end (now (start (c .before .before) .args .chars)) _ (c .if1 .taken))
+returns-2 c = not-ended (c .before .before) (c .before .loop-test .left) (λ e. omega (arith, ending-within (now (start (c .before .before) .args .chars)) _ e))
 
 same-length-3 : tie.Need-same-length-3 Inv-loop μ-loop
 same-length-3 c = c .before .before .before .before .loop .inv .2

@@ -24,39 +24,27 @@ next t ws all v₀ i q h p e =
 returns : tie.Need-returns
 returns c =
     λ v₀ all p q.
-    let c₁₅ = c .before in
-    let c₁₄ = c₁₅ .before in
-    let c₁₃ = c₁₄ .before in
-    let c₁₂ = c₁₃ .before in
-    let c₁₁ = c₁₂ .before in
-    let c₁₀ = c₁₁ .before in
-    let c₉ = c₁₀ .before in
-    let c₈ = c₉ .before in
-    let c₇ = c₈ .before in
-    let c₆ = c₇ .before in
-    let c₅ = c₆ .before in
-    let c₄ = c₅ .before in
-    let c₃ = c₄ .before in
-    let c₂ = c₃ .before in
-    let c₁ = c₂ .before in
-    let start = c₁ .before in
+    let c₁₂ = c .before .before .before .before in
+    let c₈ = c₁₂ .before .before .before .before in
+    let c₄ = c₈ .before .before .before .before in
+    let start = c₄ .before .before .before .before in
     let t = start .args .t in
     let e₀ : start .args .v ≡ roundsOf (t + 0) v₀ all = rw add-zero p in
-    let e₁ = next t _ all v₀ 0 q (omega arith) e₀ (c₁ .round-at .ensures) in
-    let e₂ = next t _ all v₀ 1 q (omega arith) e₁ (c₂ .round-at2 .ensures) in
-    let e₃ = next t _ all v₀ 2 q (omega arith) e₂ (c₃ .round-at3 .ensures) in
+    let e₁ = next t _ all v₀ 0 q (omega arith) e₀ (c₄ .before .before .before .round-at .ensures) in
+    let e₂ = next t _ all v₀ 1 q (omega arith) e₁ (c₄ .before .before .round-at2 .ensures) in
+    let e₃ = next t _ all v₀ 2 q (omega arith) e₂ (c₄ .before .round-at3 .ensures) in
     let e₄ = next t _ all v₀ 3 q (omega arith) e₃ (c₄ .round-at4 .ensures) in
-    let e₅ = next t _ all v₀ 4 q (omega arith) e₄ (c₅ .round-at5 .ensures) in
-    let e₆ = next t _ all v₀ 5 q (omega arith) e₅ (c₆ .round-at6 .ensures) in
-    let e₇ = next t _ all v₀ 6 q (omega arith) e₆ (c₇ .round-at7 .ensures) in
+    let e₅ = next t _ all v₀ 4 q (omega arith) e₄ (c₈ .before .before .before .round-at5 .ensures) in
+    let e₆ = next t _ all v₀ 5 q (omega arith) e₅ (c₈ .before .before .round-at6 .ensures) in
+    let e₇ = next t _ all v₀ 6 q (omega arith) e₆ (c₈ .before .round-at7 .ensures) in
     let e₈ = next t _ all v₀ 7 q (omega arith) e₇ (c₈ .round-at8 .ensures) in
-    let e₉ = next t _ all v₀ 8 q (omega arith) e₈ (c₉ .round-at9 .ensures) in
-    let e₁₀ = next t _ all v₀ 9 q (omega arith) e₉ (c₁₀ .round-at10 .ensures) in
-    let e₁₁ = next t _ all v₀ 10 q (omega arith) e₁₀ (c₁₁ .round-at11 .ensures) in
+    let e₉ = next t _ all v₀ 8 q (omega arith) e₈ (c₁₂ .before .before .before .round-at9 .ensures) in
+    let e₁₀ = next t _ all v₀ 9 q (omega arith) e₉ (c₁₂ .before .before .round-at10 .ensures) in
+    let e₁₁ = next t _ all v₀ 10 q (omega arith) e₁₀ (c₁₂ .before .round-at11 .ensures) in
     let e₁₂ = next t _ all v₀ 11 q (omega arith) e₁₁ (c₁₂ .round-at12 .ensures) in
-    let e₁₃ = next t _ all v₀ 12 q (omega arith) e₁₂ (c₁₃ .round-at13 .ensures) in
-    let e₁₄ = next t _ all v₀ 13 q (omega arith) e₁₃ (c₁₄ .round-at14 .ensures) in
-    let e₁₅ = next t _ all v₀ 14 q (omega arith) e₁₄ (c₁₅ .round-at15 .ensures) in
+    let e₁₃ = next t _ all v₀ 12 q (omega arith) e₁₂ (c .before .before .before .round-at13 .ensures) in
+    let e₁₄ = next t _ all v₀ 13 q (omega arith) e₁₃ (c .before .before .round-at14 .ensures) in
+    let e₁₅ = next t _ all v₀ 14 q (omega arith) e₁₄ (c .before .round-at15 .ensures) in
     next t _ all v₀ 15 q (omega arith) e₁₅ (c .round-at16 .ensures)
 
 pub sixteen-rounds-spec : {M : Type 1} → statement M
