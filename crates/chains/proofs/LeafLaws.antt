@@ -3,8 +3,8 @@ use mathlib.Core.Path.{_≡_, sym, ap, _∙_}
 use mathlib.Core.List.{List, _++_, append-nil}
 use Prim.Native.Nat.{ℕ, _+_, _*_, _<_, _≤_}
 use native.Mathlib.Omega.{arith}
-use lib.ListN.{length, take, drop, length-append, length-drop}
-use lib.Seq.{length-take-le, drop-drop}
+use lib.ListN.{length, take, drop, length-append}
+use lib.Seq.{drop-drop}
 use Rattle.words.specs.Joined.{joinTo}
 use Rattle.words.proofs.Joins.{joinTo-behind, length-joinTo}
 use Rattle.sha256.specs.Digest.{wordBytes}
@@ -25,11 +25,6 @@ length-leaf-key d secret w l leaf = length-tweaked d _ _
 pub value-from : (d : Domain) (leaf c low n : ℕ) (values : List ℕ) (at : ℕ) {v r : List ℕ} → v ≡ take 16 (drop (at + 16 * c) values)
     → r ≡ walked d leaf c low n v → r ≡ walked d leaf c low n (take 16 (drop (16 * c) (drop at values)))
 value-from d leaf c low n values at s e = e ∙ ap (walked d leaf c low n) (s ∙ ap (take 16) (sym (drop-drop (16 * c) at values)))
-
--- of n values that are shown, each has 16 bytes
-pub length-shown : (values : List ℕ) (at n c : ℕ) → at + 16 * n ≤ length values → c < n → length (take 16 (drop (16 * c) (drop at values))) ≡ 16
-length-shown values at n c fits h =
-    length-take-le 16 (drop (16 * c) (drop at values)) (omega (arith, length-drop (16 * c) (drop at values), length-drop at values))
 
 -- what the running hash has taken after c tops, f 0, f 1, ..
 abbrev pub taken : (d : Domain) (leaf : ℕ) → (ℕ → List ℕ) → ℕ → List ℕ

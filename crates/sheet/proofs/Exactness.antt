@@ -8,7 +8,7 @@ use lib.ListN.{length, take, drop, length-append, length-drop, take-append-drop}
 use lib.Seq.{take-at, drop-at, length-take-le}
 use Rattle.words.specs.Bytes.{toBytes}
 use Rattle.words.proofs.ByteLaws.{toBytes-lt}
-use Rattle.words.proofs.Lists.{Below, below-by-test, below-append, below-take, below-drop}
+use Rattle.words.proofs.Lists.{Below, below-by-test, below-cons, below-append, below-take, below-drop}
 use Rattle.profile.specs.declared.Profile.{Profile}
 use Rattle.hex.specs.Hex.{Line, wrong, right, lineOf}
 use Rattle.message.specs.Message.{signatureLength}
@@ -33,11 +33,6 @@ Bytes fs = All (λ f. Below 256 (f .head)) fs
 abbrev pub total : List Frame → ℕ
 total [] = 0
 total (f ∷ fs) = f .high + total fs
-
-pair-below : (a b : ℕ) → a < 256 → b < 256 → Below 256 (a ∷ b ∷ [])
-pair-below a b h k zero = h
-pair-below a b h k (suc zero) = k
-pair-below a b h k (suc (suc i)) = lit< tt
 
 -- the lines of frames with their bytes, and the text's line, are read as they are
 lines-read : (fs : List Frame) (line : ℕ) (bytes text : List ℕ) → Sized fs → Bytes fs → length bytes ≡ total fs → Below 256 bytes
@@ -169,7 +164,9 @@ module _ (p : Profile) where
   frames-bytes : Within p → Bytes (frames p)
   unfolding frames profileFrame
   frames-bytes h =
-      let values = all-values (λ f. Below 256 (f .head)) (λ i low. pair-below 4 i (lit< tt) (omega (arith, h .0 .few-chains))) (λ i low. pair-below 5 i (lit< tt) (omega (arith, h .1))) in
+      let head : (kind i : ℕ) → kind < 256 → i < 256 → Below 256 (kind ∷ i ∷ []) =
+      λ kind i small few. below-cons 256 kind (i ∷ []) small (below-cons 256 i [] few (λ j. lit< tt)) in
+      let values = all-values (λ f. Below 256 (f .head)) (λ i low. head 4 i (lit< tt) (omega (arith, h .0 .few-chains))) (λ i low. head 5 i (lit< tt) (omega (arith, h .1))) in
       (below-by-test 256 (71 ∷ 79 ∷ 49 ∷ []) tt, (profile-bytes h, (below-by-test 256 (2 ∷ []) tt, (below-by-test 256 (3 ∷ []) tt, values))))
 
 pub exact : Exact

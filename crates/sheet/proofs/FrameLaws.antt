@@ -12,14 +12,10 @@ use Rattle.words.proofs.Lists.{Below, below-append, below-behind}
 use Rattle.profile.specs.Checks.{outside}
 use Rattle.profile.proofs.Limits.{inside, not-outside}
 use Rattle.hex.specs.Hex.{Line, wrong, right, lineOf, readLine}
-use Rattle.hex.proofs.HexLaws.{read-line-of, line-of-read}
+use Rattle.hex.proofs.HexLaws.{wrong-right, read-line-of, line-of-read}
 use Rattle.hex.proofs.Writing.{length-lineOf}
 use Rattle.sheet.specs.Frames.{Frame}
 use Rattle.sheet.specs.Sheet.{without, within, readFrame}
-
--- nothing is both wrong and right
-not-right : {A : Type 0} (bytes rest : List ℕ) → wrong ≡ right bytes rest → A
-not-right bytes rest e = let z : _≡_ {A = ℕ} 0 1 = cc in absurd (omega arith)
 
 without-head : (head bytes rest : List ℕ) → without head (right (head ++ bytes) rest) ≡ right bytes rest
 unfolding without
@@ -30,15 +26,15 @@ without-head (h ∷ head) bytes rest = rw (eq-eqb h h refl) (without-head head b
 head-without : (head : List ℕ) (line : Line) (bytes rest : List ℕ) → without head line ≡ right bytes rest → line ≡ right (head ++ bytes) rest
 unfolding without
 head-without [] line bytes rest e = e
-head-without (h ∷ head) wrong bytes rest e = not-right bytes rest e
-head-without (h ∷ head) (right [] rest′) bytes rest e = not-right bytes rest e
+head-without (h ∷ head) wrong bytes rest e = wrong-right e
+head-without (h ∷ head) (right [] rest′) bytes rest e = wrong-right e
 head-without (h ∷ head) (right (b ∷ more) rest′) bytes rest e = by (eqb b h) refl e (head-without head (right more rest′) bytes rest)
   where
     by : (same : Bool) → eqb b h ≡ same → cond same (without head (right more rest′)) wrong ≡ right bytes rest
         → (without head (right more rest′) ≡ right bytes rest → right more rest′ ≡ right (head ++ bytes) rest)
         → right (b ∷ more) rest′ ≡ right (h ∷ (head ++ bytes)) rest
     by true test e next = let first = eqb-true b h test in let behind = next e in cc
-    by false test e next = not-right bytes rest e
+    by false test e next = wrong-right e
 
 within-inside : (low high : ℕ) (bytes rest : List ℕ) → low ≤ length bytes → length bytes ≤ high → within low high (right bytes rest) ≡ right bytes rest
 unfolding within
@@ -47,12 +43,12 @@ within-inside low high bytes rest some few = rw (inside low high (length bytes) 
 -- what has low to high bytes
 inside-within : (low high : ℕ) (line : Line) (bytes rest : List ℕ) → within low high line ≡ right bytes rest → (line ≡ right bytes rest) × (low ≤ length bytes) × (length bytes ≤ high)
 unfolding within
-inside-within low high wrong bytes rest e = not-right bytes rest e
+inside-within low high wrong bytes rest e = wrong-right e
 inside-within low high (right more rest′) bytes rest e = by (outside low high (length more)) refl e
   where
     by : (test : Bool) → outside low high (length more) ≡ test → cond test wrong (right more rest′) ≡ right bytes rest
         → (right more rest′ ≡ right bytes rest) × (low ≤ length bytes) × (length bytes ≤ high)
-    by true test e = not-right bytes rest e
+    by true test e = wrong-right e
     by false test e = let limits = not-outside low high (length more) test in let same : more ≡ bytes = cc in (e, (rw same at (limits .0)), (rw same at (limits .1)))
 
 pub frame-read : (f : Frame) (bytes rest : List ℕ) → Below 256 (f .head) → Below 256 bytes → f .low ≤ length bytes → length bytes ≤ f .high

@@ -99,10 +99,6 @@ kind-byte p (suc (suc (suc zero))) zero low high h = refl
 kind-byte p (suc (suc (suc zero))) (suc i) low high h = absurd (omega arith)
 kind-byte p (suc (suc (suc (suc k)))) i low high h = absurd (omega arith)
 
-pub first-of : (b i : ℕ) → i < length (b ∷ []) → getD (b ∷ []) i 0 ≡ b
-first-of b zero h = refl
-first-of b (suc i) h = absurd (omega arith)
-
 -- the two bytes of the sum
 pub two-bytes : (sum : ℕ) (a b c d : ℕ) → sum ≤ 600 → _≡_ {A = List ℕ} (a ∷ b ∷ c ∷ d ∷ sum / 256 ∷ sum % 256 ∷ []) (a ∷ b ∷ c ∷ d ∷ toBytes 2 sum)
 unfolding toBytes

@@ -10,6 +10,7 @@ use lib.ListN.{length, getD, take, drop, drop-of-length-le, take-append-drop}
 use lib.Seq.{drop-cons, take-suc, take-all, getD-take}
 use Rattle.words.proofs.Lists.{below-by-test}
 use Rattle.hex.specs.Hex.{hexDigit, hexOf, lineEnd, Line, wrong, right, lineOf}
+use Rattle.hex.proofs.Reading.{ending-within}
 use Rattle.profile.specs.declared.Profile.{Profile}
 use Rattle.sheet.specs.Frames.{Frame, firstCharacters, firstFrame, frames, textFrame, frameAt}
 use Rattle.sheet.specs.Sheet.{Reading, wrongLine, read, readFrame, inFront, followed, ended, readFrames, readSheet}
@@ -158,18 +159,12 @@ module _ (sheet : List ℕ) (here last : Place) (e : last ≡ taken sheet textFr
             let count : (last .at - here .at - 1) / 2 - 1 ≡ length text = omega arith in
             rw (r, none, count)
 
--- a line that ends at an index ends within the sheet
-getD-inside : (sheet : List ℕ) (at : ℕ) → getD sheet at 0 ≡ lineEnd → at < length sheet
-getD-inside [] at e = absurd (omega arith)
-getD-inside (c ∷ sheet) zero e = omega arith
-getD-inside (c ∷ sheet) (suc at) e = omega (arith, getD-inside sheet at e)
-
 -- the first line
 module _ (sheet : List ℕ) where
   begun : take 6 sheet ≡ firstCharacters → getD sheet 6 0 ≡ lineEnd → readFrame firstFrame sheet ≡ right [] (drop 7 sheet)
   unfolding lineOf hexOf hexDigit
   begun e end =
-      let rest : drop 6 sheet ≡ lineEnd ∷ drop 7 sheet = rw (drop-cons sheet 6 0 (getD-inside sheet 6 end), end) in
+      let rest : drop 6 sheet ≡ lineEnd ∷ drop 7 sheet = rw (drop-cons sheet 6 0 (ending-within sheet 6 end), end) in
       let whole : firstCharacters ++ (lineEnd ∷ drop 7 sheet) ≡ sheet =
       ap (λ l. firstCharacters ++ l) (sym rest) ∙ ap (λ l. l ++ drop 6 sheet) (sym e) ∙ take-append-drop 6 sheet in
       rw whole at (frame-read firstFrame [] (drop 7 sheet) (below-by-test 256 (71 ∷ 79 ∷ 49 ∷ []) tt) (λ i. lit< tt) (lit≤ tt) (lit≤ tt))

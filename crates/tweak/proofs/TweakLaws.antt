@@ -1,12 +1,13 @@
 -- The running hash on the way to a tweaked hash, and the lengths of what the definitions give.
-use mathlib.Core.Path.{_≡_, refl, sym, subst, ap, _∙_}
+use mathlib.Core.Path.{_≡_, refl, sym, ap, _∙_}
 use mathlib.Core.List.{List, [], _++_, append-assoc, append-nil}
 use Prim.Native.Nat.{ℕ}
 use native.Mathlib.Omega.{arith}
 use lib.ListN.{length, take, drop, set, replicate, length-append}
-use lib.Seq.{length-take-le, paste, take-append-seam, take-length, drop-append-add}
+use lib.Seq.{length-take-le, paste}
 use Rattle.words.specs.Bytes.{toBytes}
 use Rattle.words.proofs.ByteLaws.{length-toBytes}
+use Rattle.words.proofs.Fill.{paste-behind}
 use Rattle.sha256_block.specs.Compression.{initial, compress}
 use Rattle.sha256_block.specs.declared.compression.HashWords.{HashWords}
 use Rattle.sha256.specs.Digest.{padding, compressAll, finalWords, wordBytes, digest}
@@ -51,12 +52,6 @@ pub tweak-ended : (d : Domain) (a bytes : List ℕ) {s : Hash} {r : List ℕ} �
     → r ≡ take 16 (wordBytes (finished s .words)) → r ≡ tweakedHash d a bytes
 unfolding digest tweakedHash
 tweak-ended d a bytes e f = f ∙ rw e (ap (λ v. take 16 (wordBytes v)) (finished-hashed (seedBlock (d .seed) ++ a ++ bytes)))
-
--- bytes put behind the front of a block
-paste-behind : (front block bytes : List ℕ) (n : ℕ) → length front ≡ n → paste (front ++ block) n bytes (length bytes) ≡ front ++ bytes ++ drop (length bytes) block
-paste-behind front block bytes n e =
-    subst (λ (k : ℕ). paste (front ++ block) k bytes (length bytes) ≡ front ++ bytes ++ drop (length bytes) block) e
-    (rw (take-append-seam, take-length, drop-append-add))
 
 -- 64 bytes, of which the last 26 are the padding of 102 bytes
 abbrev paddingOnly : List ℕ

@@ -6,6 +6,7 @@ use native.Mathlib.Omega.{arith}
 use borrow.Author.Needs.{needs}
 use denote.Ref.{now}
 use lib.ListN.{length, getD, take, drop}
+use Rattle.words.proofs.Joins.{length-value}
 use Rattle.sha256.specs.Running.{hashed}
 use Rattle.tweak.specs.declared.Domain.{Domain}
 use Rattle.codewords.specs.Codeword.{stepsLeft}
@@ -13,7 +14,7 @@ use Rattle.codewords.proofs.Steps.{steps-next}
 use Rattle.chains.specs.Chains.{walked}
 use Rattle.chains.specs.Leaves.{recovered}
 use Rattle.chains.proofs.ChainLaws.{length-walked}
-use Rattle.chains.proofs.LeafLaws.{value-from, length-shown, taken, no-top, top-more, all-tops}
+use Rattle.chains.proofs.LeafLaws.{value-from, taken, no-top, top-more, all-tops}
 use Rattle.chains.proofs.leaves.recover_key.Statement.{statement}
 use Rattle.chains.proofs.leaves.recover_key.Tie as tie
 
@@ -60,7 +61,7 @@ loop-again c =
     let i = at-loop .loop .c in
     let values = now (a .values) in
     let each : (j : ℕ) → j < a .chains → length (top d (a .leaf .0) (a .width) (a .t3) (drop (a .at) values) j) ≡ 16 =
-    λ j low. length-walked d (a .leaf .0) j (getD (a .t3) j 0) (left (a .width) (a .t3) j) _ (length-shown values (a .at) (a .chains) j (start .pre .1 .3) low) in
+    λ j low. length-walked d (a .leaf .0) j (getD (a .t3) j 0) (left (a .width) (a .t3) j) _ (length-value 16 values (a .at) (a .chains) j (start .pre .1 .3) low) in
     let here = value-from d (a .leaf .0) i (getD (a .t3) i 0) (left (a .width) (a .t3) i) values (a .at) (read .read-16 .ensures) (walk .walk .ensures .0) in
     (omega arith, omega arith, omega (arith, walk .walk .ensures .1), omega (arith, at-loop .loop .inv .3, walk .walk .ensures .1, steps-next (a .width) (a .t3) i (omega (arith, row-long known, start .pre .1 .2))), top-more d (a .leaf .0) (top d (a .leaf .0) (a .width) (a .t3) (drop (a .at) values)) i (a .chains) (start .pre .0 .long) (start .pre .1 .2) (omega arith) each (at-loop .loop .inv .4) here (absorbed .absorb .ensures))
 

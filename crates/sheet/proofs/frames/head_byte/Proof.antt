@@ -3,7 +3,8 @@ use mathlib.Core.Path.{sym, ap, _∙_}
 use native.Mathlib.Omega.{arith}
 use borrow.Author.Needs.{needs}
 use lib.ListN.{length, getD}
-use Rattle.sheet.proofs.FrameNumbers.{length-frames, value-at, sibling-at, profile-at, profile-long, text-at, kind-byte, first-of}
+use Rattle.words.proofs.Lists.{getD-only}
+use Rattle.sheet.proofs.FrameNumbers.{length-frames, value-at, sibling-at, profile-at, profile-long, text-at, kind-byte}
 use Rattle.sheet.proofs.frames.head_byte.Statement.{statement}
 use Rattle.sheet.proofs.frames.head_byte.Tie as tie
 
@@ -51,7 +52,7 @@ returns-5 c =
     let a = c .before .before .before .before .before .before .before in
     let text = text-at (a .args .p) (a .args .k) (omega (arith, c .before .before .before .before .frame-count .ensures)) in
     let long = ap (λ f. length (f .head)) text in
-    sym (ap (λ f. getD (f .head) (a .args .i) 0) text ∙ first-of 6 (a .args .i) (omega (arith, long, a .pre .2)))
+    sym (ap (λ f. getD (f .head) (a .args .i) 0) text ∙ getD-only 6 (a .args .i) (omega (arith, long, a .pre .2)))
 
 pub head-byte-spec : {M : Type 1} → statement M
 head-byte-spec =

@@ -17,7 +17,7 @@ use prog.Wp.{Heap, Calls, Loops, WpFn, Tables}
 use ghost.Atoms.{Atoms, sem}
 use contract.Lifetimes.{Lfts}
 use contract.Monad.{Fun, fact}
-use contract.Running.{givenOf, tables, tablesOf}
+use contract.Running.{givenOf}
 use types.Kit.{Given, ‵, raw, _⊛_, given, ⋆, some, later, _$_, _∵_, !, qed, by, move, drop, use1, use2, split, learn, pick, fsplit, fjoin, suffices, frame, await, done, rewrite}
 use types.Part.{whole, sub, look-in, agg}
 use types.Run.{look, init, forget, stop, fld, from, load, of-opd, and-then, no-more, assigns, land, returns, enter, alloc1, alloc0, params1, pass1, pass0, free1, free0}
@@ -38,7 +38,6 @@ use denote.Triple.Statement.{Contract, Triple}
 use denote.Triple.Call.{calls-at}
 use denote.Triple.Entry.{Vals, onEntry}
 use denote.Triple.Spec.{Meets, tripleOf}
-use denote.Triple.Table.{entered, cited}
 use denote.Triple.Walked.{says, needs, Stays, stay-none, walkOf, goes-none, Walks, ends-at, walked, walk-meets}
 use denote.Exit.{yes}
 use denote.Triple.Clauses.{ensured, lasts}
@@ -49,7 +48,7 @@ use Rattle.sheet.specs.Frames.{frameAt}
 use Rattle.sheet.specs.Reader.{taken}
 use Rattle.sheet.specs.declared.place.Place.{Place}
 use Rattle.sheet.specs.declared.reader.Reader.{Reader}
-use Rattle.sheet.proofs.ReaderLaws.{lowered, Asked}
+use Rattle.sheet.proofs.ReaderLaws.{lowered, Asked, met-calling}
 use Rattle.sheet.proofs.place.Place as P
 use Rattle.sheet.proofs.place.Place.Laws as P′
 use Rattle.sheet.proofs.reader.Reader as T
@@ -197,9 +196,7 @@ next-meets 𝓤 H A W mem run 𝓣 known =
     (WpFn 𝓤 H (𝓣 .C) (𝓣 .Λ) code.function) (WpFn-mono 𝓤 H (W .laws) 𝓣 code.function) (next-walks 𝓤 H A W mem run (𝓣 .C) (𝓣 .Λ) (fmOf 𝓤 H (W .laws) 𝓣) known)
 
 pub next-spec : {M : Type 1} → stated.statement M
-unfolding code.routine tablesOf
+unfolding code.routine
 next-spec 𝓤 H 𝓜 𝓖 𝓡 =
-    entered 𝓤 H (tripleOf 𝓤 H (𝓖 .A) next.signature (next.spec 𝓤 H (𝓖 .A) (𝓜 .mem) (𝓡 .run)))
-    (tables 𝓤 H 𝓜 𝓡 code.env .C) (tables 𝓤 H 𝓜 𝓡 code.env .Λ) #next code.function (code.unfolded 𝓤 H 𝓜 𝓡)
-    (next-meets 𝓤 H (𝓖 .A) (givenOf 𝓤 H 𝓜 𝓖) (𝓜 .mem) (𝓡 .run) (tablesOf 𝓤 H 𝓜 (tables 𝓤 H 𝓜 𝓡 code.env))
-    (cited 𝓤 H (TakeFrame 𝓤 H (𝓖 .A) (𝓜 .mem) (𝓡 .run)) 𝓜 𝓡 code.env #take-frame take-def.routine code.calls-sheet·place·take-frame (take-thm.met 𝓤 H 𝓜 𝓖 𝓡)))
+    met-calling 𝓤 H 𝓜 𝓡 code.env _ (TakeFrame 𝓤 H (𝓖 .A) (𝓜 .mem) (𝓡 .run)) #next #take-frame code.function take-def.routine
+    (code.unfolded 𝓤 H 𝓜 𝓡) code.calls-sheet·place·take-frame (take-thm.met 𝓤 H 𝓜 𝓖 𝓡) (next-meets 𝓤 H (𝓖 .A) (givenOf 𝓤 H 𝓜 𝓖) (𝓜 .mem) (𝓡 .run))
