@@ -4,8 +4,8 @@ use mathlib.Core.List.{List, [], _∷_, _++_, append-assoc}
 use Prim.Native.Nat.{ℕ, suc, _+_, _-_, _<_, _≤_}
 use native.Mathlib.Numerals.{add-one, add-two, add-three, add-four}
 use native.Mathlib.Omega.{arith}
-use lib.ListN.{length, getD, take, drop, set, replicate, length-append, length-drop, length-replicate, replicate-append-replicate}
-use lib.Seq.{length-take-le, take-suc, take-all, set-at, append-snoc, take-at, take-length, drop-at, drop-append-add, drop-set-lt, drop-drop, sets-eq, paste}
+use lib.ListN.{length, take, drop, set, replicate, length-append, length-drop, length-replicate, replicate-append-replicate}
+use lib.Seq.{take-all, set-at, append-snoc, take-at, take-length, drop-at, drop-append-add, drop-set-lt, drop-drop, sets-eq, paste}
 
 module _ {A : Type 0} where
   -- a turn's store: behind the n elements that are there, the first of the fill is replaced
@@ -14,12 +14,6 @@ module _ {A : Type 0} where
   store-next l z a n m e h =
       let left : m - n ≡ suc (m - suc n) = omega arith in
       rw left (set-at l z (replicate (m - suc n) z) a n e ∙ sym (append-snoc l a (replicate (m - suc n) z)))
-
-  -- a turn of a loop that copies s from the front into a fill
-  pub copy-next : (s : List A) (z : A) (i m : ℕ) (out : List A) → i < length s → i < m → out ≡ take i s ++ replicate (m - i) z
-      → set out i (getD s i z) ≡ take (i + 1) s ++ replicate (m - (i + 1)) z
-  copy-next s z i m out h k e =
-      rw (e, add-one, take-suc s i z h) (store-next (take i s) z (getD s i z) i m (length-take-le i s (omega arith)) k)
 
   pub drop-replicate : (k n : ℕ) (z : A) → k ≤ n → drop k (replicate n z) ≡ replicate (n - k) z
   drop-replicate k n z h =

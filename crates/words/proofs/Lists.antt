@@ -33,7 +33,7 @@ module _ {A : Type 0} (d : A) (l : List A) (at : ℕ) where
       rw (drop-cons l (at + k) d (omega arith), ← next, part-from (k + 1) n (omega arith))
 
   -- the n elements from index `at` on
-  pub part : (n : ℕ) → at + n ≤ length l → take n (drop at l) ≡ listed (λ j. getD l (at + j) d) 0 n
+  part : (n : ℕ) → at + n ≤ length l → take n (drop at l) ≡ listed (λ j. getD l (at + j) d) 0 n
   part n h = rw add-zero at (part-from 0 n (omega arith))
 
   pub part-4 : at + 4 ≤ length l → take 4 (drop at l) ≡ getD l at d ∷ getD l (at + 1) d ∷ getD l (at + 2) d ∷ getD l (at + 3) d ∷ []
