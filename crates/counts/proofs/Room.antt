@@ -58,15 +58,11 @@ module _ (p : Shape) (words : ℕ) where
   pub count-numbered : Numbered (countCauses p words)
   count-numbered = avoids-other leavesTable (λ n. eqb n 0) (countCauses p words) not-granted count-early
 
-  pub count-limits : firstCause (countCauses p words) ≡ 0 → InLimits p
+  pub count-passed : firstCause (countCauses p words) ≡ 0 → InLimits p × (tableLength p ≤ words)
   unfolding countCauses
-  count-limits e = in-limits p (none-of-append (shapeCauses p) (short p words) (shape-numbered p) e .0)
-
-  pub count-room : firstCause (countCauses p words) ≡ 0 → tableLength p ≤ words
-  unfolding countCauses
-  count-room e =
-      let none = none-of-append (shapeCauses p) (short p words) (shape-numbered p) e .1 in
-      ltb-false words (tableLength p) (none-here (ltb words (tableLength p)) 5 [] refl none .0)
+  count-passed e =
+      let none = none-of-append (shapeCauses p) (short p words) (shape-numbered p) e in
+      (in-limits p (none .0), ltb-false words (tableLength p) (none-here (ltb words (tableLength p)) 5 [] refl (none .1) .0))
 
 -- a profile that passes its checks, with room for its table: Count passes, the profile is within its limits, and the table fits
 pub record TablePassed (p : Profile) (words : ℕ) : Type 0 where
@@ -89,7 +85,8 @@ module _ (p : Profile) (words : ℕ) where
       let none = none-of-append (profileCauses p) (short (p .shape) words) (profile-numbered p) e in
       let passed = profile-passed p (none .0) in
       let counted : firstCause (countCauses (p .shape) words) ≡ 0 = none-then (shapeCauses (p .shape)) (short (p .shape) words) (passed .0) (shape-numbered (p .shape)) ∙ none .1 in
-      record { counted = counted; limits = count-limits (p .shape) words counted; low = passed .1; room = count-room (p .shape) words counted }
+      let fits = count-passed (p .shape) words counted in
+      record { counted = counted; limits = fits .0; low = passed .1; room = fits .1 }
 
 -- the table of a shape within its limits is small
 pub table-small : (p : Shape) → InLimits p → (p .chains + 1) * (p .sum + 1) ≤ 24641

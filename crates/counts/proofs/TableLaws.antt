@@ -2,7 +2,7 @@
 use mathlib.Core.Path.{_≡_, refl, _∙_, ap, sym}
 use mathlib.Core.Logic.{⊎-elim}
 use mathlib.Core.List.{List, _++_, append-assoc, append-nil}
-use Prim.Native.Nat.{ℕ, zero, suc, _+_, _*_, _<_, _≤_}
+use Prim.Native.Nat.{ℕ, zero, suc, _+_, _-_, _*_, _<_, _≤_}
 use native.Mathlib.Nat.{eq-or-lt-of-le, le-of-suc-le-suc, mul-le-mul-right, suc-mul, add-zero}
 use native.Mathlib.Numerals.{add-one}
 use native.Mathlib.Omega.{arith}
@@ -55,12 +55,15 @@ module _ (w s : ℕ) where
       (λ e. rw e (ap (take 5) (after-rows n t (cells (D w n) (s + 1) ++ more)) ∙ cell-in (D w n) (s + 1) t more k))
       (λ l. cell-row n i t (cells (D w n) (s + 1) ++ more) l k) (eq-or-lt-of-le (le-of-suc-le-suc h)))
 
-  -- the same of a work slice that holds the rows
+  -- a work slice that holds the rows
+  pub rows-split : (n : ℕ) (table : List ℕ) → take (5 * (n * (s + 1))) table ≡ rows w s n → table ≡ rows w s n ++ drop (5 * (n * (s + 1))) table
+  rows-split n table e = rw (← e) (sym (take-append-drop (5 * (n * (s + 1))) table))
+
+  -- D(i, t) in it
   pub cell-of : (n i t : ℕ) (table : List ℕ) → take (5 * (n * (s + 1))) table ≡ rows w s n → i < n → t < s + 1
       → take 5 (drop (5 * (i * (s + 1) + t)) table) ≡ toWords 5 (D w i t)
   cell-of n i t table e h k =
-      let split : table ≡ rows w s n ++ drop (5 * (n * (s + 1))) table = rw (← e) (sym (take-append-drop (5 * (n * (s + 1))) table)) in
-      ap (λ l. take 5 (drop (5 * (i * (s + 1) + t)) l)) split ∙ cell-row n i t (drop (5 * (n * (s + 1))) table) h k
+      ap (λ l. take 5 (drop (5 * (i * (s + 1) + t)) l)) (rows-split n table e) ∙ cell-row n i t (drop (5 * (n * (s + 1))) table) h k
 
   -- there is room for it
   pub cell-within : (n : ℕ) (table : List ℕ) → take (5 * (n * (s + 1))) table ≡ rows w s n → (i t : ℕ) → i < n → t ≤ s → 5 * (i * (s + 1) + t) + 5 ≤ length table
@@ -76,7 +79,7 @@ module _ (w s : ℕ) where
   pub row-begins : (i : ℕ) (work : List ℕ) → take (5 * (i * (s + 1))) work ≡ rows w s i
       → work ≡ rows w s i ++ cells (D w i) 0 ++ drop (5 * (i * (s + 1) + 0)) work
   unfolding cells
-  row-begins i work e = rw (add-zero, append-nil, ← e) (sym (take-append-drop (5 * (i * (s + 1))) work))
+  row-begins i work e = rw (add-zero, append-nil) (rows-split i work e)
 
   -- the cell t stored behind what is before it
   cell-stored : (i t : ℕ) (work : List ℕ) → 5 * (i * (s + 1) + t) + 5 ≤ length work
@@ -104,10 +107,10 @@ module _ (w s : ℕ) where
   unfolding rows
   row-ends i work = rw (row-end i s, add-one i)
 
-  -- where the rows begin
-  pub rows-begin : (work : List ℕ) → work ≡ rows w s 0 ++ drop (5 * (0 * (s + 1))) work
+  -- no row is there yet
+  pub no-rows : (work : List ℕ) → take (5 * (0 * (s + 1))) work ≡ rows w s 0
   unfolding rows
-  rows-begin work = let none : 5 * (0 * (s + 1)) ≡ 0 = omega arith in rw none
+  no-rows work = let none : 5 * (0 * (s + 1)) ≡ 0 = omega arith in rw none
 
   -- the rows above i
   pub above-row : (i : ℕ) (work table : List ℕ) → table ≡ rows w s i ++ work → take (5 * (i * (s + 1))) table ≡ rows w s i
@@ -117,13 +120,15 @@ module _ (w s : ℕ) where
   pub above-cell : (i t : ℕ) (work table : List ℕ) → table ≡ rows w s i ++ cells (D w i) t ++ work → take (5 * (i * (s + 1))) table ≡ rows w s i
   above-cell i t work table e = above-row i (cells (D w i) t ++ work) table (e ∙ append-assoc (rows w s i) (cells (D w i) t) work)
 
-  -- a turn of the loop that fills the rows
-  pub next-row : (i : ℕ) (work table next : List ℕ) → table ≡ rows w s i ++ drop (5 * (i * (s + 1))) work → next ≡ rows w s (i + 1) ++ drop (5 * ((i + 1) * (s + 1))) table
-      → next ≡ rows w s (i + 1) ++ drop (5 * ((i + 1) * (s + 1))) work
-  next-row i work table next e f =
-      let k : 5 * ((i + 1) * (s + 1)) ≡ length (rows w s i) + 5 * (s + 1) = omega (arith, row-end i s, length-rows w s i) in
-      let m : 5 * (i * (s + 1)) + 5 * (s + 1) ≡ 5 * ((i + 1) * (s + 1)) = omega (arith, row-end i s) in
-      let behind : drop (5 * ((i + 1) * (s + 1))) table ≡ drop (5 * ((i + 1) * (s + 1))) work =
-      ap (drop (5 * ((i + 1) * (s + 1)))) e ∙ ap (λ j. drop j (rows w s i ++ drop (5 * (i * (s + 1))) work)) k
-      ∙ drop-append-add (rows w s i) (drop (5 * (i * (s + 1))) work) (5 * (s + 1)) ∙ drop-drop (5 * (s + 1)) (5 * (i * (s + 1))) work ∙ ap (λ j. drop j work) m in
-      f ∙ ap (λ l. rows w s (i + 1) ++ l) behind
+  -- rows filled over those above them leave what is behind both
+  pub rows-over : {i j : ℕ} → i ≤ j → (work : List ℕ) {table next : List ℕ} → table ≡ rows w s i ++ drop (5 * (i * (s + 1))) work → next ≡ rows w s j ++ drop (5 * (j * (s + 1))) table
+      → next ≡ rows w s j ++ drop (5 * (j * (s + 1))) work
+  rows-over {i} {j} h work {table} e f =
+      let more = j * (s + 1) - i * (s + 1) in
+      let within = mul-le-mul-right (s + 1) h in
+      let k : 5 * (j * (s + 1)) ≡ length (rows w s i) + 5 * more = omega (arith, within, length-rows w s i) in
+      let m : 5 * (i * (s + 1)) + 5 * more ≡ 5 * (j * (s + 1)) = omega (arith, within) in
+      let behind : drop (5 * (j * (s + 1))) table ≡ drop (5 * (j * (s + 1))) work =
+      ap (drop (5 * (j * (s + 1)))) e ∙ ap (λ n. drop n (rows w s i ++ drop (5 * (i * (s + 1))) work)) k
+      ∙ drop-append-add (rows w s i) (drop (5 * (i * (s + 1))) work) (5 * more) ∙ drop-drop (5 * more) (5 * (i * (s + 1))) work ∙ ap (λ n. drop n work) m in
+      f ∙ ap (λ l. rows w s j ++ l) behind

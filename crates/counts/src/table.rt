@@ -10,6 +10,7 @@ ghost use Rattle.words.specs.Number.{toWords};
 ghost use Rattle.profile.specs.Checks.{InLimits};
 ghost use Rattle.counts.specs.Counts.{share, D, count};
 ghost use Rattle.counts.specs.Table.{rows, tableLength, withTable, countCauses, tableCauses, Counts};
+ghost use Rattle.counts.specs.Filling.{FillsPast};
 use super::cells::load;
 use super::cells::store;
 use profile::Profile;
@@ -38,18 +39,28 @@ fn first_cell(t: usize) -> [u32; 5]
     if t == 0 { [1, 0, 0, 0, 0] } else { [0; 5] }
 }
 
-// D(i, t), from the row above and the count before it, which is 0 at the row's start: the window of w shares moves on by
-// one, so one count comes in and one falls out.
+// Row 0, whatever the width.
+fn first_row(table: &mut [u32], sum: usize)
+    requires { ⌜ (sum ≤ 600) × (5 * (sum + 1) ≤ length (now table)) ⌝ }
+    ensures { λ _. ⌜ ((w : ℕ) → now (table .exit) ≡ rows w sum 1 ++ drop (5 * (1 * (sum + 1))) (now (table .entry))) ⌝ }
+{
+    let end = sum + 1;
+    let mut t = 0;
+    while t < end {
+        store(table, t, first_cell(t));
+        t += 1;
+    }
+}
+
+// D(i, t) below row 0, from the row above and the count before it, which is 0 at the row's start: the window of w shares
+// moves on by one, so one count comes in and one falls out.
 fn cell(table: &[u32], previous: Limbs, width: usize, sum: usize, i: usize, t: usize) -> Limbs
-    requires { ⌜ (1 ≤ width) × (width ≤ 16) × (i ≤ 40) × (t ≤ sum) × (sum ≤ 600) ⌝ }
+    requires { ⌜ (1 ≤ width) × (width ≤ 16) × (1 ≤ i) × (i ≤ 40) × (t ≤ sum) × (sum ≤ 600) ⌝ }
     requires { ⌜ take (5 * (i * (sum + 1))) (now table) ≡ rows width sum i ⌝ }
     requires { ⌜ 5 * (i * (sum + 1)) ≤ length (now table) ⌝ }
     requires { ⌜ number previous ≡ share (D width i) t 1 ⌝ }
     ensures { λ r. ⌜ number r ≡ D width i t ⌝ }
 {
-    if i == 0 {
-        return from_words(first_cell(t));
-    }
     let above = (i - 1) * (sum + 1) + t;
     let incoming = from_words(load(table, above));
     let grown = add(previous, incoming);
@@ -60,9 +71,9 @@ fn cell(table: &[u32], previous: Limbs, width: usize, sum: usize, i: usize, t: u
     subtract(grown, outgoing)
 }
 
-// Row i.
+// Row i, below row 0.
 fn fill_row(table: &mut [u32], width: usize, sum: usize, i: usize)
-    requires { ⌜ (1 ≤ width) × (width ≤ 16) × (i ≤ 40) × (sum ≤ 600) ⌝ }
+    requires { ⌜ (1 ≤ width) × (width ≤ 16) × (1 ≤ i) × (i ≤ 40) × (sum ≤ 600) ⌝ }
     requires { ⌜ take (5 * (i * (sum + 1))) (now table) ≡ rows width sum i ⌝ }
     requires { ⌜ 5 * ((i + 1) * (sum + 1)) ≤ length (now table) ⌝ }
     ensures { λ _. ⌜ now (table .exit) ≡ rows width sum (i + 1) ++ drop (5 * ((i + 1) * (sum + 1))) (now (table .entry)) ⌝ }
@@ -82,7 +93,8 @@ fn fill_rows(table: &mut [u32], chains: usize, width: usize, sum: usize)
     requires { ⌜ 5 * ((chains + 1) * (sum + 1)) ≤ length (now table) ⌝ }
     ensures { λ _. ⌜ now (table .exit) ≡ rows width sum (chains + 1) ++ drop (5 * ((chains + 1) * (sum + 1))) (now (table .entry)) ⌝ }
 {
-    let mut i = 0;
+    first_row(table, sum);
+    let mut i = 1;
     while i < chains + 1 {
         fill_row(table, width, sum, i);
         i += 1;
@@ -90,7 +102,7 @@ fn fill_rows(table: &mut [u32], chains: usize, width: usize, sum: usize)
 }
 
 // Fills the work slice with the table of a shape, and gives the count, its last number.
-pub fn fill(p: Shape, table: &mut [u32]) -> [u32; 5]
+fn fill(p: Shape, table: &mut [u32]) -> [u32; 5]
     requires { ⌜ InLimits p ⌝ }
     requires { ⌜ tableLength p ≤ length (now table) ⌝ }
     ensures { λ r. ⌜ (r ≡ toWords 5 (count p)) × (now (table .exit) ≡ withTable p (now (table .entry))) ⌝ }
@@ -100,6 +112,18 @@ pub fn fill(p: Shape, table: &mut [u32]) -> [u32; 5]
     let sum = p.sum as usize;
     fill_rows(table, chains, width, sum);
     load(table, chains * (sum + 1) + sum)
+}
+
+// Past the causes that gave an outcome: granted, fills the work slice with the table and gives the count; refused, leaves
+// the slice as it is and gives zero.
+pub fn fill_past(early: Outcome, p: Shape, table: &mut [u32]) -> [u32; 5]
+    requires { ⌜ (outcomeCode early ≡ 0 → InLimits p × (tableLength p ≤ length (now table))) ⌝ }
+    ensures { λ r. ⌜ FillsPast (outcomeCode early) p (now (table .entry)) (now (table .exit)) r ⌝ }
+{
+    match early {
+        Outcome::Refused(_) => [0; 5],
+        Outcome::Granted => fill(p, table),
+    }
 }
 
 // Whether so many words are too few for the table of a shape, which may be any: the product of its sizes needs not fit.
@@ -135,14 +159,8 @@ pub fn codeword_count(p: Shape, table: &mut [u32]) -> Counted
     ensures { λ r. ⌜ Counts p (now (table .entry)) (now (table .exit)) r ⌝ }
 {
     let outcome = count_outcome(p, table.len());
-    match outcome {
-        Outcome::Refused(_) => Counted {
-            outcome: outcome,
-            count: [0; 5],
-        },
-        Outcome::Granted => Counted {
-            outcome: outcome,
-            count: fill(p, table),
-        },
+    Counted {
+        outcome: outcome,
+        count: fill_past(outcome, p, table),
     }
 }

@@ -1,12 +1,12 @@
 -- Causes in order: those behind others count where none of these holds, and `then` goes from one to the next.
 use mathlib.Core.Path.{_≡_, refl, _∙_, ap, sym}
-use mathlib.Core.Bool.{Bool, true, false, cond}
+use mathlib.Core.Bool.{Bool, true, false, not, cond, true≢false}
 use mathlib.Core.List.{List, [], _∷_, _++_, append-assoc, append-nil}
-use Prim.Native.Nat.{ℕ, zero, suc, _<_}
+use Prim.Native.Nat.{ℕ, zero, suc, _<_, _≤_}
 use native.Mathlib.Omega.{arith}
-use borrow.Author.Tests.{eqb-true, eqb-false, ne-eqb}
+use borrow.Author.Tests.{eqb-true, eqb-false, ne-eqb, not-false}
 use lib.Dec.{eqb}
-use Rattle.refusal.specs.Code.{code, outcomeCode, firstCause, thenCode}
+use Rattle.refusal.specs.Code.{code, outcomeCode, firstCause, thenFirst, thenCode}
 use Rattle.refusal.specs.declared.Refusal.{Refusal}
 use Rattle.refusal.specs.declared.Outcome.{Outcome}
 use Rattle.refusal.specs.declared.Outcome.the-variants.{Granted, Refused}
@@ -49,6 +49,25 @@ first-avoids kind (cause ∷ more) p h = by (cause .0) (cause .1) (p .0) h (firs
         → kind (firstCause ((test, n) ∷ more)) ≡ false
     by true n here some rest = here
     by false n here some rest = rest some
+
+-- causes none of which is of a kind, and then causes that all are, as 0 is: the first that holds is of the kind exactly where none of the former holds
+pub kind-then : (kind : ℕ → Bool) (first more : List (Bool × ℕ)) → kind 0 ≡ true → Avoids kind first → Avoids (λ n. not (kind n)) more
+    → kind (firstCause (first ++ more)) ≡ eqb (firstCause first) 0
+kind-then kind [] [] none p q = none
+kind-then kind [] (cause ∷ more) none p q = by (cause .0) (not-false (kind (cause .1)) (q .0)) (kind-then kind [] more none tt (q .1))
+  where
+    by : (test : Bool) → kind (cause .1) ≡ true → kind (firstCause more) ≡ true → kind (firstCause ((test, cause .1) ∷ more)) ≡ true
+    by true here rest = here
+    by false here rest = rest
+kind-then kind (cause ∷ first) more none p q = by (cause .0) (kind-then kind first more none (p .1) q)
+  where
+    other : cause .1 ≡ 0 → ⊥
+    other e = true≢false (sym none ∙ rw e at (p .0))
+
+    by : (test : Bool) → kind (firstCause (first ++ more)) ≡ eqb (firstCause first) 0
+        → kind (firstCause ((test, cause .1) ∷ (first ++ more))) ≡ eqb (firstCause ((test, cause .1) ∷ first)) 0
+    by true rest = p .0 ∙ sym (ne-eqb (cause .1) 0 other)
+    by false rest = rest
 
 -- a cause that does not hold is passed over
 pub cause-passed : (test : Bool) (n : ℕ) (more : List (Bool × ℕ)) → test ≡ false → firstCause ((test, n) ∷ more) ≡ firstCause more
@@ -121,6 +140,22 @@ module _ (first more : List (Bool × ℕ)) (o : Outcome) (e : outcomeCode o ≡ 
   pub granted-none : o ≡ Granted → firstCause first ≡ 0
   granted-none q = sym e ∙ ap outcomeCode q
 
+-- the code so far, or that of more causes where it is 0
+pub code-then : (first more : List (Bool × ℕ)) {n : ℕ} → Numbered first → n ≡ firstCause first → thenFirst n more ≡ firstCause (first ++ more)
+code-then first more {n} p e = by (eqb n 0) refl
+  where
+    by : (none : Bool) → eqb n 0 ≡ none → cond none (firstCause more) n ≡ firstCause (first ++ more)
+    by true z = sym (none-then first more (sym e ∙ eqb-true n 0 z) p)
+    by false z = let some : n ≡ 0 → ⊥ = eqb-false n 0 z in e ∙ sym (some-then first more (not-zero (firstCause first) (λ q. some (e ∙ q))))
+
+-- more causes only add to what is refused
+pub code-kept : {n m : ℕ} (more : List (Bool × ℕ)) → m ≡ thenFirst n more → n ≤ m
+code-kept {n} {m} more e = by (eqb n 0) refl e
+  where
+    by : (none : Bool) → eqb n 0 ≡ none → m ≡ cond none (firstCause more) n → n ≤ m
+    by true z q = omega (arith, eqb-true n 0 z)
+    by false z q = omega arith
+
 -- a chain of `then`: n is the code of the first causes, of which something else gave the outcome, and of the chain's own behind them
 pub record Chain (first own : List (Bool × ℕ)) (n : ℕ) : Type 0 where
   pub numbered : Numbered (first ++ own)
@@ -129,21 +164,36 @@ pub record Chain (first own : List (Bool × ℕ)) (n : ℕ) : Type 0 where
 pub chain-begins : (first : List (Bool × ℕ)) {n : ℕ} → Numbered first → n ≡ firstCause first → Chain first [] n
 chain-begins first p e = record { numbered = rw append-nil p; answer = rw append-nil e }
 
--- the code so far, or that of more causes where it is 0
-code-then : (first more : List (Bool × ℕ)) (n : ℕ) → Numbered first → n ≡ firstCause first → cond (eqb n 0) (firstCause more) n ≡ firstCause (first ++ more)
-code-then first more n p e = by (eqb n 0) refl
-  where
-    by : (none : Bool) → eqb n 0 ≡ none → cond none (firstCause more) n ≡ firstCause (first ++ more)
-    by true z = sym (none-then first more (sym e ∙ eqb-true n 0 z) p)
-    by false z = let some : n ≡ 0 → ⊥ = eqb-false n 0 z in e ∙ sym (some-then first more (not-zero (firstCause first) (λ q. some (e ∙ q))))
+-- a code that something gave is that of some causes: of none, or of one that holds
+abbrev pub standing : ℕ → List (Bool × ℕ)
+standing zero = []
+standing (suc n) = (true, suc n) ∷ []
 
--- one cause more, whose test means what it is to mean
-pub chain-next : {first own : List (Bool × ℕ)} {n m : ℕ} {test meant : Bool} (k : ℕ) → eqb k 0 ≡ false → Chain first own n → test ≡ meant → m ≡ thenCode n test k
+-- a chain behind any code, and what its last code is
+pub chain-behind : (n : ℕ) → Chain (standing n) [] n
+chain-behind zero = chain-begins [] tt refl
+chain-behind (suc n) = chain-begins (standing (suc n)) (ne-eqb (suc n) 0 (λ z. omega arith), tt) refl
+
+pub chain-ends : (n : ℕ) {m : ℕ} {own : List (Bool × ℕ)} → Chain (standing n) own m → m ≡ thenFirst n own
+chain-ends zero chain = chain .answer
+chain-ends (suc n) chain = rw (ne-eqb (suc n) 0 (λ z. omega arith)) (chain .answer)
+
+-- one cause more, whose test means what it is to mean where none before it holds
+pub chain-then : {first own : List (Bool × ℕ)} {n m : ℕ} {test meant : Bool} (k : ℕ) → eqb k 0 ≡ false → Chain first own n → (n ≡ 0 → test ≡ meant) → m ≡ thenCode n test k
     → Chain first (own ++ ((meant, k) ∷ [])) m
-chain-next {first} {own} {n} {m} {test} {meant} k positive chain means e =
+chain-then {first} {own} {n} {m} {test} {meant} k positive chain means e =
     let last : List (Bool × ℕ) = (meant, k) ∷ [] in
     let apart = append-assoc first own last in
     record {
       numbered = rw (← apart) (without-append 0 (first ++ own) last (chain .numbered) (positive, tt));
-      answer = e ∙ rw (means, ← apart) (code-then (first ++ own) last n (chain .numbered) (chain .answer));
+      answer = e ∙ by (eqb n 0) refl ∙ rw (← apart) (code-then (first ++ own) last (chain .numbered) (chain .answer));
     }
+  where
+    by : (none : Bool) → eqb n 0 ≡ none → cond none (cond test k 0) n ≡ cond none (cond meant k 0) n
+    by true z = rw (means (eqb-true n 0 z))
+    by false z = refl
+
+-- the same where the test always means it
+pub chain-next : {first own : List (Bool × ℕ)} {n m : ℕ} {test meant : Bool} (k : ℕ) → eqb k 0 ≡ false → Chain first own n → test ≡ meant → m ≡ thenCode n test k
+    → Chain first (own ++ ((meant, k) ∷ [])) m
+chain-next k positive chain means e = chain-then k positive chain (λ none. means) e

@@ -53,6 +53,10 @@ abbrev pub firstCause : List (Bool × ℕ) → ℕ
 firstCause [] = 0
 firstCause (cause ∷ more) = cond (cause .0) (cause .1) (firstCause more)
 
--- one cause after another: the code so far, or where that is 0 the next cause's, if its test holds
+-- causes behind others: the code so far, or where that is 0 that of the first of them that holds
+abbrev pub thenFirst : (so-far : ℕ) → List (Bool × ℕ) → ℕ
+thenFirst so-far causes = cond (eqb so-far 0) (firstCause causes) so-far
+
+-- one cause after another
 abbrev pub thenCode : (so-far : ℕ) → (holds : Bool) → (next : ℕ) → ℕ
-thenCode so-far holds next = cond (eqb so-far 0) (cond holds next 0) so-far
+thenCode so-far holds next = thenFirst so-far ((holds, next) ∷ [])

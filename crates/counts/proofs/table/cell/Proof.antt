@@ -14,40 +14,32 @@ use Rattle.counts.proofs.NextCell.{row-start, row-small, above, grown-f
 use Rattle.counts.proofs.table.cell.Statement.{statement}
 use Rattle.counts.proofs.table.cell.Tie as tie
 
--- a row below the first
-abbrev start : tie.Else1 → tie.Start
-start c = c .before .before
+abbrev start : tie.After-shared-slice-known → tie.Start
+start c = c .before
 
-some : (c : tie.Else1) → 0 < start c .args .i
-some c = omega arith
+-- the row above
+some : (c : tie.After-shared-slice-known) → 0 < start c .args .i
+some c = start c .pre .0 .2
 
-step : (c : tie.Else1) → start c .args .i * (start c .args .sum + 1) ≡ (start c .args .i - 1) * (start c .args .sum + 1) + (start c .args .sum + 1)
+step : (c : tie.After-shared-slice-known) → start c .args .i * (start c .args .sum + 1) ≡ (start c .args .i - 1) * (start c .args .sum + 1) + (start c .args .sum + 1)
 step c = row-start (start c .args .i) (start c .args .sum) (some c)
 
-small : (c : tie.Else1) → (start c .args .i - 1) * (start c .args .sum + 1) ≤ 24641
+small : (c : tie.After-shared-slice-known) → (start c .args .i - 1) * (start c .args .sum + 1) ≤ 24641
 small c = row-small (start c .args .i - 1) (start c .args .sum) (omega (arith, start c .pre .0)) (omega (arith, start c .pre .0))
 
 -- a number of the row above
-above-is : (c : tie.Else1) (u : ℕ) → u ≤ start c .args .sum
+above-is : (c : tie.After-shared-slice-known) (u : ℕ) → u ≤ start c .args .sum
     → value (take 5 (drop (5 * ((start c .args .i - 1) * (start c .args .sum + 1) + u)) (now (start c .args .table)))) ≡ D (start c .args .width) (start c .args .i - 1) u
 above-is c u h =
     let a = start c .args in
     let limits = start c .pre .0 in
-    above (a .width) (a .i) (a .t) (limits .0) (limits .1) (some c) (limits .2) (a .sum) u (now (a .table)) (start c .pre .1 .0) h
+    above (a .width) (a .i) (a .t) (limits .0) (limits .1) (some c) (limits .3) (a .sum) u (now (a .table)) (start c .pre .1 .0) h
 
 -- the number that comes into the window
-up-is : (c : tie.After-from-words2) → number (c .from-words2 .result) ≡ D (start (c .before .before) .args .width) (start (c .before .before) .args .i - 1) (start (c .before .before) .args .t)
+up-is : (c : tie.After-from-words) → number (c .from-words .result) ≡ D (start (c .before .before) .args .width) (start (c .before .before) .args .i - 1) (start (c .before .before) .args .t)
 up-is c =
     let at-row = c .before .before in
-    c .from-words2 .ensures ∙ ap value (c .before .load .ensures) ∙ above-is at-row (start at-row .args .t) (start at-row .pre .0 .3)
-
-returns : tie.Need-returns
-returns c =
-    let first = c .before .before in
-    let a = first .before .before .args in
-    let limits = first .before .before .pre .0 in
-    let exact = value-toWords-5 (D (a .width) 0 (a .t)) (D-small (a .width) 0 (a .t) (limits .0) (limits .1) zero-le) in
-    rw (first .if1 .taken) (c .from-words .ensures ∙ ap value (c .before .first-cell .ensures (a .width)) ∙ exact)
+    c .from-words .ensures ∙ ap value (c .before .load .ensures) ∙ above-is at-row (start at-row .args .t) (start at-row .pre .0 .4)
 
 mul-above : tie.Need-mul-above
 mul-above c = omega (arith, small c)
@@ -63,29 +55,29 @@ add-requires c κs =
     let at-row = c .before .before in
     let a = start at-row .args in
     let limits = start at-row .pre .0 in
-    grown-fits (a .width) (a .i) (a .t) (limits .0) (limits .1) (some at-row) (limits .2) _ _ (start at-row .pre .1 .1 .1) (up-is c)
+    grown-fits (a .width) (a .i) (a .t) (limits .0) (limits .1) (some at-row) (limits .3) _ _ (start at-row .pre .1 .1 .1) (up-is c)
 
-returns-2 : tie.Need-returns-2
-returns-2 c =
+returns : tie.Need-returns
+returns c =
     let added = c .before in
     let at-row = added .before .before .before in
     let a = start at-row .args in
     let limits = start at-row .pre .0 in
-    grown (a .width) (a .i) (a .t) (limits .0) (limits .1) (some at-row) (limits .2) _ _ (start at-row .pre .1 .1 .1) (up-is (added .before)) _ (c .if2 .taken) (added .add .ensures)
+    grown (a .width) (a .i) (a .t) (limits .0) (limits .1) (some at-row) (limits .3) _ _ (start at-row .pre .1 .1 .1) (up-is (added .before)) _ (c .if1 .taken) (added .add .ensures)
 
 load-requires-2 : tie.Need-load-requires-2
 load-requires-2 c κs = omega (arith, step (c .before .before .before .before))
 
 -- the number that falls out of the window
-out-is : (c : tie.After-from-words3)
-    → number (c .from-words3 .result)
+out-is : (c : tie.After-from-words2)
+    → number (c .from-words2 .result)
     ≡ D (start (c .before .before .before .before .before .before) .args .width) (start (c .before .before .before .before .before .before) .args .i - 1)
     (start (c .before .before .before .before .before .before) .args .t - start (c .before .before .before .before .before .before) .args .width)
 out-is c =
     let at-row = c .before .before .before .before .before .before in
     let a = start at-row .args in
     let place : (a .i - 1) * (a .sum + 1) + a .t - a .width ≡ (a .i - 1) * (a .sum + 1) + (a .t - a .width) = omega arith in
-    c .from-words3 .ensures ∙ ap value (c .before .load2 .ensures ∙ ap (λ k. take 5 (drop (5 * k) (now (a .table)))) place) ∙ above-is at-row (a .t - a .width) (omega arith)
+    c .from-words2 .ensures ∙ ap value (c .before .load2 .ensures ∙ ap (λ k. take 5 (drop (5 * k) (now (a .table)))) place) ∙ above-is at-row (a .t - a .width) (omega arith)
 
 subtract-requires : tie.Need-subtract-requires
 subtract-requires c κs =
@@ -93,31 +85,29 @@ subtract-requires c κs =
     let at-row = added .before .before .before in
     let a = start at-row .args in
     let limits = start at-row .pre .0 in
-    out-within (a .width) (a .i) (a .t) (limits .0) (limits .1) (some at-row) (limits .2) _ _ (start at-row .pre .1 .1 .1) (up-is (added .before)) _ _ (c .before .before .if2 .left) (out-is c) (added .add .ensures)
+    out-within (a .width) (a .i) (a .t) (limits .0) (limits .1) (some at-row) (limits .3) _ _ (start at-row .pre .1 .1 .1) (up-is (added .before)) _ _ (c .before .before .if1 .left) (out-is c) (added .add .ensures)
 
-returns-3 : tie.Need-returns-3
-returns-3 c =
+returns-2 : tie.Need-returns-2
+returns-2 c =
     let added = c .before .before .before .before in
     let at-row = added .before .before .before in
     let a = start at-row .args in
     let limits = start at-row .pre .0 in
-    shrunk (a .width) (a .i) (a .t) (limits .0) (limits .1) (some at-row) (limits .2) _ _ (start at-row .pre .1 .1 .1) (up-is (added .before)) _ _ (c .before .before .before .if2 .left) (out-is (c .before)) (added .add .ensures) _ (c .subtract .ensures)
+    shrunk (a .width) (a .i) (a .t) (limits .0) (limits .1) (some at-row) (limits .3) _ _ (start at-row .pre .1 .1 .1) (up-is (added .before)) _ _ (c .before .before .before .if1 .left) (out-is (c .before)) (added .add .ensures) _ (c .subtract .ensures)
 
 pub cell-spec : {M : Type 1} → statement M
 cell-spec =
     tie.close
     (tie.spec
-    (λ c κs. search needs) (λ c κs. search needs)
-    returns
     (λ c. search needs) (λ c. search needs)
     mul-above
     add-above-2
     load-requires
     (λ c κs. search needs)
     add-requires
-    returns-2
+    returns
     (λ c. search needs)
     load-requires-2
     (λ c κs. search needs)
     subtract-requires
-    returns-3)
+    returns-2)

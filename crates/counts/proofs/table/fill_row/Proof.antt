@@ -36,7 +36,7 @@ cell-requires c κs =
     let start = at-loop .before .before .before in
     let a = start .args in
     let limits = start .pre .0 in
-    ((limits .0, limits .1, limits .2, omega arith, limits .3), (above-cell (a .width) (a .sum) (a .i) (at-loop .loop .t) _ _ (at-loop .loop .inv .2), (omega (arith, row-end (a .i) (a .sum), start .pre .1 .1), at-loop .loop .inv .3)))
+    ((limits .0, limits .1, limits .2, limits .3, omega arith, limits .4), (above-cell (a .width) (a .sum) (a .i) (at-loop .loop .t) _ _ (at-loop .loop .inv .2), (omega (arith, row-end (a .i) (a .sum), start .pre .1 .1), at-loop .loop .inv .3)))
 
 mul-store : tie.Need-mul-store Inv-loop μ-loop
 mul-store c = let a = c .before .before .before .before .before .before .before in omega (arith, row-small (a .args .i) (a .args .sum) (omega (arith, a .pre .0)) (omega (arith, a .pre .0)))
