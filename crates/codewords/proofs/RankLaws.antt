@@ -1,6 +1,6 @@
 -- Gather: the number of a row, place by place, what the causes tell of the row, and what is answered.
 use mathlib.Core.Path.{_≡_, refl, sym, ap, _∙_}
-use mathlib.Core.Bool.{Bool, true, false, not, _||_, true≢false}
+use mathlib.Core.Bool.{Bool, true, false, not, _||_, cond, true≢false}
 use mathlib.Core.List.{List, [], _∷_, _++_}
 use Prim.Native.Nat.{ℕ, zero, suc, _+_, _-_, _*_, _^_, _<_, _≤_}
 use native.Mathlib.Nat.{le-of-suc-le-suc, lt-of-le-of-lt, lt-trans, le-refl}
@@ -10,23 +10,23 @@ use borrow.Author.Tests.{le-leb, lt-leb, leb-false, eqb-true, eqb-false, eq-eqb,
 use lib.Dec.{leb, eqb}
 use lib.ListN.{length, getD, take, drop, length-drop, drop-of-length-le}
 use lib.Seq.{drop-cons}
-use Rattle.refusal.specs.Code.{outcomeCode, firstCause}
+use Rattle.refusal.specs.Code.{outcomeCode, firstCause, thenFirst}
 use Rattle.refusal.specs.declared.Refusal.{Refusal}
 use Rattle.refusal.specs.declared.Outcome.{Outcome}
 use Rattle.refusal.specs.declared.Outcome.the-variants.{Granted, Refused}
-use Rattle.refusal.proofs.Causes.{Avoids, avoids-append, none-here, none-of-append, granted-none, refused-number}
+use Rattle.refusal.proofs.Causes.{Avoids, none-here, refused-number, code-kept}
 use Rattle.words.specs.Number.{value, toWords}
 use Rattle.words.proofs.NumberLaws.{value-toWords-5}
 use Rattle.profile.specs.declared.Shape.{Shape}
 use Rattle.counts.specs.Counts.{sumTo, share, D}
-use Rattle.counts.specs.Table.{rows, withTable, countCauses, leavesTable}
+use Rattle.counts.specs.Table.{rows, withTable, countCauses, leavesTable, tableAfter}
 use Rattle.counts.proofs.CountLaws.{sumTo-cong, sumTo-mono, share-low, D-small}
-use Rattle.counts.proofs.Answer.{table-kept, table-left}
-use Rattle.counts.proofs.Room.{count-early, count-numbered}
+use Rattle.counts.proofs.Room.{count-early}
 use Rattle.counts.proofs.TableLaws.{cell-of}
 use Rattle.codewords.specs.Codeword.{rank, total, IsCodeword}
 use Rattle.codewords.specs.Operations.{numberOf, someAbove, rowCauses, rankCode, Ranks}
 use Rattle.codewords.proofs.CodewordLaws.{Front, front, rank-lt}
+use Rattle.codewords.proofs.TableOperation.{early-code, none-before, table-after}
 
 -- the lengths from a place on, the first of them apart
 module _ (row : List ℕ) (i : ℕ) (inside : i < length row) where
@@ -211,28 +211,42 @@ module _ (p : Shape) (row : List ℕ) where
       let below = all-below (p .width) row (λ c l. h .digits c (rw (h .chains) at l)) in
       rw (eq-eqb (length row) (p .chains) (h .chains), below, eq-eqb (total row) (p .sum) (h .sum))
 
--- what Gather answers, refused and granted
-module _ (p : Shape) (row work : List ℕ) (o : Outcome) (e : outcomeCode o ≡ firstCause (countCauses p (length work) ++ rowCauses p row)) where
-  rank-early : Avoids leavesTable (countCauses p (length work) ++ rowCauses p row)
-  rank-early = avoids-append leavesTable (countCauses p (length work)) (rowCauses p row) (count-early p (length work)) (refl, (refl, (refl, tt)))
+-- what Gather answers: the causes of Count, then those of the row, and the table past both
+module _ (p : Shape) (row work : List ℕ) {n m : ℕ} (counted : n ≡ firstCause (countCauses p (length work))) (e : m ≡ thenFirst n (rowCauses p row)) where
+  abbrev first : List (Bool × ℕ)
+  first = countCauses p (length work)
 
-  pub rank-refused : (r : Refusal) → o ≡ Refused r → Ranks p row work work (record { outcome = o; number = 0 ∷ 0 ∷ 0 ∷ 0 ∷ 0 ∷ [] })
-  unfolding rankCode toWords
-  rank-refused r q =
-      record {
-        code = e;
-        ranked = rw (refused-number o (rankCode p row work) r e q);
-        table = table-kept p work (countCauses p (length work) ++ rowCauses p row) o rank-early e e r q;
-      }
+  abbrev own : List (Bool × ℕ)
+  own = rowCauses p row
+
+  abbrev early : Avoids leavesTable first
+  early = count-early p (length work)
+
+  abbrev between : Avoids leavesTable (rowCauses p row)
+  between = (refl, (refl, (refl, tt)))
+
+  code : m ≡ firstCause (first ++ own)
+  code = early-code first own early between counted e
+
+  -- what Count refuses is refused
+  pub rank-kept : n ≤ m
+  rank-kept = code-kept n m own e
 
   -- nothing is refused: neither the table nor the row
-  pub rank-none : o ≡ Granted → (firstCause (countCauses p (length work)) ≡ 0) × (firstCause (rowCauses p row) ≡ 0)
-  rank-none q =
-      none-of-append (countCauses p (length work)) (rowCauses p row) (count-numbered p (length work))
-      (granted-none (countCauses p (length work) ++ rowCauses p row) [] o e q)
+  pub rank-none : m ≡ 0 → (firstCause (countCauses p (length work)) ≡ 0) × (firstCause (rowCauses p row) ≡ 0)
+  rank-none = none-before first own early between code
 
-  pub rank-granted : (left n : List ℕ) → o ≡ Granted → left ≡ withTable p work → n ≡ toWords 5 (numberOf p row) → Ranks p row work left (record { outcome = o; number = n })
-  unfolding rankCode
-  rank-granted left n q filled ranked =
-      let none = granted-none (countCauses p (length work) ++ rowCauses p row) [] o e q in
-      record { code = e; ranked = rw none ranked; table = table-left p work 0 none refl filled }
+  module _ {left : List ℕ} (filled : left ≡ cond (eqb m 0) (withTable p work) work) where
+    table-left : left ≡ tableAfter (rankCode p row work) p work
+    unfolding rankCode
+    table-left = table-after first own early between code [] tt refl p work filled
+
+    -- o is the answer's outcome, and what it gave
+    module _ {o : Outcome} (q : outcomeCode o ≡ m) where
+      pub rank-refused : {r : Refusal} → o ≡ Refused r → Ranks p row work left (record { outcome = o; number = 0 ∷ 0 ∷ 0 ∷ 0 ∷ 0 ∷ [] })
+      unfolding rankCode toWords
+      rank-refused {r} refused = record { code = q ∙ code; ranked = rw (refused-number o (rankCode p row work) r (q ∙ code) refused); table = table-left }
+
+      pub rank-granted : {k : List ℕ} → o ≡ Granted → k ≡ toWords 5 (numberOf p row) → Ranks p row work left (record { outcome = o; number = k })
+      unfolding rankCode
+      rank-granted granted ranked = let none : rankCode p row work ≡ 0 = sym code ∙ sym q ∙ ap outcomeCode granted in record { code = q ∙ code; ranked = rw none ranked; table = table-left }

@@ -1,28 +1,21 @@
--- An operation over the table: causes that are looked at first, then the table is filled, then 7, then what is left. What each way out answers and leaves.
-use mathlib.Core.Path.{_≡_, refl, _∙_, ap, sym}
-use mathlib.Core.Bool.{Bool, true, false, _||_, true≢false}
-use mathlib.Core.List.{List, [], _∷_, _++_, append-assoc}
-use Prim.Native.Nat.{ℕ, _<_, _≤_}
-use borrow.Author.Tests.{le-leb, lt-leb}
-use lib.Dec.{leb, eqb}
-use Rattle.refusal.specs.Code.{outcomeCode, firstCause}
-use Rattle.refusal.specs.declared.Refusal.{Refusal}
-use Rattle.refusal.specs.declared.Refusal.the-variants.{NumberTooLarge}
-use Rattle.refusal.specs.declared.Outcome.{Outcome}
-use Rattle.refusal.specs.declared.Outcome.the-variants.{Granted, Refused}
-use Rattle.refusal.proofs.Causes.{Avoids, Numbered, avoids-append, avoids-other, cause-passed, none-then, none-of-append, refused-then, refused-avoids, granted-none}
+-- An operation over the table: causes that are looked at first, then the table is filled past them, then 7 and what is left. What each way out answers and leaves.
+use mathlib.Core.Path.{_≡_, _∙_, ap, sym}
+use mathlib.Core.Bool.{Bool, true, false, _||_, not, cond, true≢false}
+use mathlib.Core.List.{List, _++_, append-assoc}
+use Prim.Native.Nat.{ℕ}
+use lib.Dec.{eqb}
+use Rattle.refusal.specs.Code.{firstCause, thenFirst}
+use Rattle.refusal.proofs.Causes.{Avoids, Numbered, avoids-append, avoids-other, none-of-append, code-then}
 use Rattle.profile.specs.declared.Shape.{Shape}
-use Rattle.counts.specs.Counts.{count}
 use Rattle.counts.specs.Table.{withTable, leavesTable, tableAfter}
-use Rattle.counts.proofs.Answer.{table-kept, table-left}
+use Rattle.counts.proofs.Answer.{leaves-past, table-past}
 use Rattle.counts.proofs.Room.{not-granted}
 
--- refused before the chains: by the code, which is neither 0 nor 15, and the work slice is as that code leaves it
-pub record Refuses (code : ℕ) (p : Shape) (work work′ : List ℕ) (o : Outcome) : Type 0 where
-  pub answer : outcomeCode o ≡ code
+-- refused before the table by the code n: it is that of the answer, and neither 0 nor 15
+pub record Refuses (n code : ℕ) : Type 0 where
+  pub answer : n ≡ code
   pub some : eqb code 0 ≡ false
   pub not-fifteen : eqb code 15 ≡ false
-  pub table : work′ ≡ tableAfter code p work
 
 -- a code that leaves no table is not 15
 not-fifteen : (n : ℕ) → leavesTable n ≡ false → eqb n 15 ≡ false
@@ -33,41 +26,38 @@ not-fifteen n e = by (eqb n 0) (eqb n 7) e
     by false true e = absurd (true≢false e)
     by false false e = e
 
--- the causes before the table, the operation's own behind those of the profile or of Count, and what they gave
-module _ (p : Shape) (work : List ℕ) (first own : List (Bool × ℕ)) (early : Avoids leavesTable first) (between : Avoids leavesTable own)
-    (o : Outcome) (e : outcomeCode o ≡ firstCause (first ++ own)) where
-  first-numbered : Numbered first
-  first-numbered = avoids-other leavesTable (λ n. eqb n 0) first not-granted early
+numbered : (causes : List (Bool × ℕ)) → Avoids leavesTable causes → Numbered causes
+numbered causes avoids = avoids-other leavesTable (λ k. eqb k 0) causes not-granted avoids
 
-  -- granted so far, none of them holds
-  pub none-before : o ≡ Granted → (firstCause first ≡ 0) × (firstCause own ≡ 0)
-  none-before q = none-of-append first own first-numbered (granted-none (first ++ own) [] o e q)
+-- the causes before the table, the operation's own behind those of the profile or of Count: none of them leaves it
+module _ (first own : List (Bool × ℕ)) (early : Avoids leavesTable first) (between : Avoids leavesTable own) where
+  both : Avoids leavesTable (first ++ own)
+  both = avoids-append leavesTable first own early between
 
-  -- then 7, and what is left
-  module _ (n : ℕ) (more : List (Bool × ℕ)) (code : ℕ) (causes : code ≡ firstCause (first ++ (own ++ ((leb (count p) n, 7) ∷ more)))) where
-    split : code ≡ firstCause ((first ++ own) ++ ((leb (count p) n, 7) ∷ more))
-    split = causes ∙ ap firstCause (sym (append-assoc first own ((leb (count p) n, 7) ∷ more)))
+  -- their code
+  pub early-code : {n m : ℕ} → n ≡ firstCause first → m ≡ thenFirst n own → m ≡ firstCause (first ++ own)
+  early-code e q = q ∙ code-then first own (numbered first early) e
 
-    -- refused before the table is filled
-    pub refused-before : (r : Refusal) → o ≡ Refused r → Refuses code p work work o
-    refused-before r q =
-        let avoids = avoids-append leavesTable first own early between in
-        let answer : outcomeCode o ≡ code = refused-then (first ++ own) ((leb (count p) n, 7) ∷ more) o e r q ∙ sym split in
-        let leaves : leavesTable code ≡ false = rw answer at (refused-avoids leavesTable (first ++ own) o avoids e r q) in
-        record { answer = answer; some = not-granted code leaves; not-fifteen = not-fifteen code leaves; table = table-kept p work (first ++ own) o avoids e answer r q }
+  module _ {n : ℕ} (e : n ≡ firstCause (first ++ own)) where
+    -- granted so far, none of them holds
+    pub none-before : n ≡ 0 → (firstCause first ≡ 0) × (firstCause own ≡ 0)
+    none-before q = none-of-append first own (numbered first early) (sym e ∙ q)
 
-    -- granted so far
-    module _ (q : o ≡ Granted) where
-      left-over : code ≡ firstCause ((leb (count p) n, 7) ∷ more)
-      left-over =
-          let none = none-before q in
-          causes ∙ none-then first (own ++ ((leb (count p) n, 7) ∷ more)) (none .0) first-numbered
-          ∙ none-then own ((leb (count p) n, 7) ∷ more) (none .1) (avoids-other leavesTable (λ k. eqb k 0) own not-granted between)
+    -- the causes behind the table, which all leave it
+    module _ (after : List (Bool × ℕ)) (late : Avoids (λ k. not (leavesTable k)) after) {code : ℕ} (causes : code ≡ firstCause (first ++ (own ++ after))) where
+      split : code ≡ firstCause ((first ++ own) ++ after)
+      split = causes ∙ ap firstCause (sym (append-assoc first own after))
 
-      pub refused-by-seven : count p ≤ n → {left : List ℕ} → left ≡ withTable p work → Refuses code p work left (Refused NumberTooLarge)
-      refused-by-seven h filled =
-          let seven : code ≡ 7 = left-over ∙ rw (le-leb (count p) n h) in
-          record { answer = sym seven; some = rw seven; not-fifteen = rw seven; table = table-left p work 7 seven refl filled }
+      pub answer-after : thenFirst n after ≡ code
+      answer-after = code-then (first ++ own) after (numbered (first ++ own) both) e ∙ sym split
 
-      pub past-seven : n < count p → code ≡ firstCause more
-      past-seven h = left-over ∙ cause-passed (leb (count p) n) 7 more (lt-leb (count p) n h)
+      pub table-after : (p : Shape) (work : List ℕ) {left : List ℕ} → left ≡ cond (eqb n 0) (withTable p work) work → left ≡ tableAfter code p work
+      table-after = table-past (first ++ own) after both late e split
+
+      pub refused-before : eqb n 0 ≡ false → Refuses n code
+      refused-before some =
+          let leaves : leavesTable code ≡ false = leaves-past (first ++ own) after both late e split ∙ some in
+          record { answer = rw some at answer-after; some = not-granted code leaves; not-fifteen = not-fifteen code leaves }
+
+      pub granted-before : n ≡ 0 → code ≡ firstCause after
+      granted-before none = sym (rw none at answer-after)

@@ -1,60 +1,76 @@
--- What Spread answers and leaves: refused before the table, refused by 7, and granted.
-use mathlib.Core.Path.{_≡_, refl, sym}
-use mathlib.Core.Bool.{Bool}
+-- What Spread answers and leaves, once the table is filled past the causes before 7.
+use mathlib.Core.Path.{_≡_, refl, _∙_, ap, sym}
+use mathlib.Core.Bool.{Bool, true, false, not}
 use mathlib.Core.List.{List, [], _∷_, _++_}
 use Prim.Native.Nat.{ℕ, _<_, _≤_}
-use borrow.Author.Tests.{ltb-false}
-use lib.Dec.{ltb}
-use lib.ListN.{length, drop}
-use Rattle.refusal.specs.Code.{outcomeCode, firstCause}
-use Rattle.refusal.specs.declared.Refusal.{Refusal}
-use Rattle.refusal.specs.declared.Refusal.the-variants.{NumberTooLarge}
+use native.Mathlib.Omega.{arith}
+use borrow.Author.Tests.{ltb-true, ltb-false, leb-false, le-leb, lt-leb}
+use lib.Dec.{ltb, leb}
+use lib.ListN.{length}
+use Rattle.refusal.specs.Code.{firstCause, thenCode}
 use Rattle.refusal.specs.declared.Outcome.{Outcome}
-use Rattle.refusal.specs.declared.Outcome.the-variants.{Granted, Refused}
-use Rattle.refusal.proofs.Causes.{none-here}
+use Rattle.refusal.proofs.Causes.{Avoids, none-here, code-kept}
 use Rattle.profile.specs.Checks.{InLimits}
 use Rattle.profile.specs.declared.Shape.{Shape}
 use Rattle.counts.specs.Counts.{count}
-use Rattle.counts.specs.Table.{tableLength, withTable, countCauses}
-use Rattle.counts.proofs.Answer.{table-left}
-use Rattle.counts.proofs.Room.{count-early, count-limits, count-room}
-use Rattle.codewords.specs.Operations.{rowOf, unrankCode, Unranks}
-use Rattle.codewords.proofs.TableOperation.{none-before, refused-before, refused-by-seven, past-seven}
+use Rattle.counts.specs.Table.{tableLength, countCauses, leavesTable}
+use Rattle.counts.specs.Filling.{FillsPast}
+use Rattle.counts.proofs.Answer.{table-held}
+use Rattle.counts.proofs.Room.{count-early, count-passed}
+use Rattle.codewords.specs.Operations.{unrankCode, Unranks}
+use Rattle.codewords.specs.Placing.{Placeable, PlacesPast}
+use Rattle.codewords.proofs.TableOperation.{early-code, none-before, answer-after, table-after}
 
--- the cause of its own before the table, and all of those
-abbrev six : Shape → (row : List ℕ) → List (Bool × ℕ)
-six p row = (ltb (length row) (p .chains), 6) ∷ []
+-- the test of 7
+pub not-below : (n k : ℕ) {m : ℕ} {less : Bool} → less ≡ ltb n m → m ≡ k → not less ≡ leb k n
+not-below n k {m} {less} e f = by less (e ∙ ap (ltb n) f)
+  where
+    by : (b : Bool) → b ≡ ltb n k → not b ≡ leb k n
+    by true t = sym (lt-leb k n (ltb-true n k (sym t)))
+    by false t = sym (le-leb k n (ltb-false n k (sym t)))
 
-abbrev pub earlyCauses : Shape → (work row : List ℕ) → List (Bool × ℕ)
-earlyCauses p work row = countCauses p (length work) ++ six p row
+-- where none holds, none held before, and the number is below the count
+pub granted-below : (code : ℕ) (p : Shape) (n : ℕ) → thenCode code (leb (count p) n) 7 ≡ 0 → (code ≡ 0) × (n < count p)
+granted-below code p n e =
+    let none : code ≡ 0 = omega (arith, code-kept code 0 ((leb (count p) n, 7) ∷ []) (sym e)) in
+    (none, leb-false (count p) n (none-here (leb (count p) n) 7 [] refl (rw none at e) .0))
 
-module _ (p : Shape) (work row : List ℕ) (o : Outcome) (e : outcomeCode o ≡ firstCause (earlyCauses p work row)) where
-  -- granted so far: the shape is within its limits, and both slices are long enough
-  pub unrank-ready : o ≡ Granted → InLimits p × (tableLength p ≤ length work) × (p .chains ≤ length row)
-  unrank-ready q =
-      let none = none-before p work (countCauses p (length work)) (six p row) (count-early p (length work)) (refl, tt) o e q in (
-        count-limits p (length work) (none .0),
-        count-room p (length work) (none .0),
-        ltb-false (length row) (p .chains) (none-here (ltb (length row) (p .chains)) 6 [] refl (none .1) .0),
-      )
+-- granted so far, a codeword can be placed with the table that was filled
+pub placeable : {p : Shape} (work : List ℕ) {row left n : List ℕ} {code : ℕ} → InLimits p → p .chains ≤ length row → FillsPast code p work left n → code ≡ 0 → Placeable p n left row
+placeable {p} work limits room fills none =
+    record { limits = limits; counted = rw none at (fills .counted); held = table-held p work (rw none at (fills .table)); room = room }
 
-  pub unrank-refused : (n : ℕ) (r : Refusal) → o ≡ Refused r → Unranks p n work row work row o
-  unfolding unrankCode
-  unrank-refused n r q =
-      let refuses = refused-before p work (countCauses p (length work)) (six p row) (count-early p (length work)) (refl, tt) o e n [] (unrankCode p n work row) refl r q in
-      record { code = refuses .answer; table = refuses .table; written = rw (refuses .some) }
+-- the causes before 7: those of Count, and the size of the row
+module _ (p : Shape) (work row : List ℕ) {n m : ℕ} (counted : n ≡ firstCause (countCauses p (length work))) (sized : m ≡ thenCode n (ltb (length row) (p .chains)) 6) where
+  abbrev first : List (Bool × ℕ)
+  first = countCauses p (length work)
 
-  module _ (n : ℕ) (q : o ≡ Granted) {left : List ℕ} (filled : left ≡ withTable p work) where
-    -- the number is not below the count
-    pub unrank-seven : count p ≤ n → Unranks p n work row left row (Refused NumberTooLarge)
+  abbrev own : List (Bool × ℕ)
+  own = (ltb (length row) (p .chains), 6) ∷ []
+
+  abbrev early : Avoids leavesTable first
+  early = count-early p (length work)
+
+  code : m ≡ firstCause (countCauses p (length work) ++ own)
+  code = early-code first own early (refl, tt) counted sized
+
+  -- what Count refuses is refused
+  pub unrank-kept : n ≤ m
+  unrank-kept = code-kept n m own sized
+
+  pub unrank-passed : n ≡ 0 → InLimits p × (tableLength p ≤ length work)
+  unrank-passed none = count-passed p (length work) (sym counted ∙ none)
+
+  module _ {left count′ : List ℕ} (fills : FillsPast m p work left count′) where
+    pub unrank-answers : {k : ℕ} {row′ : List ℕ} {r : Outcome} → PlacesPast m p k row row′ r → Unranks p k work row left row′ r
     unfolding unrankCode
-    unrank-seven h =
-        let refuses = refused-by-seven p work (countCauses p (length work)) (six p row) (count-early p (length work)) (refl, tt) o e n [] (unrankCode p n work row) refl q h filled in
-        record { code = refuses .answer; table = refuses .table; written = rw (refuses .some) }
+    unrank-answers {k} places =
+        let seven : List (Bool × ℕ) = (leb (count p) k, 7) ∷ [] in
+        let answer = places .answer ∙ answer-after first own early (refl, tt) code seven (refl, tt) refl in
+        record { code = answer; table = table-after first own early (refl, tt) code seven (refl, tt) refl p work (fills .table); written = rw answer at (places .placed) }
 
-    -- the codeword is written
-    pub unrank-granted : {row′ : List ℕ} → n < count p → row′ ≡ rowOf p n ++ drop (p .chains) row → Unranks p n work row left row′ Granted
-    unfolding unrankCode
-    unrank-granted h written =
-        let none = past-seven p work (countCauses p (length work)) (six p row) (count-early p (length work)) (refl, tt) o e n [] (unrankCode p n work row) refl q h in
-        record { code = sym none; table = table-left p work 0 none refl filled; written = rw none written }
+    pub unrank-placeable : m ≡ 0 → Placeable p count′ left row
+    unrank-placeable none =
+        let before = none-before first own early (refl, tt) code none in
+        let room = ltb-false (length row) (p .chains) (none-here (ltb (length row) (p .chains)) 6 [] refl (before .1) .0) in
+        placeable work (count-passed p (length work) (before .0) .0) room fills none

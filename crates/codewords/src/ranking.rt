@@ -1,19 +1,18 @@
 // Gather: the number of a codeword.
 ghost use mathlib.Core.Path.{_≡_};
 ghost use mathlib.Core.Bool.{not};
-ghost use mathlib.Core.List.{_++_};
 ghost use Prim.Native.Nat.{_+_, _-_, _*_, _^_, _≤_, _<_};
 ghost use lib.Dec.{eqb};
 ghost use lib.ListN.{length, take, drop};
-ghost use Rattle.refusal.specs.Code.{outcomeCode, firstCause};
+ghost use Rattle.refusal.specs.Code.{outcomeCode, thenFirst};
 ghost use Rattle.words.specs.Number.{value, toWords};
 ghost use Rattle.counts.specs.Counts.{sumTo};
-ghost use Rattle.counts.specs.Table.{rows, countCauses};
+ghost use Rattle.counts.specs.Table.{rows};
 ghost use Rattle.codewords.specs.Codeword.{rank as rankOf, total, IsCodeword};
 ghost use Rattle.codewords.specs.Operations.{someAbove, rowCauses, Ranks};
 use counts::cells::load;
 use counts::table::count_outcome;
-use counts::table::fill;
+use counts::table::fill_past;
 use profile::Shape;
 use refusal::Outcome;
 use refusal::Refusal;
@@ -57,15 +56,14 @@ fn sum_differs(sum: usize, row: &[u8]) -> bool
     left != 0
 }
 
-// The causes of Gather.
-fn rank_outcome(p: Shape, row: &[u8], words: usize) -> Outcome
-    ensures { λ r. ⌜ outcomeCode r ≡ firstCause (countCauses p words ++ rowCauses p (now (row .entry))) ⌝ }
+// The causes of Gather that look at the row, behind those of Count.
+fn rank_outcome(checked: Outcome, p: Shape, row: &[u8]) -> Outcome
+    ensures { λ r. ⌜ outcomeCode r ≡ thenFirst (outcomeCode checked) (rowCauses p (now (row .entry))) ⌝ }
 {
     let chains = p.chains as usize;
     let width = p.width as usize;
     let sum = p.sum as usize;
-    let counted = count_outcome(p, words);
-    let long = then(counted, row.len() != chains, Refusal::CodewordLength);
+    let long = then(checked, row.len() != chains, Refusal::CodewordLength);
     let measured = then(long, some_above(width, row), Refusal::DigitTooLarge);
     then(measured, sum_differs(sum, row), Refusal::CodewordSum)
 }
@@ -112,7 +110,9 @@ fn number_of(table: &[u32], row: &[u8], width: usize, sum: usize) -> [u32; 5]
 pub fn rank(p: Shape, row: &[u8], table: &mut [u32]) -> Ranked
     ensures { λ r. ⌜ Ranks p (now (row .entry)) (now (table .entry)) (now (table .exit)) r ⌝ }
 {
-    let outcome = rank_outcome(p, row, table.len());
+    let checked = count_outcome(p, table.len());
+    let outcome = rank_outcome(checked, p, row);
+    fill_past(outcome, p, table);
     match outcome {
         Outcome::Refused(_) => Ranked {
             outcome: outcome,
@@ -121,7 +121,6 @@ pub fn rank(p: Shape, row: &[u8], table: &mut [u32]) -> Ranked
         Outcome::Granted => {
             let width = p.width as usize;
             let sum = p.sum as usize;
-            fill(p, table);
             Ranked {
                 outcome: outcome,
                 number: number_of(table, row, width, sum),

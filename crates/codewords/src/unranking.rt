@@ -3,14 +3,16 @@ ghost use mathlib.Core.Path.{_≡_};
 ghost use mathlib.Core.List.{_++_};
 ghost use Prim.Native.Nat.{_≤_, _<_};
 ghost use lib.ListN.{length, drop};
+ghost use Rattle.refusal.specs.Code.{outcomeCode};
 ghost use Rattle.words.specs.Number.{value};
 ghost use Rattle.profile.specs.Checks.{InLimits};
 ghost use Rattle.counts.specs.Counts.{count as countOf};
 ghost use Rattle.counts.specs.Table.{Holds};
 ghost use Rattle.codewords.specs.Operations.{rowOf, Unranks};
+ghost use Rattle.codewords.specs.Placing.{Placeable, PlacesPast};
 use counts::cells::load;
 use counts::table::count_outcome;
-use counts::table::fill;
+use counts::table::fill_past;
 use profile::Shape;
 use refusal::Outcome;
 use refusal::Refusal;
@@ -52,23 +54,36 @@ pub fn write_codeword(p: Shape, number: [u32; 5], table: &[u32], row: &mut [u8])
     }
 }
 
+// 7, behind the causes that gave an outcome; where none holds, the codeword of the number goes into the first bytes of the
+// row.
+pub fn place_past(
+    early: Outcome,
+    p: Shape,
+    number: [u32; 5],
+    count: [u32; 5],
+    table: &[u32],
+    row: &mut [u8],
+) -> Outcome
+    requires { ⌜ (outcomeCode early ≡ 0 → Placeable p count (now table) (now row)) ⌝ }
+    ensures { λ r. ⌜ PlacesPast (outcomeCode early) p (value number) (now (row .entry)) (now (row .exit)) r ⌝ }
+{
+    let outcome = then(early, !less(number, count), Refusal::NumberTooLarge);
+    match outcome {
+        Outcome::Refused(_) => outcome,
+        Outcome::Granted => {
+            write_codeword(p, number, table, row);
+            outcome
+        }
+    }
+}
+
 // Spread: the codeword of the number, into the first bytes of the row.
 pub fn unrank(p: Shape, number: [u32; 5], table: &mut [u32], row: &mut [u8]) -> Outcome
     ensures { λ r. ⌜ Unranks p (value number) (now (table .entry)) (now (row .entry)) (now (table .exit)) (now (row .exit)) r ⌝ }
 {
     let chains = p.chains as usize;
-    let counted = count_outcome(p, table.len());
-    let outcome = then(counted, row.len() < chains, Refusal::OutputTooShort);
-    match outcome {
-        Outcome::Refused(_) => outcome,
-        Outcome::Granted => {
-            let count = fill(p, table);
-            if less(number, count) {
-                write_codeword(p, number, table, row);
-                Outcome::Granted
-            } else {
-                Outcome::Refused(Refusal::NumberTooLarge)
-            }
-        }
-    }
+    let checked = count_outcome(p, table.len());
+    let early = then(checked, row.len() < chains, Refusal::OutputTooShort);
+    let count = fill_past(early, p, table);
+    place_past(early, p, number, count, table, row)
 }

@@ -43,11 +43,15 @@ pub table-held : (p : Shape) (work : List ℕ) {left : List ℕ} → left ≡ wi
 unfolding withTable tableLength Holds
 table-held p work e = above-row (p .width) (p .sum) (p .chains + 1) (drop (tableLength p) work) _ e
 
--- what an operation leaves in the work slice: the table is filled past causes none of which leaves it, and those behind it all do
-pub table-past : (before after : List (Bool × ℕ)) → Avoids leavesTable before → Avoids (λ k. not (leavesTable k)) after → {n code : ℕ} → n ≡ firstCause before → code ≡ firstCause (before ++ after)
-    → (p : Shape) (work : List ℕ) {left : List ℕ} → left ≡ cond (eqb n 0) (withTable p work) work → left ≡ tableAfter code p work
-unfolding tableAfter
-table-past before after early late e all p work filled = filled ∙ rw (e, all, kind-then leavesTable before after refl early late)
+-- an operation that fills the table past causes none of which leaves it, before causes that all do: what it leaves in the work slice
+module _ (before after : List (Bool × ℕ)) (early : Avoids leavesTable before) (late : Avoids (λ k. not (leavesTable k)) after)
+    {n code : ℕ} (e : n ≡ firstCause before) (all : code ≡ firstCause (before ++ after)) where
+  pub leaves-past : leavesTable code ≡ eqb n 0
+  leaves-past = rw (e, all) (kind-then leavesTable before after refl early late)
+
+  pub table-past : (p : Shape) (work : List ℕ) {left : List ℕ} → left ≡ cond (eqb n 0) (withTable p work) work → left ≡ tableAfter code p work
+  unfolding tableAfter
+  table-past p work filled = filled ∙ rw leaves-past
 
 -- what Count answers
 pub counted : (p : Shape) (work : List ℕ) {o : Outcome} {left n : List ℕ} → outcomeCode o ≡ firstCause (countCauses p (length work)) → FillsPast (outcomeCode o) p work left n

@@ -149,8 +149,8 @@ code-then first more {n} p e = by (eqb n 0) refl
     by false z = let some : n ≡ 0 → ⊥ = eqb-false n 0 z in e ∙ sym (some-then first more (not-zero (firstCause first) (λ q. some (e ∙ q))))
 
 -- more causes only add to what is refused
-pub code-kept : {n m : ℕ} (more : List (Bool × ℕ)) → m ≡ thenFirst n more → n ≤ m
-code-kept {n} {m} more e = by (eqb n 0) refl e
+pub code-kept : (n m : ℕ) (more : List (Bool × ℕ)) → m ≡ thenFirst n more → n ≤ m
+code-kept n m more e = by (eqb n 0) refl e
   where
     by : (none : Bool) → eqb n 0 ≡ none → m ≡ cond none (firstCause more) n → n ≤ m
     by true z q = omega (arith, eqb-true n 0 z)
@@ -178,22 +178,21 @@ pub chain-ends : (n : ℕ) {m : ℕ} {own : List (Bool × ℕ)} → Chain (stand
 chain-ends zero chain = chain .answer
 chain-ends (suc n) chain = rw (ne-eqb (suc n) 0 (λ z. omega arith)) (chain .answer)
 
--- one cause more, whose test means what it is to mean where none before it holds
-pub chain-then : {first own : List (Bool × ℕ)} {n m : ℕ} {test meant : Bool} (k : ℕ) → eqb k 0 ≡ false → Chain first own n → (n ≡ 0 → test ≡ meant) → m ≡ thenCode n test k
-    → Chain first (own ++ ((meant, k) ∷ [])) m
-chain-then {first} {own} {n} {m} {test} {meant} k positive chain means e =
-    let last : List (Bool × ℕ) = (meant, k) ∷ [] in
-    let apart = append-assoc first own last in
-    record {
-      numbered = rw (← apart) (without-append 0 (first ++ own) last (chain .numbered) (positive, tt));
-      answer = e ∙ by (eqb n 0) refl ∙ rw (← apart) (code-then (first ++ own) last (chain .numbered) (chain .answer));
-    }
+-- a test that means what it is to mean where none before it holds; behind a refusal it counts for nothing
+pub then-means : {n : ℕ} {test meant : Bool} (k : ℕ) → (n ≡ 0 → test ≡ meant) → thenCode n test k ≡ thenCode n meant k
+then-means {n} {test} {meant} k means = by (eqb n 0) refl
   where
     by : (none : Bool) → eqb n 0 ≡ none → cond none (cond test k 0) n ≡ cond none (cond meant k 0) n
     by true z = rw (means (eqb-true n 0 z))
     by false z = refl
 
--- the same where the test always means it
+-- one cause more, whose test means what it is to mean
 pub chain-next : {first own : List (Bool × ℕ)} {n m : ℕ} {test meant : Bool} (k : ℕ) → eqb k 0 ≡ false → Chain first own n → test ≡ meant → m ≡ thenCode n test k
     → Chain first (own ++ ((meant, k) ∷ [])) m
-chain-next k positive chain means e = chain-then k positive chain (λ none. means) e
+chain-next {first} {own} {n} {m} {test} {meant} k positive chain means e =
+    let last : List (Bool × ℕ) = (meant, k) ∷ [] in
+    let apart = append-assoc first own last in
+    record {
+      numbered = rw (← apart) (without-append 0 (first ++ own) last (chain .numbered) (positive, tt));
+      answer = e ∙ rw (means, ← apart) (code-then (first ++ own) last (chain .numbered) (chain .answer));
+    }

@@ -14,7 +14,7 @@ use Rattle.counts.proofs.table.fill_rows.Tie as tie
 
 abbrev Inv-loop : tie.InvT-loop
 Inv-loop table₀ chains width sum i₀ table i =
-    (1 ≤ i) × (i ≤ chains + 1) × (length table ≡ length table₀) × (table ≡ rows width sum i ++ drop (5 * (i * (sum + 1))) table₀)
+    (table ≡ rows width sum i ++ drop (5 * (i * (sum + 1))) table₀) × (1 ≤ i) × (i ≤ chains + 1) × (length table ≡ length table₀)
 
 abbrev μ-loop : tie.MeasureT-loop
 μ-loop table₀ chains width sum i₀ table i = chains + 1 - i
@@ -36,7 +36,7 @@ loop-holds : tie.Need-loop-holds Inv-loop μ-loop
 loop-holds c =
     let first = c .before .before in
     let a = start first .args in
-    (omega arith, omega arith, refl, rows-split (a .width) (a .sum) 1 _ (above-row (a .width) (a .sum) 1 _ _ (row-0 first)))
+    (rows-split (a .width) (a .sum) 1 _ (above-row (a .width) (a .sum) 1 _ _ (row-0 first)), omega arith, omega arith, refl)
 
 fill-row-requires : tie.Need-fill-row-requires Inv-loop μ-loop
 fill-row-requires c κs =
@@ -45,8 +45,8 @@ fill-row-requires c κs =
     let a = begin .args in
     let limits = begin .pre .0 in
     let within : (at-loop .loop .i + 1) * (a .sum + 1) ≤ (a .chains + 1) * (a .sum + 1) = mul-le-mul-right (a .sum + 1) (omega arith) in (
-      (limits .0, limits .1, at-loop .loop .inv .0, omega arith, limits .3),
-      (above-row (a .width) (a .sum) (at-loop .loop .i) _ _ (at-loop .loop .inv .3), omega (arith, begin .pre .1, filled at-loop .first-row .kept .0)),
+      (limits .0, limits .1, at-loop .loop .inv .1, omega arith, limits .3),
+      (above-row (a .width) (a .sum) (at-loop .loop .i) _ _ (at-loop .loop .inv .0), omega (arith, begin .pre .1, filled at-loop .first-row .kept .0)),
     )
 
 loop-again : tie.Need-loop-again Inv-loop μ-loop
@@ -54,10 +54,10 @@ loop-again c =
     let next = c .before .before in
     let at-loop = next .before .before .before in
     let a = start (filled at-loop) .args in
-    (omega arith, omega arith, next .fill-row .kept .0 ∙ at-loop .loop .inv .2, rows-over (a .width) (a .sum) (omega arith) _ (at-loop .loop .inv .3) (next .fill-row .ensures))
+    (rows-over (a .width) (a .sum) (omega arith) _ (at-loop .loop .inv .0) (next .fill-row .ensures), omega arith, omega arith, next .fill-row .kept .0 ∙ at-loop .loop .inv .3)
 
 same-length : tie.Need-same-length Inv-loop μ-loop
-same-length c = c .before .loop .inv .2 ∙ filled (c .before) .first-row .kept .0
+same-length c = c .before .loop .inv .3 ∙ filled (c .before) .first-row .kept .0
 
 returns : tie.Need-returns Inv-loop μ-loop
 returns c =
@@ -65,7 +65,7 @@ returns c =
     let first = filled at-loop in
     let a = start first .args in
     let all : at-loop .loop .i ≡ a .chains + 1 = omega arith in
-    rows-over (a .width) (a .sum) (omega arith) (now (a .table)) (row-0 first) (rw all at (at-loop .loop .inv .3))
+    rows-over (a .width) (a .sum) (omega arith) (now (a .table)) (row-0 first) (rw all at (at-loop .loop .inv .0))
 
 pub fill-rows-spec : {M : Type 1} → statement M
 fill-rows-spec =
