@@ -1,10 +1,9 @@
 -- The running hash that takes the tops of a leaf's chains one after another and ends as the leaf key, and the values that are shown of them.
-use mathlib.Core.Path.{_≡_, sym, ap, _∙_}
+use mathlib.Core.Path.{_≡_, ap, _∙_}
 use mathlib.Core.List.{List, _++_, append-nil}
 use Prim.Native.Nat.{ℕ, _+_, _*_, _<_, _≤_}
 use native.Mathlib.Omega.{arith}
-use lib.ListN.{length, take, drop, length-append}
-use lib.Seq.{drop-drop}
+use lib.ListN.{length, take, length-append}
 use Rattle.words.specs.Joined.{joinTo}
 use Rattle.words.proofs.Joins.{joinTo-behind, length-joinTo}
 use Rattle.sha256.specs.Digest.{wordBytes}
@@ -14,17 +13,11 @@ use Rattle.sha256.proofs.Joined.{more-taken}
 use Rattle.tweak.specs.Tweak.{leafKeyAddress, seedBlock}
 use Rattle.tweak.specs.declared.Domain.{Domain}
 use Rattle.tweak.proofs.TweakLaws.{length-address, length-seed-block, length-tweaked, tweak-ended}
-use Rattle.chains.specs.Chains.{walked}
 use Rattle.chains.specs.Leaves.{keyOfTops, leafKey}
 
 pub length-leaf-key : (d : Domain) (secret : List ℕ) (w l leaf : ℕ) → length (leafKey d secret w l leaf) ≡ 16
 unfolding leafKey keyOfTops
 length-leaf-key d secret w l leaf = length-tweaked d _ _
-
--- a walk from the value that is shown of the chain c, which stands at 16 c behind `at`
-pub value-from : (d : Domain) (leaf c low n : ℕ) (values : List ℕ) (at : ℕ) {v r : List ℕ} → v ≡ take 16 (drop (at + 16 * c) values)
-    → r ≡ walked d leaf c low n v → r ≡ walked d leaf c low n (take 16 (drop (16 * c) (drop at values)))
-value-from d leaf c low n values at s e = e ∙ ap (walked d leaf c low n) (s ∙ ap (take 16) (sym (drop-drop (16 * c) at values)))
 
 -- what the running hash has taken after c tops, f 0, f 1, ..
 abbrev pub taken : (d : Domain) (leaf : ℕ) → (ℕ → List ℕ) → ℕ → List ℕ

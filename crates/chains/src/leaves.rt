@@ -66,7 +66,7 @@ pub struct Key {
     pub steps: u32,
 }
 
-// The leaf key from the values that stand from index `at` on, and the steps made, those of each chain added up.
+// The leaf key from the values, and the steps made, those of each chain added up.
 pub fn recover_key(
     h: Hasher,
     leaf: Leaf,
@@ -74,11 +74,10 @@ pub fn recover_key(
     width: u32,
     chains: u32,
     values: &[u8],
-    at: usize,
 ) -> Key
     requires { ⌜ Seeded h ⌝ }
-    requires { ⌜ (1 ≤ width) × (width ≤ 16) × (chains ≤ 40) × (at + 16 * chains ≤ length (now values)) ⌝ }
-    ensures key { λ r. ⌜ r .key ≡ recovered (h .domain) width chains (leaf .0) row (drop at (now (values .entry))) ⌝ }
+    requires { ⌜ (1 ≤ width) × (width ≤ 16) × (chains ≤ 40) × (16 * chains ≤ length (now values)) ⌝ }
+    ensures key { λ r. ⌜ r .key ≡ recovered (h .domain) width chains (leaf .0) row (now (values .entry)) ⌝ }
     ensures steps { λ r. ⌜ r .steps ≡ stepsLeft width (take chains row) ⌝ }
 {
     let d = h.domain;
@@ -88,7 +87,7 @@ pub fn recover_key(
     let mut c: u32 = 0;
     while c < chains {
         let height = row[c as usize] as u32;
-        let value = read_16(values, at + 16 * (c as usize));
+        let value = read_16(values, 16 * (c as usize));
         let walked = walk(h, leaf, Chain(c), height, width - 1, value);
         let top = walked.value;
         let next = absorb(hash, top);

@@ -62,7 +62,7 @@ module _ {p : Profile} {leaf n : ℕ} {work row work′ row′ : List ℕ} {r : 
 
 -- Recover, once the codeword is placed or refused
 module _ {p : Profile} {leaf n : ℕ} {work row work′ row′ : List ℕ} {r : Outcome} (values : List ℕ) (places : Places p leaf n (not (eqb (length values) (16 * p .shape .chains))) 13 work row work′ row′ r) where
-  pub recover-room : r ≡ Granted → (1 ≤ p .shape .width) × (p .shape .width ≤ 16) × (p .shape .chains ≤ 40) × (0 + 16 * p .shape .chains ≤ length values)
+  pub recover-room : r ≡ Granted → (1 ≤ p .shape .width) × (p .shape .width ≤ 16) × (p .shape .chains ≤ 40) × (16 * p .shape .chains ≤ length values)
   recover-room q =
       let grants = place-grants places refl q in
       omega (arith, grants .limits, eqb-true (length values) (16 * p .shape .chains) (not-false _ (grants .sized)))

@@ -1,64 +1,67 @@
--- What Reveal and Recover share: refused before the table, refused by 7, or the codeword placed; and what each of these tells.
+-- What Reveal and Recover share, once the table is filled past the causes before 7: what is answered and left, and what that tells.
 use mathlib.Core.Path.{_≡_, refl, _∙_, ap, sym}
 use mathlib.Core.Bool.{Bool, false}
 use mathlib.Core.List.{List, [], _∷_, _++_}
 use Prim.Native.Nat.{ℕ, _<_, _≤_}
+use native.Mathlib.Omega.{arith}
 use borrow.Author.Tests.{leb-false}
 use lib.Dec.{leb, eqb}
 use lib.ListN.{length, drop}
-use Rattle.refusal.specs.Code.{outcomeCode, firstCause}
+use Rattle.refusal.specs.Code.{outcomeCode, firstCause, thenFirst}
 use Rattle.refusal.specs.declared.Refusal.{Refusal}
-use Rattle.refusal.specs.declared.Refusal.the-variants.{NumberTooLarge}
 use Rattle.refusal.specs.declared.Outcome.{Outcome}
 use Rattle.refusal.specs.declared.Outcome.the-variants.{Granted, Refused}
-use Rattle.refusal.proofs.Causes.{Avoids, none-here, none-of-append, refused-number}
+use Rattle.refusal.proofs.Causes.{Avoids, none-here, none-of-append, refused-number, code-kept}
 use Rattle.profile.specs.Checks.{InLimits, leafBeyond}
 use Rattle.profile.specs.declared.Profile.{Profile}
 use Rattle.counts.specs.Counts.{count}
-use Rattle.counts.specs.Table.{withTable, tableCauses, leavesTable}
-use Rattle.counts.proofs.Answer.{table-left}
+use Rattle.counts.specs.Table.{tableCauses, leavesTable}
+use Rattle.counts.specs.Filling.{FillsPast}
 use Rattle.counts.proofs.Room.{TablePassed, table-early, table-numbered, table-passed}
 use Rattle.codewords.specs.Operations.{rowOf}
-use Rattle.codewords.proofs.TableOperation.{none-before, refused-before, refused-by-seven, past-seven}
+use Rattle.codewords.specs.Placing.{Placeable, PlacesPast}
+use Rattle.codewords.proofs.TableOperation.{early-code, none-before, answer-after, table-after}
+use Rattle.codewords.proofs.UnrankAnswer.{placeable}
 use Rattle.one_time.specs.Operations.{ownCauses, placeCode}
 use Rattle.one_time.specs.Placing.{Places}
 
--- the causes before the table, and what they gave
-module _ (p : Profile) (work : List ℕ) (leaf : ℕ) (wrong : Bool) (size : ℕ) (early : leavesTable size ≡ false) (o : Outcome)
-    (e : outcomeCode o ≡ firstCause (tableCauses p (length work) ++ ownCauses p leaf wrong size)) where
-  between : Avoids leavesTable (ownCauses p leaf wrong size)
-  between = (early, (refl, tt))
+-- the causes before 7: those of the table, then the size of the values and the leaf
+module _ (p : Profile) (work : List ℕ) (leaf : ℕ) (wrong : Bool) (size : ℕ) (other : leavesTable size ≡ false)
+    {n m : ℕ} (checked : n ≡ firstCause (tableCauses p (length work))) (e : m ≡ thenFirst n (ownCauses (p .height) leaf wrong size)) where
+  abbrev first : List (Bool × ℕ)
+  first = tableCauses p (length work)
 
-  -- granted so far
-  pub place-ready : o ≡ Granted → TablePassed p (length work)
-  place-ready q =
-      table-passed p (length work)
-      (none-before (p .shape) work (tableCauses p (length work)) (ownCauses p leaf wrong size) (table-early p (length work)) between o e q .0)
+  abbrev own : List (Bool × ℕ)
+  own = ownCauses (p .height) leaf wrong size
 
-  module _ (n : ℕ) (row : List ℕ) where
-    pub place-refused : (x : Refusal) → o ≡ Refused x → Places p leaf n wrong size work row work row o
+  abbrev early : Avoids leavesTable first
+  early = table-early p (length work)
+
+  abbrev between : Avoids leavesTable own
+  between = (other, (refl, tt))
+
+  code : m ≡ firstCause (first ++ own)
+  code = early-code first own early between checked e
+
+  -- what the first refuse is refused
+  pub place-kept : n ≤ m
+  place-kept = code-kept n m own e
+
+  pub place-passed : n ≡ 0 → TablePassed p (length work)
+  place-passed none = table-passed p (length work) (sym checked ∙ none)
+
+  module _ {left count′ : List ℕ} (fills : FillsPast m (p .shape) work left count′) where
+    pub place-answers : {k : ℕ} {row row′ : List ℕ} {r : Outcome} → PlacesPast m (p .shape) k row row′ r → Places p leaf k wrong size work row left row′ r
     unfolding placeCode
-    place-refused x q =
-        let refuses =
-        refused-before (p .shape) work (tableCauses p (length work)) (ownCauses p leaf wrong size) (table-early p (length work)) between o e n [] (placeCode p leaf n wrong size work) refl x q in
-        record { code = refuses .answer; table = refuses .table; placed = rw (refuses .some) }
+    place-answers {k} places =
+        let seven : List (Bool × ℕ) = (leb (count (p .shape)) k, 7) ∷ [] in
+        let answer = places .answer ∙ answer-after first own early between code seven (refl, tt) refl in
+        record { code = answer; table = table-after first own early between code seven (refl, tt) refl (p .shape) work (fills .table); placed = rw answer at (places .placed) }
 
-    module _ (q : o ≡ Granted) {work′ : List ℕ} (filled : work′ ≡ withTable (p .shape) work) where
-      -- the number is not below the count
-      pub place-seven : count (p .shape) ≤ n → Places p leaf n wrong size work row work′ row (Refused NumberTooLarge)
-      unfolding placeCode
-      place-seven h =
-          let refuses =
-          refused-by-seven (p .shape) work (tableCauses p (length work)) (ownCauses p leaf wrong size) (table-early p (length work)) between o e n [] (placeCode p leaf n wrong size work) refl q h filled in
-          record { code = refuses .answer; table = refuses .table; placed = rw (refuses .some) }
-
-      -- the codeword is written
-      pub place-granted : {row′ : List ℕ} → n < count (p .shape) → row′ ≡ rowOf (p .shape) n ++ drop (p .shape .chains) row → Places p leaf n wrong size work row work′ row′ Granted
-      unfolding placeCode
-      place-granted h placed =
-          let none =
-          past-seven (p .shape) work (tableCauses p (length work)) (ownCauses p leaf wrong size) (table-early p (length work)) between o e n [] (placeCode p leaf n wrong size work) refl q h in
-          record { code = sym none; table = table-left (p .shape) work 0 none refl filled; placed = rw none placed }
+    pub place-placeable : {row : List ℕ} → length row ≡ 40 → m ≡ 0 → Placeable (p .shape) count′ left row
+    place-placeable long none =
+        let limits = table-passed p (length work) (none-before first own early between code none .0) .limits in
+        placeable work limits (omega (arith, limits .few-chains)) fills none
 
 -- what a grant tells: no cause holds, and the codeword stands in front of the row
 pub record Grants (code : ℕ) (p : Profile) (n : ℕ) (wrong : Bool) (row row′ : List ℕ) : Type 0 where
@@ -77,7 +80,7 @@ module _ {p : Profile} {leaf n : ℕ} {wrong : Bool} {size : ℕ} {work row work
   place-grants positive q =
       let none : placeCode p leaf n wrong size work ≡ 0 = sym (places .code) ∙ ap outcomeCode q in
       let seven : List (Bool × ℕ) = (leb (count (p .shape)) n, 7) ∷ [] in
-      let first = none-of-append (tableCauses p (length work)) (ownCauses p leaf wrong size ++ seven) (table-numbered p (length work)) none in
+      let first = none-of-append (tableCauses p (length work)) (ownCauses (p .height) leaf wrong size ++ seven) (table-numbered p (length work)) none in
       let sized = none-here wrong size ((leafBeyond (p .height) leaf, 11) ∷ seven) positive (first .1) in
       let within = none-here (leafBeyond (p .height) leaf) 11 seven refl (sized .1) in
       record {

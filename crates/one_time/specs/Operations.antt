@@ -30,13 +30,13 @@ pub record LeafKeys (p : Profile) (seed secret : List ℕ) (leaf : ℕ) (r : Lea
   pub key : r .key ≡ cond (eqb (leafKeyCode p leaf) 0) (leafKeyOf (firstDomain seed) p secret leaf) (replicate 16 0)
 
 -- the causes of Reveal and Recover between 5 and 7: the size of the values, with the code that each has for it, and 11
-abbrev pub ownCauses : Profile → (leaf : ℕ) (wrong : Bool) (size : ℕ) → List (Bool × ℕ)
-ownCauses p leaf wrong size = (wrong, size) ∷ (leafBeyond (p .height) leaf, 11) ∷ []
+abbrev pub ownCauses : (height leaf : ℕ) (wrong : Bool) (size : ℕ) → List (Bool × ℕ)
+ownCauses height leaf wrong size = (wrong, size) ∷ (leafBeyond height leaf, 11) ∷ []
 
 -- "profile checks, 5", those, and "7"
 unfoldable pub placeCode : Profile → (leaf n : ℕ) (wrong : Bool) (size : ℕ) (work : List ℕ) → ℕ
 placeCode p leaf n wrong size work =
-    firstCause (tableCauses p (length work) ++ (ownCauses p leaf wrong size ++ ((leb (count (p .shape)) n, 7) ∷ [])))
+    firstCause (tableCauses p (length work) ++ (ownCauses (p .height) leaf wrong size ++ ((leb (count (p .shape)) n, 7) ∷ [])))
 
 -- "Reveal, number to l values: profile checks, 5, 6 (16 × l bytes), 11, 7"
 abbrev pub revealCode : Profile → (leaf n : ℕ) (work values : List ℕ) → ℕ

@@ -1,18 +1,17 @@
 // The one-time signatures of a leaf: Leaf key, Reveal and Recover.
 ghost use mathlib.Core.Path.{_≡_};
 ghost use mathlib.Core.Bool.{false};
-ghost use mathlib.Core.List.{_++_};
 ghost use lib.ListN.{length};
-ghost use Rattle.refusal.specs.Code.{code, outcomeCode, firstCause};
+ghost use Rattle.refusal.specs.Code.{code, outcomeCode, thenFirst};
 ghost use Rattle.words.specs.Number.{value};
-ghost use Rattle.counts.specs.Table.{tableCauses, leavesTable};
+ghost use Rattle.counts.specs.Table.{leavesTable};
 ghost use Rattle.one_time.specs.Operations.{leafKeyCode, LeafKeys, ownCauses, Reveals, Recovers};
 ghost use Rattle.one_time.specs.Placing.{Places};
 use chains::leaves::key_of_leaf;
 use chains::leaves::recover_key;
 use chains::leaves::write_values;
-use codewords::unranking::write_codeword;
-use counts::table::fill;
+use codewords::unranking::place_past;
+use counts::table::fill_past;
 use counts::table::table_outcome;
 use profile::Profile;
 use profile::check_profile;
@@ -22,7 +21,6 @@ use refusal::Refusal;
 use refusal::then;
 use tweak::Leaf;
 use tweak::first_hasher;
-use words::number::less;
 
 // What Leaf key answers. Refused, the key is zero.
 pub struct LeafKey {
@@ -49,13 +47,13 @@ fn leaf_key_outcome(p: Profile, leaf: u32) -> Outcome
     )
 }
 
-// The causes before the table is filled: those of the table, `refusal` where the size of the values is wrong, and 11.
-fn early_outcome(p: Profile, leaf: u32, words: usize, wrong: bool, refusal: Refusal) -> Outcome
-    ensures { λ r. ⌜ outcomeCode r ≡ firstCause (tableCauses p words ++ ownCauses p leaf wrong (code refusal)) ⌝ }
+// The causes of Reveal and Recover between 5 and 7, behind an outcome: `refusal` where the size of the values is wrong, and
+// 11.
+fn early_outcome(checked: Outcome, height: u32, leaf: u32, wrong: bool, refusal: Refusal) -> Outcome
+    ensures { λ r. ⌜ outcomeCode r ≡ thenFirst (outcomeCode checked) (ownCauses height leaf wrong (code refusal)) ⌝ }
 {
-    let height = p.height;
     let beyond = leaf_beyond(height, leaf);
-    let sized = then(table_outcome(p, words), wrong, refusal);
+    let sized = then(checked, wrong, refusal);
     then(sized, beyond, Refusal::LeafOutOfRange)
 }
 
@@ -73,20 +71,12 @@ fn place_row(
     requires { ⌜ (leavesTable (code refusal) ≡ false) × (length (now row) ≡ 40) ⌝ }
     ensures { λ r. ⌜ Places p leaf (value number) wrong (code refusal) (now (table .entry)) (now (row .entry)) (now (table .exit)) (now (row .exit)) r ⌝ }
 {
-    let early = early_outcome(p, leaf, table.len(), wrong, refusal);
-    match early {
-        Outcome::Refused(_) => early,
-        Outcome::Granted => {
-            let shape = p.shape;
-            let count = fill(shape, table);
-            if less(number, count) {
-                write_codeword(shape, number, table, row);
-                Outcome::Granted
-            } else {
-                Outcome::Refused(Refusal::NumberTooLarge)
-            }
-        }
-    }
+    let shape = p.shape;
+    let height = p.height;
+    let checked = table_outcome(p, table.len());
+    let early = early_outcome(checked, height, leaf, wrong, refusal);
+    let count = fill_past(early, shape, table);
+    place_past(early, shape, number, count, table, row)
 }
 
 // Leaf key.
@@ -163,7 +153,7 @@ pub fn one_time_recover(
         },
         Outcome::Granted => {
             let h = first_hasher(seed);
-            let found = recover_key(h, Leaf(leaf), row, shape.width, shape.chains, values, 0);
+            let found = recover_key(h, Leaf(leaf), row, shape.width, shape.chains, values);
             let key = found.key;
             let steps = found.steps;
             Recovered {

@@ -1,30 +1,29 @@
 -- What Check answers and leaves on each way out.
 use mathlib.Core.Path.{_≡_, refl, _∙_, ap, sym}
-use mathlib.Core.Bool.{Bool, true, false, not}
+use mathlib.Core.Bool.{Bool, true, false, not, cond}
 use mathlib.Core.List.{List, [], _∷_, _++_, append-assoc}
 use Prim.Native.Nat.{ℕ, _^_, _<_, _≤_}
 use native.Mathlib.Nat.{lt-of-lt-of-le}
 use native.Mathlib.Omega.{arith}
-use borrow.Author.Tests.{eqb-true, not-false}
+use borrow.Author.Tests.{eqb-true, not-false, le-leb, lt-leb}
 use lib.Dec.{leb, eqb}
 use lib.ListN.{length, take}
 use lib.Pow.{pow-mono}
-use Rattle.refusal.specs.Code.{outcomeCode, firstCause}
+use Rattle.refusal.specs.Code.{outcomeCode, firstCause, thenFirst}
 use Rattle.refusal.specs.declared.Refusal.{Refusal}
 use Rattle.refusal.specs.declared.Refusal.the-variants.{NumberTooLarge, RootDiffers}
 use Rattle.refusal.specs.declared.Outcome.{Outcome}
 use Rattle.refusal.specs.declared.Outcome.the-variants.{Granted, Refused}
-use Rattle.refusal.proofs.Causes.{Avoids, none-here}
+use Rattle.refusal.proofs.Causes.{Avoids, none-here, refused-number, code-kept}
 use Rattle.profile.specs.Checks.{InLimits, leafBeyond}
 use Rattle.profile.specs.declared.Shape.{Shape}
 use Rattle.profile.proofs.Limits.{leaf-within}
 use Rattle.counts.specs.Counts.{count}
-use Rattle.counts.specs.Table.{tableLength, withTable, tableCauses, leavesTable}
-use Rattle.counts.proofs.Answer.{table-left}
-use Rattle.counts.proofs.Room.{table-early, table-passed}
+use Rattle.counts.specs.Table.{withTable, tableCauses, leavesTable, tableAfter}
+use Rattle.counts.proofs.Room.{TablePassed, table-early, table-passed}
 use Rattle.codewords.specs.Codeword.{stepsLeft}
 use Rattle.codewords.specs.Operations.{rowOf}
-use Rattle.codewords.proofs.TableOperation.{none-before, refused-before, refused-by-seven, past-seven}
+use Rattle.codewords.proofs.TableOperation.{early-code, none-before, table-after, refused-before, granted-before}
 use Rattle.tweak.specs.Tweak.{firstDomain}
 use Rattle.chains.specs.Leaves.{recovered}
 use Rattle.one_time.specs.Operations.{recoveredBy, stepsOf}
@@ -35,18 +34,18 @@ use Rattle.message.proofs.Fits.{short-text}
 use Rattle.verifier.specs.Verifying.{passed, taken, leafIn, valuesIn, siblingsIn, numberIn, recoveredRoot, rootIn, same, orderCauses, causesBeforeRoot, verifyCode, verifierAfter, stepsMade, Verifies}
 use Rattle.verifier.specs.declared.Verifier.{Verifier}
 
--- past the causes before the table: everything is within its limits, the work slice has room, the signature has its length, and the leaf that it names is small
-pub record VerifyFits (v : Verifier) (words text : ℕ) (signature : List ℕ) : Type 0 where
+-- past the causes before 7: everything is within its limits, the signature has its length, and the leaf that it names is small
+pub record VerifyFits (v : Verifier) (text : ℕ) (signature : List ℕ) : Type 0 where
   pub limits : InLimits (v .profile .shape)
   pub low : v .profile .height ≤ 10
-  pub table : tableLength (v .profile .shape) ≤ words
   pub short : text ≤ 200
   pub long : length signature ≡ signatureLength (v .profile)
   pub front : 20 ≤ length signature
   pub small : leafIn signature < 2 ^ 10
 
-module _ (v : Verifier) (message signature work : List ℕ) (o : Outcome)
-    (e : outcomeCode o ≡ firstCause (tableCauses (v .profile) (length work) ++ orderCauses v (length message) signature)) where
+-- the causes before 7: those of the table, then those of the order
+module _ (v : Verifier) (message signature work : List ℕ) {n m : ℕ} (checked : n ≡ firstCause (tableCauses (v .profile) (length work)))
+    (e : m ≡ thenFirst n (orderCauses v (length message) signature)) where
   abbrev shape : Shape
   shape = v .profile .shape
 
@@ -68,10 +67,20 @@ module _ (v : Verifier) (message signature work : List ℕ) (o : Outcome)
   between : Avoids leavesTable own
   between = (refl, (refl, (refl, (refl, tt))))
 
-  pub verify-fits : o ≡ Granted → VerifyFits v (length work) (length message) signature
+  before : m ≡ firstCause (first ++ own)
+  before = early-code first own early between checked e
+
+  -- what the first refuse is refused
+  pub verify-kept : n ≤ m
+  verify-kept = code-kept n m own e
+
+  pub verify-passed : n ≡ 0 → TablePassed (v .profile) (length work)
+  verify-passed none = table-passed (v .profile) (length work) (sym checked ∙ none)
+
+  pub verify-fits : m ≡ 0 → VerifyFits v (length message) signature
   unfolding signatureLength
   verify-fits q =
-      let none = none-before shape work first own early between o e q in
+      let none = none-before first own early between before q in
       let within = table-passed (v .profile) (length work) (none .0) in
       let last : List (Bool × ℕ) = (passed v (leafIn signature), 14) ∷ [] in
       let beyond = leafBeyond (v .profile .height) (leafIn signature) in
@@ -83,64 +92,71 @@ module _ (v : Verifier) (message signature work : List ℕ) (o : Outcome)
       record {
         limits = within .limits;
         low = within .low;
-        table = within .room;
         short = short-text (length message) (text .0);
         long = exactly;
         front = omega (arith, exactly);
         small = lt-of-lt-of-le (leaf-within (v .profile .height) (leafIn signature) (leaf .0)) (pow-mono {j = 10} (within .low));
       }
 
-  -- the cause behind 7
-  abbrev differs : List (Bool × ℕ)
-  differs = (not (same (rootIn v message signature) (v .root)), 15) ∷ []
+  -- the causes behind the table
+  abbrev after : List (Bool × ℕ)
+  after = (leb (count shape) number, 7) ∷ (not (same (rootIn v message signature) (v .root)), 15) ∷ []
 
   -- all causes
-  causes : code ≡ firstCause (first ++ (own ++ ((leb (count shape) number, 7) ∷ differs)))
+  causes : code ≡ firstCause (first ++ (own ++ after))
   unfolding verifyCode causesBeforeRoot
-  causes = ap firstCause (append-assoc first (own ++ ((leb (count shape) number, 7) ∷ [])) differs)
+  causes = ap firstCause (append-assoc first (own ++ ((leb (count shape) number, 7) ∷ [])) ((not (same (rootIn v message signature) (v .root)), 15) ∷ []))
 
-  pub verify-refused : (x : Refusal) → o ≡ Refused x → Verifies v message signature work work (record { outcome = o; verifier = v; steps = 0 })
-  unfolding verifierAfter stepsMade
-  verify-refused x q =
-      let refused = refused-before shape work first own early between o e number differs code causes x q in
-      record { code = refused .answer; verifier = rw (refused .some); steps = rw (refused .some, refused .not-fifteen); table = refused .table }
+  -- the table is filled past the causes before 7
+  module _ {left : List ℕ} (filled : left ≡ cond (eqb m 0) (withTable shape work) work) where
+    table : left ≡ tableAfter code shape work
+    table = table-after first own early between before after (refl, (refl, tt)) causes shape work filled
 
-  -- the table is filled, and the number compared with the count
-  module _ (q : o ≡ Granted) {left : List ℕ} (filled : left ≡ withTable shape work) where
-    pub verify-seven : count shape ≤ number → Verifies v message signature work left (record { outcome = Refused NumberTooLarge; verifier = v; steps = 0 })
+    pub verify-refused : {o : Outcome} {x : Refusal} → outcomeCode o ≡ m → o ≡ Refused x → Verifies v message signature work left (record { outcome = o; verifier = v; steps = 0 })
     unfolding verifierAfter stepsMade
-    verify-seven h =
-        let refused = refused-by-seven shape work first own early between o e number differs code causes q h filled in
-        record { code = refused .answer; verifier = rw (refused .some); steps = rw (refused .some, refused .not-fifteen); table = refused .table }
+    verify-refused {o} {x} answer q =
+        let refused = refused-before first own early between before after (refl, (refl, tt)) causes (refused-number o m x answer q) in
+        record { code = answer ∙ refused .answer; verifier = rw (refused .some); steps = rw (refused .some, refused .not-fifteen); table = table }
 
-    -- the number's codeword in the row, in front of what else it has, with the root and the steps found over that row
-    module _ {n : ℕ} {row : List ℕ} (more : List ℕ) (same-number : n ≡ number) (below : number < count shape) (placed : row ≡ rowOf shape n ++ more)
-        {leaf steps : ℕ} {top : List ℕ} (own-leaf : leaf ≡ leafIn signature)
-        (climb : top
-        ≡ climbed (firstDomain (v .seed)) leaf (recovered (firstDomain (v .seed)) (shape .width) (shape .chains) leaf row (valuesIn (v .profile) signature)) (siblingsIn (v .profile) signature) (v .profile .height))
-        (made : steps ≡ stepsLeft (shape .width) (take (shape .chains) row)) where
-      top-recovered : top ≡ rootIn v message signature
-      unfolding rootIn recoveredRoot recoveredBy
-      top-recovered = climb ∙ rw (own-leaf, placed, same-number, recovered-row shape number more below (firstDomain (v .seed)) (valuesIn (v .profile) signature) (leafIn signature))
+    -- none of them holds, and the number is compared with the count
+    module _ (none : m ≡ 0) where
+      left-over : code ≡ firstCause after
+      left-over = granted-before first own early between before after (refl, (refl, tt)) causes none
 
-      steps-full : steps ≡ stepsOf shape number
-      unfolding stepsOf
-      steps-full = made ∙ rw (placed, same-number, steps-row shape number more below)
-
-      -- 15 or granted, as the comparison of the roots answers
-      compared : (b : Bool) → b ≡ same top (v .root) → code ≡ firstCause ((not b, 15) ∷ [])
-      compared b c = past-seven shape work first own early between o e number differs code causes q below ∙ rw (c, top-recovered)
-
-      pub verify-differs : {b : Bool} → b ≡ same top (v .root) → b ≡ false
-          → Verifies v message signature work left (record { outcome = Refused RootDiffers; verifier = v; steps = steps })
+      pub verify-seven : count shape ≤ number → Verifies v message signature work left (record { outcome = Refused NumberTooLarge; verifier = v; steps = 0 })
       unfolding verifierAfter stepsMade
-      verify-differs {b} c unequal =
-          let fifteen : code ≡ 15 = compared b c ∙ rw unequal in
-          record { code = sym fifteen; verifier = rw fifteen; steps = rw fifteen steps-full; table = table-left shape work 15 fifteen refl filled }
+      verify-seven h =
+          let seven : code ≡ 7 = left-over ∙ rw (le-leb (count shape) number h) in
+          record { code = sym seven; verifier = rw seven; steps = rw seven; table = table }
 
-      pub verify-granted : {b : Bool} {after : Verifier} → b ≡ same top (v .root) → b ≡ true → after ≡ taken v leaf
-          → Verifies v message signature work left (record { outcome = o; verifier = after; steps = steps })
-      unfolding verifierAfter stepsMade
-      verify-granted {b} c equal a =
-          let zero : code ≡ 0 = compared b c ∙ rw equal in
-          record { code = rw q (sym zero); verifier = rw zero (a ∙ ap (taken v) own-leaf); steps = rw zero steps-full; table = table-left shape work 0 zero refl filled }
+      -- the number's codeword in the row, in front of what else it has, with the root and the steps found over that row
+      module _ {k : ℕ} {row : List ℕ} (more : List ℕ) (same-number : k ≡ number) (below : number < count shape) (placed : row ≡ rowOf shape k ++ more)
+          {leaf steps : ℕ} {top : List ℕ} (own-leaf : leaf ≡ leafIn signature)
+          (climb : top
+          ≡ climbed (firstDomain (v .seed)) leaf (recovered (firstDomain (v .seed)) (shape .width) (shape .chains) leaf row (valuesIn (v .profile) signature)) (siblingsIn (v .profile) signature) (v .profile .height))
+          (made : steps ≡ stepsLeft (shape .width) (take (shape .chains) row)) where
+        top-recovered : top ≡ rootIn v message signature
+        unfolding rootIn recoveredRoot recoveredBy
+        top-recovered = climb ∙ rw (own-leaf, placed, same-number, recovered-row shape number more below (firstDomain (v .seed)) (valuesIn (v .profile) signature) (leafIn signature))
+
+        steps-full : steps ≡ stepsOf shape number
+        unfolding stepsOf
+        steps-full = made ∙ rw (placed, same-number, steps-row shape number more below)
+
+        -- 15 or granted, as the comparison of the roots answers
+        compared : (b : Bool) → b ≡ same top (v .root) → code ≡ firstCause ((not b, 15) ∷ [])
+        compared b c = left-over ∙ rw (lt-leb (count shape) number below, c, top-recovered)
+
+        pub verify-differs : {b : Bool} → b ≡ same top (v .root) → b ≡ false
+            → Verifies v message signature work left (record { outcome = Refused RootDiffers; verifier = v; steps = steps })
+        unfolding verifierAfter stepsMade
+        verify-differs {b} c unequal =
+            let fifteen : code ≡ 15 = compared b c ∙ rw unequal in
+            record { code = sym fifteen; verifier = rw fifteen; steps = rw fifteen steps-full; table = table }
+
+        pub verify-granted : {b : Bool} {o : Outcome} {after : Verifier} → b ≡ same top (v .root) → b ≡ true → o ≡ Granted → after ≡ taken v leaf
+            → Verifies v message signature work left (record { outcome = o; verifier = after; steps = steps })
+        unfolding verifierAfter stepsMade
+        verify-granted {b} c equal q a =
+            let zero : code ≡ 0 = compared b c ∙ rw equal in
+            record { code = rw q (sym zero); verifier = rw zero (a ∙ ap (taken v) own-leaf); steps = rw zero steps-full; table = table }

@@ -1,12 +1,10 @@
 // The checking cabinet: Check.
 ghost use mathlib.Core.Path.{_≡_};
-ghost use mathlib.Core.List.{_++_};
 ghost use Prim.Native.Nat.{_+_, _^_, _≤_, _<_};
 ghost use lib.ListN.{length, take};
-ghost use Rattle.refusal.specs.Code.{outcomeCode, firstCause};
+ghost use Rattle.refusal.specs.Code.{outcomeCode, thenFirst};
 ghost use Rattle.words.specs.Number.{value};
 ghost use Rattle.profile.specs.Checks.{InLimits};
-ghost use Rattle.counts.specs.Table.{tableCauses};
 ghost use Rattle.codewords.specs.Codeword.{stepsLeft};
 ghost use Rattle.tweak.specs.Tweak.{firstDomain};
 ghost use Rattle.chains.specs.Leaves.{recovered};
@@ -15,7 +13,7 @@ ghost use Rattle.message.specs.Message.{signatureLength};
 ghost use Rattle.verifier.specs.Verifying as spec;
 use chains::leaves::recover_key;
 use codewords::unranking::write_codeword;
-use counts::table::fill;
+use counts::table::fill_past;
 use counts::table::table_outcome;
 use message::message_number;
 use message::outside_text;
@@ -104,9 +102,9 @@ fn number_in(v: Verifier, message: &[u8], signature: &[u8]) -> [u32; 5]
     message_number(p, leaf, r, seed, root, message)
 }
 
-// The causes of Check before the table is filled. A signature of the wrong length is refused before its leaf counts.
-fn verify_outcome(v: Verifier, words: usize, text: usize, signature: &[u8]) -> Outcome
-    ensures { λ r. ⌜ outcomeCode r ≡ firstCause (tableCauses (v .profile) words ++ spec.orderCauses v text (now (signature .entry))) ⌝ }
+// The causes of Check between 5 and 7, behind an outcome. A signature of the wrong length is refused before its leaf counts.
+fn verify_outcome(checked: Outcome, v: Verifier, text: usize, signature: &[u8]) -> Outcome
+    ensures { λ r. ⌜ outcomeCode r ≡ thenFirst (outcomeCode checked) (spec.orderCauses v text (now (signature .entry))) ⌝ }
 {
     let p = v.profile;
     let height = p.height;
@@ -115,7 +113,6 @@ fn verify_outcome(v: Verifier, words: usize, text: usize, signature: &[u8]) -> O
     let other = signature.len() != signature_length(p);
     let beyond = leaf_beyond(height, leaf);
     let low = passed(v, leaf);
-    let checked = table_outcome(p, words);
     let worded = then(checked, outside, Refusal::MessageLength);
     let whole = then(worded, other, Refusal::SignatureLength);
     let inside = then(whole, beyond, Refusal::LeafOutOfRange);
@@ -142,15 +139,7 @@ fn recover_root(v: Verifier, leaf: u32, row: [u8; 40], signature: &[u8]) -> Foun
     let seed = v.seed;
     let h = first_hasher(seed);
     let siblings = 20 + 16 * (chains as usize);
-    let found = recover_key(
-        h,
-        Leaf(leaf),
-        row,
-        width,
-        chains,
-        &signature[20..siblings],
-        0,
-    );
+    let found = recover_key(h, Leaf(leaf), row, width, chains, &signature[20..siblings]);
     let key = found.key;
     let steps = found.steps;
     let root = climb_path(h, leaf, key, height, signature, siblings);
@@ -164,18 +153,19 @@ fn recover_root(v: Verifier, leaf: u32, row: [u8; 40], signature: &[u8]) -> Foun
 pub fn verify(v: Verifier, message: &[u8], signature: &[u8], table: &mut [u32]) -> Verdict
     ensures { λ answer. ⌜ spec.Verifies v (now (message .entry)) (now (signature .entry)) (now (table .entry)) (now (table .exit)) answer ⌝ }
 {
-    let outcome = verify_outcome(v, table.len(), message.len(), signature);
-    match outcome {
+    let p = v.profile;
+    let shape = p.shape;
+    let checked = table_outcome(p, table.len());
+    let early = verify_outcome(checked, v, message.len(), signature);
+    let count = fill_past(early, shape, table);
+    match early {
         Outcome::Refused(_) => Verdict {
-            outcome: outcome,
+            outcome: early,
             verifier: v,
             steps: 0,
         },
         Outcome::Granted => {
-            let p = v.profile;
-            let shape = p.shape;
             let number = number_in(v, message, signature);
-            let count = fill(shape, table);
             if less(number, count) {
                 let mut row = [0u8; 40];
                 write_codeword(shape, number, table, &mut row);
@@ -187,7 +177,7 @@ pub fn verify(v: Verifier, message: &[u8], signature: &[u8], table: &mut [u32]) 
                 let root = v.root;
                 if same_root(top, root) {
                     Verdict {
-                        outcome: outcome,
+                        outcome: early,
                         verifier: after,
                         steps: steps,
                     }

@@ -1,5 +1,5 @@
 -- `chains::leaves::recover_key` meets its contract. The invariant: the running hash has taken the first c tops, and the steps are those of the first c chains, at most 15 each.
-use mathlib.Core.Path.{_≡_}
+use mathlib.Core.Path.{_≡_, ap, _∙_}
 use mathlib.Core.List.{List}
 use Prim.Native.Nat.{ℕ, _*_, _-_, _<_, _≤_}
 use native.Mathlib.Omega.{arith}
@@ -14,7 +14,7 @@ use Rattle.codewords.proofs.Steps.{steps-next}
 use Rattle.chains.specs.Chains.{walked}
 use Rattle.chains.specs.Leaves.{recovered}
 use Rattle.chains.proofs.ChainLaws.{length-walked}
-use Rattle.chains.proofs.LeafLaws.{value-from, taken, no-top, top-more, all-tops}
+use Rattle.chains.proofs.LeafLaws.{taken, no-top, top-more, all-tops}
 use Rattle.chains.proofs.leaves.recover_key.Statement.{statement}
 use Rattle.chains.proofs.leaves.recover_key.Tie as tie
 
@@ -27,19 +27,19 @@ abbrev top : Domain → (leaf width : ℕ) (row values : List ℕ) (c : ℕ) →
 top d leaf width row values c = walked d leaf c (getD row c 0) (left width row c) (take 16 (drop (16 * c) values))
 
 abbrev Inv-loop : tie.InvT-loop
-Inv-loop h leaf width chains values at row hash₀ steps₀ c₀ hash steps c =
+Inv-loop h leaf width chains values row hash₀ steps₀ c₀ hash steps c =
     (c ≤ chains) × ((chains ≤ 40) × (width ≤ 16)) × (steps ≤ 15 * c) × (steps ≡ stepsLeft width (take c row))
-    × (hash ≡ hashed (taken (h .domain) (leaf .0) (top (h .domain) (leaf .0) width row (drop at values)) c))
+    × (hash ≡ hashed (taken (h .domain) (leaf .0) (top (h .domain) (leaf .0) width row values) c))
 
 abbrev μ-loop : tie.MeasureT-loop
-μ-loop h leaf width chains values at row hash₀ steps₀ c₀ hash steps c = chains - c
+μ-loop h leaf width chains values row hash₀ steps₀ c₀ hash steps c = chains - c
 
 loop-holds : tie.Need-loop-holds Inv-loop μ-loop
 unfolding stepsLeft
 loop-holds c =
     let addressed = c .before in
     let a = addressed .before .before .before .args in
-    (omega arith, omega arith, omega arith, omega arith, no-top (a .h .domain) (a .leaf .0) (top (a .h .domain) (a .leaf .0) (a .width) (a .t3) (drop (a .at) (now (a .values)))) (addressed .leaf-key-address .ensures) (c .begin .ensures))
+    (omega arith, omega arith, omega arith, omega arith, no-top (a .h .domain) (a .leaf .0) (top (a .h .domain) (a .leaf .0) (a .width) (a .t3) (now (a .values))) (addressed .leaf-key-address .ensures) (c .begin .ensures))
 
 add-steps : tie.Need-add-steps Inv-loop μ-loop
 add-steps c = let made = c .before .before .before .walk .ensures .1 in search needs
@@ -60,10 +60,10 @@ loop-again c =
     let d = a .h .domain in
     let i = at-loop .loop .c in
     let values = now (a .values) in
-    let each : (j : ℕ) → j < a .chains → length (top d (a .leaf .0) (a .width) (a .t3) (drop (a .at) values) j) ≡ 16 =
-    λ j low. length-walked d (a .leaf .0) j (getD (a .t3) j 0) (left (a .width) (a .t3) j) _ (length-value 16 values (a .at) (a .chains) j (start .pre .1 .3) low) in
-    let here = value-from d (a .leaf .0) i (getD (a .t3) i 0) (left (a .width) (a .t3) i) values (a .at) (read .read-16 .ensures) (walk .walk .ensures .0) in
-    (omega arith, omega arith, omega (arith, walk .walk .ensures .1), omega (arith, at-loop .loop .inv .3, walk .walk .ensures .1, steps-next (a .width) (a .t3) i (omega (arith, row-long known, start .pre .1 .2))), top-more d (a .leaf .0) (top d (a .leaf .0) (a .width) (a .t3) (drop (a .at) values)) i (a .chains) (start .pre .0 .long) (start .pre .1 .2) (omega arith) each (at-loop .loop .inv .4) here (absorbed .absorb .ensures))
+    let each : (j : ℕ) → j < a .chains → length (top d (a .leaf .0) (a .width) (a .t3) values j) ≡ 16 =
+    λ j low. length-walked d (a .leaf .0) j (getD (a .t3) j 0) (left (a .width) (a .t3) j) _ (length-value 16 values (a .chains) j (start .pre .1 .3) low) in
+    let here = walk .walk .ensures .0 ∙ ap (walked d (a .leaf .0) i (getD (a .t3) i 0) (left (a .width) (a .t3) i)) (read .read-16 .ensures) in
+    (omega arith, omega arith, omega (arith, walk .walk .ensures .1), omega (arith, at-loop .loop .inv .3, walk .walk .ensures .1, steps-next (a .width) (a .t3) i (omega (arith, row-long known, start .pre .1 .2))), top-more d (a .leaf .0) (top d (a .leaf .0) (a .width) (a .t3) values) i (a .chains) (start .pre .0 .long) (start .pre .1 .2) (omega arith) each (at-loop .loop .inv .4) here (absorbed .absorb .ensures))
 
 returns : tie.Need-returns Inv-loop μ-loop
 unfolding recovered
@@ -71,7 +71,7 @@ returns c =
     let at-loop = c .before .before in
     let a = at-loop .before .before .before .before .before .args in
     let all : at-loop .loop .c ≡ a .chains = omega arith in
-    (all-tops (a .h .domain) (a .leaf .0) (top (a .h .domain) (a .leaf .0) (a .width) (a .t3) (drop (a .at) (now (a .values)))) (at-loop .loop .c) (a .chains) all (at-loop .loop .inv .4) (c .end .ensures), rw all at (at-loop .loop .inv .3))
+    (all-tops (a .h .domain) (a .leaf .0) (top (a .h .domain) (a .leaf .0) (a .width) (a .t3) (now (a .values))) (at-loop .loop .c) (a .chains) all (at-loop .loop .inv .4) (c .end .ensures), rw all at (at-loop .loop .inv .3))
 
 pub recover-key-spec : {M : Type 1} → statement M
 recover-key-spec =
@@ -82,7 +82,7 @@ recover-key-spec =
     (λ c κs. search needs) (λ c κs. search needs)
     loop-holds
     (λ c. search needs) (λ c. search needs) (λ c. search needs) (λ c. search needs) (λ c. search needs)
-    (λ c. search needs) (λ c κs. search needs) (λ c. search needs) (λ c κs. search needs) (λ c κs. search needs)
+    (λ c κs. search needs) (λ c. search needs) (λ c κs. search needs) (λ c κs. search needs)
     add-steps
     (λ c. search needs) (λ c. search needs)
     loop-again
