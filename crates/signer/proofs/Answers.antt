@@ -1,28 +1,30 @@
 -- What Issue answers and leaves on each way out.
 use mathlib.Core.Path.{_≡_, refl, _∙_, sym}
-use mathlib.Core.Bool.{Bool}
+use mathlib.Core.Bool.{Bool, cond}
 use mathlib.Core.List.{List, [], _∷_, _++_}
 use Prim.Native.Nat.{ℕ, _^_, _<_, _≤_}
-use borrow.Author.Tests.{ltb-false}
-use lib.Dec.{ltb, leb}
-use lib.ListN.{length, drop}
-use Rattle.refusal.specs.Code.{outcomeCode, firstCause}
+use native.Mathlib.Nat.{zero-add}
+use borrow.Author.Tests.{ltb-false, le-leb, lt-leb}
+use lib.Dec.{ltb, leb, eqb}
+use lib.ListN.{length, take}
+use lib.Seq.{paste}
+use Rattle.refusal.specs.Code.{outcomeCode, firstCause, thenFirst}
 use Rattle.refusal.specs.declared.Refusal.{Refusal}
 use Rattle.refusal.specs.declared.Refusal.the-variants.{NumberTooLarge}
 use Rattle.refusal.specs.declared.Outcome.{Outcome}
 use Rattle.refusal.specs.declared.Outcome.the-variants.{Granted, Refused}
-use Rattle.refusal.proofs.Causes.{Avoids, none-here}
+use Rattle.refusal.proofs.Causes.{Avoids, none-here, refused-number, code-kept}
 use Rattle.words.specs.Bytes.{toBytes}
 use Rattle.profile.specs.Checks.{InLimits}
 use Rattle.profile.specs.declared.Shape.{Shape}
 use Rattle.profile.proofs.Limits.{leaf-within}
 use Rattle.counts.specs.Counts.{count}
-use Rattle.counts.specs.Table.{tableLength, withTable, tableCauses, leavesTable}
-use Rattle.counts.proofs.Answer.{table-left}
-use Rattle.counts.proofs.Room.{table-early, table-passed}
+use Rattle.counts.specs.Table.{withTable, tableCauses, leavesTable, tableAfter}
+use Rattle.counts.proofs.Room.{TablePassed, table-early, table-passed}
 use Rattle.codewords.specs.Operations.{rowOf}
-use Rattle.codewords.proofs.TableOperation.{none-before, refused-before, refused-by-seven, past-seven}
+use Rattle.codewords.proofs.TableOperation.{early-code, none-before, table-after, refused-before, granted-before}
 use Rattle.tweak.specs.Tweak.{firstDomain}
+use Rattle.tweak.specs.declared.Domain.{Domain}
 use Rattle.chains.specs.Leaves.{leafKeyOf, revealed}
 use Rattle.one_time.specs.Operations.{revealedBy}
 use Rattle.one_time.proofs.RowLaws.{revealed-row}
@@ -32,11 +34,10 @@ use Rattle.message.proofs.Fits.{short-text}
 use Rattle.signer.specs.Signing.{spent, advanced, keyNumber, signatureOf, orderCauses, signCode, keyAfter, outputAfter, Signs}
 use Rattle.signer.specs.declared.SigningKey.{SigningKey}
 
--- past the causes before the table: everything is within its limits, both slices have room, and the key has a leaf
-pub record SignFits (key : SigningKey) (words text bytes : ℕ) : Type 0 where
+-- past the causes before 7: everything is within its limits, the output has room, and the key has a leaf
+pub record SignFits (key : SigningKey) (text bytes : ℕ) : Type 0 where
   pub limits : InLimits (key .profile .shape)
   pub low : key .profile .height ≤ 10
-  pub table : tableLength (key .profile .shape) ≤ words
   pub short : text ≤ 200
   pub room : signatureLength (key .profile) ≤ bytes
   pub fresh : key .next < 2 ^ key .profile .height
@@ -47,8 +48,9 @@ pub number-is : (key : SigningKey) (r message : List ℕ) {root : List ℕ} {n :
 unfolding keyNumber
 number-is key r message above e = e ∙ rw above
 
-module _ (key : SigningKey) (r message work out : List ℕ) (o : Outcome)
-    (e : outcomeCode o ≡ firstCause (tableCauses (key .profile) (length work) ++ orderCauses key (length message) (length out))) where
+-- the causes before 7: those of the table, then those of the order
+module _ (key : SigningKey) (r message work out : List ℕ) {n m : ℕ} (checked : n ≡ firstCause (tableCauses (key .profile) (length work)))
+    (e : m ≡ thenFirst n (orderCauses key (length message) (length out))) where
   abbrev shape : Shape
   shape = key .profile .shape
 
@@ -67,10 +69,20 @@ module _ (key : SigningKey) (r message work out : List ℕ) (o : Outcome)
   between : Avoids leavesTable own
   between = (refl, (refl, (refl, tt)))
 
-  pub sign-fits : o ≡ Granted → SignFits key (length work) (length message) (length out)
+  before : m ≡ firstCause (first ++ own)
+  before = early-code first own early between checked e
+
+  -- what the first refuse is refused
+  pub sign-kept : n ≤ m
+  sign-kept = code-kept n m own e
+
+  pub sign-passed : n ≡ 0 → TablePassed (key .profile) (length work)
+  sign-passed none = table-passed (key .profile) (length work) (sym checked ∙ none)
+
+  pub sign-fits : m ≡ 0 → SignFits key (length message) (length out)
   unfolding spent
   sign-fits q =
-      let none = none-before shape work first own early between o e q in
+      let none = none-before first own early between before q in
       let passed = table-passed (key .profile) (length work) (none .0) in
       let last : List (Bool × ℕ) = (spent key, 12) ∷ [] in
       let size = ltb (length out) (signatureLength (key .profile)) in
@@ -80,46 +92,52 @@ module _ (key : SigningKey) (r message work out : List ℕ) (o : Outcome)
       record {
         limits = passed .limits;
         low = passed .low;
-        table = passed .room;
         short = short-text (length message) (text .0);
         room = ltb-false (length out) (signatureLength (key .profile)) (room .0);
         fresh = leaf-within (key .profile .height) (key .next) (left .0);
       }
 
+  -- the cause behind the table
+  abbrev after : List (Bool × ℕ)
+  after = (leb (count shape) (keyNumber key r message), 7) ∷ []
+
   -- all causes
-  causes : code ≡ firstCause (first ++ (own ++ ((leb (count shape) (keyNumber key r message), 7) ∷ [])))
+  causes : code ≡ firstCause (first ++ (own ++ after))
   unfolding signCode
   causes = refl
 
-  pub sign-refused : (x : Refusal) → o ≡ Refused x → Signs key r message work out work out (record { outcome = o; key = key })
-  unfolding keyAfter outputAfter
-  sign-refused x q =
-      let refused = refused-before shape work first own early between o e (keyNumber key r message) [] code causes x q in
-      record { code = refused .answer; key′ = rw (refused .some); table = refused .table; written = rw (refused .some) }
+  -- the table is filled past the causes before 7
+  module _ {left : List ℕ} (filled : left ≡ cond (eqb m 0) (withTable shape work) work) where
+    table : left ≡ tableAfter code shape work
+    table = table-after first own early between before after (refl, tt) causes shape work filled
 
-  -- the table is filled, and the number compared with the count
-  module _ (q : o ≡ Granted) {left : List ℕ} (filled : left ≡ withTable shape work) where
-    pub sign-seven : count shape ≤ keyNumber key r message → Signs key r message work out left out (record { outcome = Refused NumberTooLarge; key = key })
+    pub sign-refused : {o : Outcome} {x : Refusal} → outcomeCode o ≡ m → o ≡ Refused x → Signs key r message work out left out (record { outcome = o; key = key })
     unfolding keyAfter outputAfter
-    sign-seven h =
-        let refused = refused-by-seven shape work first own early between o e (keyNumber key r message) [] code causes q h filled in
-        record { code = refused .answer; key′ = rw (refused .some); table = refused .table; written = rw (refused .some) }
+    sign-refused {o} {x} answer q =
+        let refused = refused-before first own early between before after (refl, tt) causes (refused-number o m x answer q) in
+        record { code = answer ∙ refused .answer; key′ = rw (refused .some); table = table; written = rw (refused .some) }
 
-    -- the codeword in the row, in front of what else it has, and the signature written over it
-    pub sign-granted : {row siblings out′ : List ℕ} {after : SigningKey} {n : ℕ} (more : List ℕ) → n ≡ keyNumber key r message → keyNumber key r message < count shape
-        → row ≡ rowOf shape n ++ more → after ≡ advanced key
-        → siblings ≡ path (firstDomain (key .seed)) (leafKeyOf (firstDomain (key .seed)) (key .profile) (key .secret)) (key .profile .height) (key .next)
-        → out′
-        ≡ (toBytes 4 (key .next) ++ r ++ revealed (firstDomain (key .seed)) (key .secret) (key .next) (shape .chains) row ++ siblings)
-        ++ drop (signatureLength (key .profile)) out
-        → Signs key r message work out left out′ (record { outcome = o; key = after })
-    unfolding keyAfter outputAfter signatureOf revealedBy
-    sign-granted more same below placed a way w =
-        let none = past-seven shape work first own early between o e (keyNumber key r message) [] code causes q below in
-        let shown = revealed-row shape (keyNumber key r message) more below (firstDomain (key .seed)) (key .secret) (key .next) in
-        record {
-          code = rw q (sym none);
-          key′ = rw none a;
-          table = table-left shape work 0 none refl filled;
-          written = rw none (w ∙ rw (way, placed, same, shown));
-        }
+    -- none of them holds, and the number is compared with the count
+    module _ (none : m ≡ 0) where
+      left-over : code ≡ firstCause after
+      left-over = granted-before first own early between before after (refl, tt) causes none
+
+      pub sign-seven : count shape ≤ keyNumber key r message → Signs key r message work out left out (record { outcome = Refused NumberTooLarge; key = key })
+      unfolding keyAfter outputAfter
+      sign-seven h =
+          let seven : code ≡ 7 = left-over ∙ rw (le-leb (count shape) (keyNumber key r message) h) in
+          record { code = sym seven; key′ = rw seven; table = table; written = rw seven }
+
+      -- the codeword in the row, in front of what else it has, the signature made of it, and that copied to the output
+      pub sign-granted : {o : Outcome} {d : Domain} {row siblings out′ : List ℕ} {after′ : SigningKey} {k bytes : ℕ} (more made : List ℕ) → d ≡ firstDomain (key .seed) → o ≡ Granted → k ≡ keyNumber key r message → keyNumber key r message < count shape
+          → row ≡ rowOf shape k ++ more → after′ ≡ advanced key
+          → siblings ≡ path d (leafKeyOf d (key .profile) (key .secret)) (key .profile .height) (key .next)
+          → take (signatureLength (key .profile)) made
+          ≡ toBytes 4 (key .next) ++ r ++ revealed d (key .secret) (key .next) (shape .chains) row ++ siblings
+          → bytes ≡ signatureLength (key .profile) → out′ ≡ paste out 0 made bytes
+          → Signs key r message work out left out′ (record { outcome = o; key = after′ })
+      unfolding keyAfter outputAfter signatureOf revealedBy
+      sign-granted more made domain q same below placed a way m′ long w =
+          let zero : code ≡ 0 = left-over ∙ rw (lt-leb (count shape) (keyNumber key r message) below) in
+          let shown = revealed-row shape (keyNumber key r message) more below (firstDomain (key .seed)) (key .secret) (key .next) in
+          record { code = rw q (sym zero); key′ = rw zero a; table = table; written = rw zero (w ∙ rw (long, zero-add, m′, way, placed, same, domain, shown)) }

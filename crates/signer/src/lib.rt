@@ -3,11 +3,10 @@ ghost use mathlib.Core.Path.{_≡_};
 ghost use mathlib.Core.List.{_++_};
 ghost use Prim.Native.Nat.{_+_, _*_, _^_, _≤_, _<_};
 ghost use lib.ListN.{length, take, drop};
-ghost use Rattle.refusal.specs.Code.{outcomeCode, firstCause};
+ghost use Rattle.refusal.specs.Code.{outcomeCode, thenFirst};
 ghost use Rattle.words.specs.Bytes.{toBytes};
 ghost use Rattle.profile.specs.Checks.{InLimits};
-ghost use Rattle.counts.specs.Table.{tableCauses};
-ghost use Rattle.tweak.specs.Tweak.{firstDomain};
+ghost use Rattle.tweak.specs.Tweak.{Seeded};
 ghost use Rattle.chains.specs.Leaves.{leafKeyOf, revealed};
 ghost use Rattle.tree.specs.Tree.{rootOf, path};
 ghost use Rattle.message.specs.Message.{signatureLength};
@@ -15,7 +14,7 @@ ghost use Rattle.signer.specs.Signing as spec;
 use chains::leaves::key_of_leaf;
 use chains::leaves::write_values;
 use codewords::unranking::write_codeword;
-use counts::table::fill;
+use counts::table::fill_past;
 use counts::table::table_outcome;
 use message::message_number;
 use message::outside_text;
@@ -27,6 +26,7 @@ use refusal::Refusal;
 use refusal::then;
 use tree::climb_path;
 use tree::write_path;
+use tweak::Hasher;
 use tweak::Leaf;
 use tweak::first_hasher;
 use words::bytes::copy;
@@ -40,12 +40,6 @@ pub struct SigningKey {
     pub seed: [u8; 16],
     pub secret: [u8; 16],
     pub next: u32,
-}
-
-// What Issue answers, with the key that it hands back.
-pub struct Signed {
-    pub outcome: Outcome,
-    pub key: SigningKey,
 }
 
 // Whether a key has no leaf left.
@@ -74,15 +68,14 @@ fn advance(key: SigningKey) -> SigningKey
     }
 }
 
-// The causes of Issue before the table is filled.
-fn sign_outcome(key: SigningKey, words: usize, text: usize, bytes: usize) -> Outcome
-    ensures { λ r. ⌜ outcomeCode r ≡ firstCause (tableCauses (key .profile) words ++ spec.orderCauses key text bytes) ⌝ }
+// The causes of Issue between 5 and 7, behind an outcome.
+fn sign_outcome(checked: Outcome, key: SigningKey, text: usize, bytes: usize) -> Outcome
+    ensures { λ r. ⌜ outcomeCode r ≡ thenFirst (outcomeCode checked) (spec.orderCauses key text bytes) ⌝ }
 {
     let p = key.profile;
     let outside = outside_text(text);
     let short = bytes < signature_length(p);
     let used = spent(key);
-    let checked = table_outcome(p, words);
     let worded = then(checked, outside, Refusal::MessageLength);
     let roomy = then(worded, short, Refusal::OutputTooShort);
     then(roomy, used, Refusal::KeySpent)
@@ -106,57 +99,65 @@ struct Way {
     root: [u8; 16],
 }
 
-// The way up from the key's next leaf. Each leaf is hashed once: the siblings cover all other leaves, and the root is
-// climbed from them.
-fn way_up(key: SigningKey) -> Way
-    requires { ⌜ InLimits (key .profile .shape) × (key .profile .height ≤ 10) × (key .next < 2 ^ key .profile .height) ⌝ }
-    ensures siblings { λ r. ⌜ take (16 * key .profile .height) (r .siblings) ≡ path (firstDomain (key .seed)) (leafKeyOf (firstDomain (key .seed)) (key .profile) (key .secret)) (key .profile .height) (key .next) ⌝ }
-    ensures root { λ r. ⌜ r .root ≡ rootOf (firstDomain (key .seed)) (key .profile) (key .secret) ⌝ }
+// The way up from a leaf. Each leaf is hashed once: the siblings cover all other leaves, and the root is climbed from them.
+fn way_up(h: Hasher, p: Profile, secret: [u8; 16], leaf: u32) -> Way
+    requires { ⌜ Seeded h ⌝ }
+    requires { ⌜ InLimits (p .shape) × (p .height ≤ 10) × (leaf < 2 ^ p .height) ⌝ }
+    ensures siblings { λ r. ⌜ take (16 * p .height) (r .siblings) ≡ path (h .domain) (leafKeyOf (h .domain) p secret) (p .height) leaf ⌝ }
+    ensures root { λ r. ⌜ r .root ≡ rootOf (h .domain) p secret ⌝ }
 {
-    let p = key.profile;
     let shape = p.shape;
     let width = shape.width;
     let chains = shape.chains;
     let height = p.height;
-    let seed = key.seed;
-    let secret = key.secret;
-    let next = key.next;
-    let h = first_hasher(seed);
     let mut siblings = [0u8; 160];
-    write_path(h, secret, width, chains, height, next, &mut siblings);
-    let own = key_of_leaf(h, Leaf(next), secret, width, chains);
-    let root = climb_path(h, next, own, height, &siblings, 0);
+    write_path(h, secret, width, chains, height, leaf, &mut siblings);
+    let own = key_of_leaf(h, Leaf(leaf), secret, width, chains);
+    let root = climb_path(h, leaf, own, height, &siblings, 0);
     Way {
         siblings: siblings,
         root: root,
     }
 }
 
-// Writes a signature: the leaf, R, the values that the codeword shows, and the siblings.
-fn write_signature(key: SigningKey, r: [u8; 16], row: [u8; 40], siblings: [u8; 160], out: &mut [u8])
-    requires { ⌜ (key .profile .shape .chains ≤ 40) × (key .profile .height ≤ 10) × (signatureLength (key .profile) ≤ length (now out)) ⌝ }
-    ensures { λ _. ⌜ now (out .exit) ≡ (toBytes 4 (key .next) ++ r ++ revealed (firstDomain (key .seed)) (key .secret) (key .next) (key .profile .shape .chains) row ++ take (16 * key .profile .height) siblings) ++ drop (signatureLength (key .profile)) (now (out .entry)) ⌝ }
+// Makes a signature: the leaf, R, the values that the codeword shows, and the siblings. The longest has 820 bytes.
+fn make_signature(
+    h: Hasher,
+    p: Profile,
+    secret: [u8; 16],
+    leaf: u32,
+    r: [u8; 16],
+    row: [u8; 40],
+    siblings: [u8; 160],
+) -> [u8; 820]
+    requires { ⌜ Seeded h ⌝ }
+    requires { ⌜ (p .shape .chains ≤ 40) × (p .height ≤ 10) ⌝ }
+    ensures { λ made. ⌜ take (signatureLength p) made ≡ toBytes 4 leaf ++ r ++ revealed (h .domain) secret leaf (p .shape .chains) row ++ take (16 * p .height) siblings ⌝ }
 {
-    let p = key.profile;
     let shape = p.shape;
     let chains = shape.chains;
     let height = p.height;
-    let seed = key.seed;
-    let secret = key.secret;
-    let next = key.next;
-    let h = first_hasher(seed);
-    write_leaf(out, next);
-    write_16(out, 4, r);
-    write_values(h, Leaf(next), secret, row, chains, out, 20);
+    let mut made = [0u8; 820];
+    write_leaf(&mut made, leaf);
+    write_16(&mut made, 4, r);
+    write_values(h, Leaf(leaf), secret, row, chains, &mut made, 20);
     copy(
         &siblings,
         16 * (height as usize),
-        out,
+        &mut made,
         20 + 16 * (chains as usize),
     );
+    made
 }
 
-// Issue: the signature of the message, with the key's next leaf, into the first bytes of `signature`.
+// What Issue answers, with the key that it hands back.
+pub struct Signed {
+    pub outcome: Outcome,
+    pub key: SigningKey,
+}
+
+// Issue: the signature of the message, with the key's next leaf, into the first bytes of `signature`, which are written once
+// everything is decided.
 pub fn sign(
     key: SigningKey,
     r: [u8; 16],
@@ -166,29 +167,34 @@ pub fn sign(
 ) -> Signed
     ensures { λ answer. ⌜ spec.Signs key r (now (message .entry)) (now (table .entry)) (now (signature .entry)) (now (table .exit)) (now (signature .exit)) answer ⌝ }
 {
-    let outcome = sign_outcome(key, table.len(), message.len(), signature.len());
-    match outcome {
+    let p = key.profile;
+    let shape = p.shape;
+    let checked = table_outcome(p, table.len());
+    let early = sign_outcome(checked, key, message.len(), signature.len());
+    let count = fill_past(early, shape, table);
+    match early {
         Outcome::Refused(_) => Signed {
-            outcome: outcome,
+            outcome: early,
             key: key,
         },
         Outcome::Granted => {
-            let p = key.profile;
-            let shape = p.shape;
             let seed = key.seed;
+            let secret = key.secret;
             let next = key.next;
             let after = advance(key);
-            let way = way_up(key);
+            let h = first_hasher(seed);
+            let way = way_up(h, p, secret, next);
             let root = way.root;
             let number = message_number(p, next, r, seed, root, message);
-            let count = fill(shape, table);
             if less(number, count) {
                 let mut row = [0u8; 40];
                 write_codeword(shape, number, table, &mut row);
                 let siblings = way.siblings;
-                write_signature(key, r, row, siblings, signature);
+                let made = make_signature(h, p, secret, next, r, row, siblings);
+                let bytes = signature_length(p);
+                copy(&made, bytes, signature, 0);
                 Signed {
-                    outcome: outcome,
+                    outcome: early,
                     key: after,
                 }
             } else {

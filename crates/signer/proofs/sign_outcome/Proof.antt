@@ -1,32 +1,26 @@
--- `signer::sign_outcome` meets its contract: the causes of the table, and one after another those of the order.
+-- `signer::sign_outcome` meets its contract: those of the order one after another, behind the outcome that it is given.
 use mathlib.Core.Path.{refl, ap}
 use borrow.Author.Needs.{needs}
 use lib.Dec.{ltb}
-use Rattle.refusal.proofs.Causes.{chain-begins, chain-next}
-use Rattle.counts.specs.Table.{tableCauses}
-use Rattle.counts.proofs.Room.{table-numbered}
+use Rattle.refusal.specs.Code.{outcomeCode}
+use Rattle.refusal.proofs.Causes.{chain-behind, chain-next, chain-ends}
 use Rattle.signer.proofs.sign_outcome.Statement.{statement}
 use Rattle.signer.proofs.sign_outcome.Tie as tie
 
 returns : tie.Need-returns
 returns c =
-    let roomy = c .before in
-    let worded = roomy .before in
-    let tabled = worded .before in
-    let used = tabled .before in
-    let sized = used .before in
-    let told = sized .before in
-    let a = told .before .before .args in
-    let p = a .key .profile in
-    let first = chain-begins (tableCauses p (a .words)) (table-numbered p (a .words)) (tabled .table-outcome .ensures) in
-    let second = chain-next 16 refl first (told .outside-text .ensures) (worded .then .ensures) in
-    let third = chain-next 6 refl second (ap (ltb (a .bytes)) (sized .signature-length .ensures)) (roomy .then2 .ensures) in
-    chain-next 12 refl third (used .spent .ensures) (c .then3 .ensures) .answer
+    let used = c .before .before .before in
+    let a = used .before .before .before .before .args in
+    let so-far = outcomeCode (a .checked) in
+    let length-is = ap (ltb (a .bytes)) (used .before .signature-length .ensures) in
+    let text = chain-next 16 refl (chain-behind so-far) (used .before .before .outside-text .ensures) (c .before .before .then .ensures) in
+    let room = chain-next 6 refl text length-is (c .before .then2 .ensures) in
+    chain-ends so-far (chain-next 12 refl room (used .spent .ensures) (c .then3 .ensures))
 
 pub sign-outcome-spec : {M : Type 1} → statement M
 sign-outcome-spec =
     tie.close
     (tie.spec
     (λ c κs. search needs) (λ c κs. search needs) (λ c κs. search needs) (λ c κs. search needs) (λ c κs. search needs)
-    (λ c κs. search needs) (λ c κs. search needs)
+    (λ c κs. search needs)
     returns)

@@ -1,0 +1,60 @@
+-- `signer::make_signature` meets its contract: each part is written behind those before it.
+use mathlib.Core.Path.{_≡_, sym}
+use native.Mathlib.Omega.{arith}
+use borrow.Author.Needs.{needs}
+use lib.ListN.{length, replicate}
+use Rattle.words.specs.Bytes.{toBytes}
+use Rattle.words.proofs.ByteLaws.{length-toBytes}
+use Rattle.chains.specs.Leaves.{revealed}
+use Rattle.chains.proofs.LeafRecover.{length-revealed}
+use Rattle.message.specs.Message.{signatureLength}
+use Rattle.signer.proofs.Written.{signature-made}
+use Rattle.signer.proofs.make_signature.Statement.{statement}
+use Rattle.signer.proofs.make_signature.Tie as tie
+
+-- each part is written, and the next behind it
+abbrev second : tie.After-write-values → tie.After-write-16
+second v = v .before .before .before
+
+abbrev first : tie.After-write-values → tie.After-write-leaf
+first v = second v .before .before .before
+
+abbrev start : tie.After-write-values → tie.Start
+start v = first v .before .before .before
+
+longs : (s : tie.Start) → (length (s .args .r) ≡ 16) × (length (s .args .t7) ≡ 160)
+longs s = search needs
+
+slice-aggregate-copy : tie.Need-slice-aggregate-copy
+slice-aggregate-copy c = sym (longs (start (c .before .before)) .1)
+
+copy-requires : tie.Need-copy-requires
+copy-requires c κs =
+    let third = c .before .before .before in
+    let begin = start third in
+    (omega (arith, begin .pre, longs begin .1), omega (arith, begin .pre, first third .write-leaf .kept .0, second third .write-16 .kept .0, third .write-values .kept .1 .1 .1 .1 .1 .0))
+
+returns : tie.Need-returns
+unfolding signatureLength
+returns c =
+    let fourth = c .before in
+    let third = fourth .before .before .before .before in
+    let begin = start third in
+    let a = begin .args in
+    let d = a .h .domain in
+    signature-made (toBytes 4 (a .leaf)) (a .r) (revealed d (a .secret) (a .leaf) (a .p .shape .chains) (a .row))
+    (a .t7) (replicate 820 0) (a .p .shape .chains) (a .p .height)
+    (length-toBytes 4 (a .leaf)) (longs begin .0) (length-revealed d (a .secret) (a .leaf) (a .p .shape .chains) (a .row)) (omega (arith, begin .pre, longs begin .1))
+    (first third .write-leaf .ensures) (second third .write-16 .ensures) (third .write-values .ensures) (fourth .copy .ensures)
+
+pub make-signature-spec : {M : Type 1} → statement M
+make-signature-spec =
+    tie.close
+    (tie.spec
+    (λ c. search needs) (λ c κs. search needs) (λ c. search needs) (λ c κs. search needs) (λ c. search needs)
+    (λ c κs. search needs)
+    slice-aggregate-copy
+    (λ c. search needs) (λ c. search needs) (λ c. search needs) (λ c. search needs) (λ c. search needs)
+    (λ c. search needs)
+    copy-requires
+    returns)
