@@ -14,7 +14,7 @@ use Rattle.counts.specs.Counts.{count}
 use Rattle.counts.specs.Table.{tableAfter, countCauses, countCode, Counts, Holds}
 use Rattle.counts.specs.declared.table.Counted.{Counted}
 use Rattle.counts.proofs.Answer.{count-value, table-held}
-use Rattle.counts.proofs.Room.{count-limits}
+use Rattle.counts.proofs.Room.{count-passed}
 use Rattle.listing.specs.Listing.{rowLines, refusalLine, listingCode, answerTo, workAfter, tableWords}
 use Rattle.listing.specs.declared.Request.the-variants.{Asked}
 
@@ -44,7 +44,7 @@ module _ (p : Shape) (work left : List ℕ) (r : Counted) (answer : Counts p wor
     rows-answer = let none : listingCode p ≡ 0 = sym number-is ∙ ap outcomeCode granted in rw none
 
     pub granted-limits : InLimits p
-    granted-limits = count-limits p (length work) no-cause
+    granted-limits = count-passed p (length work) no-cause .0
 
     -- the number of lines
     pub lines-are : (lines : ℕ) → lines ≡ min (value (r .count)) 256 → lines ≡ min (count p) 256

@@ -43,6 +43,11 @@ pub record VerifyFits (v : Verifier) (text : ℕ) (signature : List ℕ) : Type 
   pub front : 20 ≤ length signature
   pub small : leafIn signature < 2 ^ 10
 
+-- what the comparison of the roots decides: 15 or granted
+pub record Judged (v : Verifier) (message signature work left : List ℕ) (b : Bool) (leaf steps : ℕ) : Type 0 where
+  pub differs : b ≡ false → Verifies v message signature work left (record { outcome = Refused RootDiffers; verifier = v; steps = steps })
+  pub agrees : {o : Outcome} {after : Verifier} → b ≡ true → o ≡ Granted → after ≡ taken v leaf → Verifies v message signature work left (record { outcome = o; verifier = after; steps = steps })
+
 -- the causes before 7: those of the table, then those of the order
 module _ (v : Verifier) (message signature work : List ℕ) {n m : ℕ} (checked : n ≡ firstCause (tableCauses (v .profile) (length work)))
     (e : m ≡ thenFirst n (orderCauses v (length message) signature)) where
@@ -147,16 +152,16 @@ module _ (v : Verifier) (message signature work : List ℕ) {n m : ℕ} (checked
         compared : (b : Bool) → b ≡ same top (v .root) → code ≡ firstCause ((not b, 15) ∷ [])
         compared b c = left-over ∙ rw (lt-leb (count shape) number below, c, top-recovered)
 
-        pub verify-differs : {b : Bool} → b ≡ same top (v .root) → b ≡ false
-            → Verifies v message signature work left (record { outcome = Refused RootDiffers; verifier = v; steps = steps })
+        pub verify-judged : {b : Bool} → b ≡ same top (v .root) → Judged v message signature work left b leaf steps
         unfolding verifierAfter stepsMade
-        verify-differs {b} c unequal =
-            let fifteen : code ≡ 15 = compared b c ∙ rw unequal in
-            record { code = sym fifteen; verifier = rw fifteen; steps = rw fifteen steps-full; table = table }
-
-        pub verify-granted : {b : Bool} {o : Outcome} {after : Verifier} → b ≡ same top (v .root) → b ≡ true → o ≡ Granted → after ≡ taken v leaf
-            → Verifies v message signature work left (record { outcome = o; verifier = after; steps = steps })
-        unfolding verifierAfter stepsMade
-        verify-granted {b} c equal q a =
-            let zero : code ≡ 0 = compared b c ∙ rw equal in
-            record { code = rw q (sym zero); verifier = rw zero (a ∙ ap (taken v) own-leaf); steps = rw zero steps-full; table = table }
+        verify-judged {b} c =
+            record {
+              differs =
+                  λ unequal.
+                  let fifteen : code ≡ 15 = compared b c ∙ rw unequal in
+                  record { code = sym fifteen; verifier = rw fifteen; steps = rw fifteen steps-full; table = table };
+              agrees =
+                  λ equal q a.
+                  let zero : code ≡ 0 = compared b c ∙ rw equal in
+                  record { code = rw q (sym zero); verifier = rw zero (a ∙ ap (taken v) own-leaf); steps = rw zero steps-full; table = table };
+            }

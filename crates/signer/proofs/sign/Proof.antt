@@ -17,20 +17,20 @@ use Rattle.signer.proofs.Answers.{SignFits, number-is, sign-kept, sign-
 use Rattle.signer.proofs.sign.Statement.{statement}
 use Rattle.signer.proofs.sign.Tie as tie
 
--- the outcome of the causes before 7, and the table filled past them
-abbrev early : tie.After-fill-past → tie.After-sign-outcome
-early f = f .before .before
-
+-- the outcome of the causes before 7
 abbrev start : tie.After-sign-outcome → tie.Start
 start e = e .before .before .before .before .before .before .before
 
 fill-past-requires : tie.Need-fill-past-requires
 fill-past-requires c κs =
-    let e = c .before in
-    let a = start e .args in
-    let checked = e .before .table-outcome .ensures in
-    let kept = sign-kept (a .key) (a .r) (now (a .message)) (now (a .table)) (now (a .signature)) checked (e .sign-outcome .ensures) in
-    λ none. let passed = sign-passed (a .key) (a .r) (now (a .message)) (now (a .table)) (now (a .signature)) checked (e .sign-outcome .ensures) (omega arith) in (passed .limits, passed .room)
+    let a = start (c .before) .args in
+    let checked = c .before .before .table-outcome .ensures in
+    let kept = sign-kept (a .key) (a .r) (now (a .message)) (now (a .table)) (now (a .signature)) checked (c .before .sign-outcome .ensures) in
+    λ none. let passed = sign-passed (a .key) (a .r) (now (a .message)) (now (a .table)) (now (a .signature)) checked (c .before .sign-outcome .ensures) (omega arith) in (passed .limits, passed .room)
+
+-- the table is filled past them
+abbrev early : tie.After-fill-past → tie.After-sign-outcome
+early f = f .before .before
 
 returns : tie.Need-returns
 returns c =

@@ -10,7 +10,7 @@ use Rattle.refusal.specs.Code.{outcomeCode}
 use Rattle.counts.specs.Counts.{count}
 use Rattle.counts.proofs.Answer.{count-value, table-held}
 use Rattle.verifier.specs.Verifying.{numberIn}
-use Rattle.verifier.proofs.Answers.{VerifyFits, verify-kept, verify-passed, verify-fits, verify-refused, verify-seven, verify-differs, verify-granted}
+use Rattle.verifier.proofs.Answers.{VerifyFits, verify-kept, verify-passed, verify-fits, verify-refused, verify-seven, Judged, verify-judged}
 use Rattle.verifier.proofs.verify.Statement.{statement}
 use Rattle.verifier.proofs.verify.Tie as tie
 
@@ -87,45 +87,39 @@ recover-root-requires : tie.Need-recover-root-requires
 recover-root-requires c κs = let known = fits (granted (below (c .before .before .before) .before)) in (known .limits, known .low, known .long)
 
 -- the roots are compared
-abbrev placed-for : tie.After-same-root → tie.After-write-codeword
-placed-for j = j .before .before .before .before .before .before .before
+abbrev found : tie.After-same-root → tie.After-recover-root
+found j = j .before .before .before
+
+abbrev placed : tie.After-same-root → tie.After-write-codeword
+placed j = found j .before .before .before .before
+
+abbrev way : tie.After-same-root → tie.After-enum-told2
+way j = granted (below (placed j) .before)
+
+judged : (j : tie.After-same-root)
+    → Judged (begun (way j) .args .v) (now (begun (way j) .args .message)) (now (begun (way j) .args .signature)) (now (begun (way j) .args .table)) (filled (way j) .fill-past .last .1 .1 .0)
+    (j .same-root .result) (found j .before .before .leaf-in .result) (found j .recover-root .result .steps)
+judged j =
+    let g = way j in
+    let e = early (filled g) in
+    let a = begun g .args in
+    let small = below (placed j) in
+    let root = found j .recover-root .ensures in
+    verify-judged (a .v) (now (a .message)) (now (a .signature)) (now (a .table)) (e .before .table-outcome .ensures) (e .verify-outcome .ensures) (filled g .fill-past .ensures .table) (none g)
+    _ (small .before .before .number-in .ensures) (ltb-true _ _ (sym (compared (small .before)) ∙ small .if1 .taken))
+    (placed j .write-codeword .ensures) (found j .before .before .leaf-in .ensures) (root .0) (root .1) (j .same-root .ensures)
 
 same-length-2 : tie.Need-same-length-2
-same-length-2 c = filled (granted (below (placed-for (c .before)) .before)) .fill-past .kept .1 .1 .0
+same-length-2 c = filled (way (c .before)) .fill-past .kept .1 .1 .0
 
 same-length-3 : tie.Need-same-length-3
-same-length-3 c = filled (granted (below (placed-for (c .before)) .before)) .fill-past .kept .1 .1 .0
+same-length-3 c = filled (way (c .before)) .fill-past .kept .1 .1 .0
 
 returns-2 : tie.Need-returns-2
-returns-2 c =
-    let judged = c .before in
-    let found = judged .before .before .before in
-    let taken = found .before in
-    let leafed = taken .before in
-    let placed = placed-for judged in
-    let less = below placed .before in
-    let g = granted less in
-    let e = early (filled g) in
-    let a = begun g .args in
-    verify-granted (a .v) (now (a .message)) (now (a .signature)) (now (a .table)) (e .before .table-outcome .ensures) (e .verify-outcome .ensures) (filled g .fill-past .ensures .table) (none g)
-    _ (less .before .number-in .ensures) (ltb-true _ _ (sym (compared less) ∙ below placed .if1 .taken))
-    (placed .write-codeword .ensures) (leafed .leaf-in .ensures) (found .recover-root .ensures .0) (found .recover-root .ensures .1) (judged .same-root .ensures)
-    (c .if2 .taken) (g .enum-told2 .given .1) (taken .take-leaf .ensures)
+returns-2 c = let j = c .before in judged j .agrees (c .if2 .taken) (way j .enum-told2 .given .1) (found j .before .take-leaf .ensures)
 
 returns-3 : tie.Need-returns-3
-returns-3 c =
-    let judged = c .before in
-    let found = judged .before .before .before in
-    let leafed = found .before .before in
-    let placed = placed-for judged in
-    let less = below placed .before in
-    let g = granted less in
-    let e = early (filled g) in
-    let a = begun g .args in
-    verify-differs (a .v) (now (a .message)) (now (a .signature)) (now (a .table)) (e .before .table-outcome .ensures) (e .verify-outcome .ensures) (filled g .fill-past .ensures .table) (none g)
-    _ (less .before .number-in .ensures) (ltb-true _ _ (sym (compared less) ∙ below placed .if1 .taken))
-    (placed .write-codeword .ensures) (leafed .leaf-in .ensures) (found .recover-root .ensures .0) (found .recover-root .ensures .1) (judged .same-root .ensures)
-    (c .if2 .left)
+returns-3 c = judged (c .before) .differs (c .if2 .left)
 
 returns-4 : tie.Need-returns-4
 returns-4 c =
