@@ -1,11 +1,11 @@
 -- What Spread answers and leaves, once the table is filled past the causes before 7.
 use mathlib.Core.Path.{_≡_, refl, _∙_, ap, sym}
-use mathlib.Core.Bool.{Bool, true, false, not}
+use mathlib.Core.Bool.{Bool, true, false, not, cond}
 use mathlib.Core.List.{List, [], _∷_, _++_}
 use Prim.Native.Nat.{ℕ, _<_, _≤_}
 use native.Mathlib.Omega.{arith}
 use borrow.Author.Tests.{ltb-true, ltb-false, leb-false, le-leb, lt-leb}
-use lib.Dec.{ltb, leb}
+use lib.Dec.{ltb, leb, eqb}
 use lib.ListN.{length}
 use Rattle.refusal.specs.Code.{firstCause, thenCode}
 use Rattle.refusal.specs.declared.Outcome.{Outcome}
@@ -13,7 +13,7 @@ use Rattle.refusal.proofs.Causes.{Avoids, none-here, code-kept}
 use Rattle.profile.specs.Checks.{InLimits}
 use Rattle.profile.specs.declared.Shape.{Shape}
 use Rattle.counts.specs.Counts.{count}
-use Rattle.counts.specs.Table.{tableLength, countCauses, leavesTable}
+use Rattle.counts.specs.Table.{tableLength, withTable, countCauses, leavesTable}
 use Rattle.counts.specs.Filling.{FillsPast}
 use Rattle.counts.proofs.Answer.{table-held}
 use Rattle.counts.proofs.Room.{count-early, count-passed}
@@ -61,16 +61,15 @@ module _ (p : Shape) (work row : List ℕ) {n m : ℕ} (counted : n ≡ firstCau
   pub unrank-passed : n ≡ 0 → InLimits p × (tableLength p ≤ length work)
   unrank-passed none = count-passed p (length work) (sym counted ∙ none)
 
-  module _ {left count′ : List ℕ} (fills : FillsPast m p work left count′) where
-    pub unrank-answers : {k : ℕ} {row′ : List ℕ} {r : Outcome} → PlacesPast m p k row row′ r → Unranks p k work row left row′ r
-    unfolding unrankCode
-    unrank-answers {k} places =
-        let seven : List (Bool × ℕ) = (leb (count p) k, 7) ∷ [] in
-        let answer = places .answer ∙ answer-after first own early (refl, tt) code seven (refl, tt) refl in
-        record { code = answer; table = table-after first own early (refl, tt) code seven (refl, tt) refl p work (fills .table); written = rw answer at (places .placed) }
+  pub unrank-answers : {k : ℕ} {left row′ : List ℕ} {r : Outcome} → left ≡ cond (eqb m 0) (withTable p work) work → PlacesPast m p k row row′ r → Unranks p k work row left row′ r
+  unfolding unrankCode
+  unrank-answers {k} filled places =
+      let seven : List (Bool × ℕ) = (leb (count p) k, 7) ∷ [] in
+      let answer = places .answer ∙ answer-after first own early (refl, tt) code seven (refl, tt) refl in
+      record { code = answer; table = table-after first own early (refl, tt) code seven (refl, tt) refl p work filled; written = rw answer at (places .placed) }
 
-    pub unrank-placeable : m ≡ 0 → Placeable p count′ left row
-    unrank-placeable none =
-        let before = none-before first own early (refl, tt) code none in
-        let room = ltb-false (length row) (p .chains) (none-here (ltb (length row) (p .chains)) 6 [] refl (before .1) .0) in
-        placeable work (count-passed p (length work) (before .0) .0) room fills none
+  pub unrank-placeable : {left counted′ : List ℕ} → FillsPast m p work left counted′ → m ≡ 0 → Placeable p counted′ left row
+  unrank-placeable fills none =
+      let before = none-before first own early (refl, tt) code none in
+      let room = ltb-false (length row) (p .chains) (none-here (ltb (length row) (p .chains)) 6 [] refl (before .1) .0) in
+      placeable work (count-passed p (length work) (before .0) .0) room fills none

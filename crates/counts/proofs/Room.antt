@@ -64,9 +64,8 @@ module _ (p : Shape) (words : ℕ) where
       let none = none-of-append (shapeCauses p) (short p words) (shape-numbered p) e in
       (in-limits p (none .0), ltb-false words (tableLength p) (none-here (ltb words (tableLength p)) 5 [] refl (none .1) .0))
 
--- a profile that passes its checks, with room for its table: Count passes, the profile is within its limits, and the table fits
+-- a profile that passes its checks, with room for its table: it is within its limits, and the table fits
 pub record TablePassed (p : Profile) (words : ℕ) : Type 0 where
-  pub counted : firstCause (countCauses (p .shape) words) ≡ 0
   pub limits : InLimits (p .shape)
   pub low : p .height ≤ 10
   pub room : tableLength (p .shape) ≤ words
@@ -86,7 +85,7 @@ module _ (p : Profile) (words : ℕ) where
       let passed = profile-passed p (none .0) in
       let counted : firstCause (countCauses (p .shape) words) ≡ 0 = none-then (shapeCauses (p .shape)) (short (p .shape) words) (passed .0) (shape-numbered (p .shape)) ∙ none .1 in
       let fits = count-passed (p .shape) words counted in
-      record { counted = counted; limits = fits .0; low = passed .1; room = fits .1 }
+      record { limits = fits .0; low = passed .1; room = fits .1 }
 
 -- the table of a shape within its limits is small
 pub table-small : (p : Shape) → InLimits p → (p .chains + 1) * (p .sum + 1) ≤ 24641

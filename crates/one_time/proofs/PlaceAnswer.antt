@@ -1,6 +1,6 @@
 -- What Reveal and Recover share, once the table is filled past the causes before 7: what is answered and left, and what that tells.
 use mathlib.Core.Path.{_≡_, refl, _∙_, ap, sym}
-use mathlib.Core.Bool.{Bool, false}
+use mathlib.Core.Bool.{Bool, false, cond}
 use mathlib.Core.List.{List, [], _∷_, _++_}
 use Prim.Native.Nat.{ℕ, _<_, _≤_}
 use native.Mathlib.Omega.{arith}
@@ -15,7 +15,7 @@ use Rattle.refusal.proofs.Causes.{Avoids, none-here, none-of-append, refused-nu
 use Rattle.profile.specs.Checks.{InLimits, leafBeyond}
 use Rattle.profile.specs.declared.Profile.{Profile}
 use Rattle.counts.specs.Counts.{count}
-use Rattle.counts.specs.Table.{tableCauses, leavesTable}
+use Rattle.counts.specs.Table.{withTable, tableCauses, leavesTable}
 use Rattle.counts.specs.Filling.{FillsPast}
 use Rattle.counts.proofs.Room.{TablePassed, table-early, table-numbered, table-passed}
 use Rattle.codewords.specs.Operations.{rowOf}
@@ -50,18 +50,18 @@ module _ (p : Profile) (work : List ℕ) (leaf : ℕ) (wrong : Bool) (size : ℕ
   pub place-passed : n ≡ 0 → TablePassed p (length work)
   place-passed none = table-passed p (length work) (sym checked ∙ none)
 
-  module _ {left count′ : List ℕ} (fills : FillsPast m (p .shape) work left count′) where
-    pub place-answers : {k : ℕ} {row row′ : List ℕ} {r : Outcome} → PlacesPast m (p .shape) k row row′ r → Places p leaf k wrong size work row left row′ r
-    unfolding placeCode
-    place-answers {k} places =
-        let seven : List (Bool × ℕ) = (leb (count (p .shape)) k, 7) ∷ [] in
-        let answer = places .answer ∙ answer-after first own early between code seven (refl, tt) refl in
-        record { code = answer; table = table-after first own early between code seven (refl, tt) refl (p .shape) work (fills .table); placed = rw answer at (places .placed) }
+  pub place-answers : {k : ℕ} {left row row′ : List ℕ} {r : Outcome} → left ≡ cond (eqb m 0) (withTable (p .shape) work) work → PlacesPast m (p .shape) k row row′ r
+      → Places p leaf k wrong size work row left row′ r
+  unfolding placeCode
+  place-answers {k} filled places =
+      let seven : List (Bool × ℕ) = (leb (count (p .shape)) k, 7) ∷ [] in
+      let answer = places .answer ∙ answer-after first own early between code seven (refl, tt) refl in
+      record { code = answer; table = table-after first own early between code seven (refl, tt) refl (p .shape) work filled; placed = rw answer at (places .placed) }
 
-    pub place-placeable : {row : List ℕ} → length row ≡ 40 → m ≡ 0 → Placeable (p .shape) count′ left row
-    place-placeable long none =
-        let limits = table-passed p (length work) (none-before first own early between code none .0) .limits in
-        placeable work limits (omega (arith, limits .few-chains)) fills none
+  pub place-placeable : {left counted row : List ℕ} → FillsPast m (p .shape) work left counted → length row ≡ 40 → m ≡ 0 → Placeable (p .shape) counted left row
+  place-placeable fills long none =
+      let limits = table-passed p (length work) (none-before first own early between code none .0) .limits in
+      placeable work limits (omega (arith, limits .few-chains)) fills none
 
 -- what a grant tells: no cause holds, and the codeword stands in front of the row
 pub record Grants (code : ℕ) (p : Profile) (n : ℕ) (wrong : Bool) (row row′ : List ℕ) : Type 0 where

@@ -27,7 +27,7 @@ returns c =
     let early = filled .before .before in
     let begin = start early in
     let a = begin .args in
-    place-answers (a .p) (now (a .table)) (a .leaf) (a .wrong) (code (a .refusal)) (begin .pre .0) (early .before .table-outcome .ensures) (early .early-outcome .ensures) (filled .fill-past .ensures) (placed .place-past .ensures)
+    place-answers (a .p) (now (a .table)) (a .leaf) (a .wrong) (code (a .refusal)) (begin .pre .0) (early .before .table-outcome .ensures) (early .early-outcome .ensures) (filled .fill-past .ensures .table) (placed .place-past .ensures)
 
 place-past-requires : tie.Need-place-past-requires
 place-past-requires c κs =

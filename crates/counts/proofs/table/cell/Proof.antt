@@ -1,15 +1,13 @@
 -- `counts::table::cell` meets its contract: the numbers read are those of the window, and the sum and the difference are exact.
 use mathlib.Core.Path.{_≡_, _∙_, ap}
-use Prim.Native.Nat.{ℕ, _+_, _-_, _*_, _<_, _≤_, zero-le}
+use Prim.Native.Nat.{ℕ, _+_, _-_, _*_, _<_, _≤_}
 use native.Mathlib.Omega.{arith}
 use borrow.Author.Needs.{needs}
 use denote.Ref.{now}
 use lib.ListN.{take, drop}
 use Rattle.words.specs.Number.{value}
-use Rattle.words.proofs.NumberLaws.{value-toWords-5}
 use Rattle.counts.specs.Counts.{D}
 use Rattle.words.specs.Limbs.{number}
-use Rattle.counts.proofs.CountLaws.{D-small}
 use Rattle.counts.proofs.NextCell.{row-start, row-small, above, grown-fits, grown, out-within, shrunk}
 use Rattle.counts.proofs.table.cell.Statement.{statement}
 use Rattle.counts.proofs.table.cell.Tie as tie
