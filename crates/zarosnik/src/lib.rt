@@ -36,22 +36,22 @@ fn returned(o: Outcome) -> u32
     refusal::outcome_code(o) as u32
 }
 
-fn shape(l: u8, w: u8, s: u16) -> Shape
+fn shape(l: u32, w: u32, s: u32) -> Shape
     ensures { λ r. ⌜ r ≡ shapeOf l w s ⌝ }
 {
     Shape {
-        chains: l as u32,
-        width: w as u32,
-        sum: s as u32,
+        chains: l,
+        width: w,
+        sum: s,
     }
 }
 
-fn profile(l: u8, w: u8, s: u16, h: u8) -> Profile
+fn profile(l: u32, w: u32, s: u32, h: u32) -> Profile
     ensures { λ r. ⌜ r ≡ profileOf l w s h ⌝ }
 {
     Profile {
         shape: shape(l, w, s),
-        height: h as u32,
+        height: h,
     }
 }
 
@@ -81,9 +81,9 @@ pub extern "C" fn zarosnik_hash(bytes: &[u8], digest: &mut [u8; 32]) -> u32
 // Count.
 #[no_mangle]
 pub extern "C" fn zarosnik_count(
-    l: u8,
-    w: u8,
-    s: u16,
+    l: u32,
+    w: u32,
+    s: u32,
     table: &mut [u32],
     number: &mut [u32; 5],
 ) -> u32
@@ -99,9 +99,9 @@ pub extern "C" fn zarosnik_count(
 // Spread.
 #[no_mangle]
 pub extern "C" fn zarosnik_unrank(
-    l: u8,
-    w: u8,
-    s: u16,
+    l: u32,
+    w: u32,
+    s: u32,
     number: &[u32; 5],
     table: &mut [u32],
     row: &mut [u8],
@@ -114,9 +114,9 @@ pub extern "C" fn zarosnik_unrank(
 // Gather.
 #[no_mangle]
 pub extern "C" fn zarosnik_rank(
-    l: u8,
-    w: u8,
-    s: u16,
+    l: u32,
+    w: u32,
+    s: u32,
     row: &[u8],
     table: &mut [u32],
     number: &mut [u32; 5],
@@ -133,10 +133,10 @@ pub extern "C" fn zarosnik_rank(
 // Leaf key.
 #[no_mangle]
 pub extern "C" fn zarosnik_leaf_key(
-    l: u8,
-    w: u8,
-    s: u16,
-    h: u8,
+    l: u32,
+    w: u32,
+    s: u32,
+    h: u32,
     seed: &[u8; 16],
     secret: &[u8; 16],
     leaf: u32,
@@ -154,10 +154,10 @@ pub extern "C" fn zarosnik_leaf_key(
 // Root.
 #[no_mangle]
 pub extern "C" fn zarosnik_root(
-    l: u8,
-    w: u8,
-    s: u16,
-    h: u8,
+    l: u32,
+    w: u32,
+    s: u32,
+    h: u32,
     seed: &[u8; 16],
     secret: &[u8; 16],
     root: &mut [u8; 16],
@@ -174,10 +174,10 @@ pub extern "C" fn zarosnik_root(
 // Reveal.
 #[no_mangle]
 pub extern "C" fn zarosnik_one_time_sign(
-    l: u8,
-    w: u8,
-    s: u16,
-    h: u8,
+    l: u32,
+    w: u32,
+    s: u32,
+    h: u32,
     seed: &[u8; 16],
     secret: &[u8; 16],
     leaf: u32,
@@ -201,10 +201,10 @@ pub extern "C" fn zarosnik_one_time_sign(
 // Recover.
 #[no_mangle]
 pub extern "C" fn zarosnik_one_time_recover(
-    l: u8,
-    w: u8,
-    s: u16,
-    h: u8,
+    l: u32,
+    w: u32,
+    s: u32,
+    h: u32,
     seed: &[u8; 16],
     leaf: u32,
     number: &[u32; 5],
@@ -226,10 +226,10 @@ pub extern "C" fn zarosnik_one_time_recover(
 // Issue.
 #[no_mangle]
 pub extern "C" fn zarosnik_sign(
-    l: u8,
-    w: u8,
-    s: u16,
-    h: u8,
+    l: u32,
+    w: u32,
+    s: u32,
+    h: u32,
     seed: &[u8; 16],
     secret: &[u8; 16],
     next: &mut u32,
@@ -256,10 +256,10 @@ pub extern "C" fn zarosnik_sign(
 // Check.
 #[no_mangle]
 pub extern "C" fn zarosnik_verify(
-    l: u8,
-    w: u8,
-    s: u16,
-    h: u8,
+    l: u32,
+    w: u32,
+    s: u32,
+    h: u32,
     seed: &[u8; 16],
     root: &[u8; 16],
     lowest: &mut u32,
@@ -287,10 +287,10 @@ pub extern "C" fn zarosnik_verify(
 // Read sheet.
 #[no_mangle]
 pub extern "C" fn zarosnik_read_sheet(
-    l: u8,
-    w: u8,
-    s: u16,
-    h: u8,
+    l: u32,
+    w: u32,
+    s: u32,
+    h: u32,
     sheet: &[u8],
     signature: &mut [u8],
     message: &mut [u8],
