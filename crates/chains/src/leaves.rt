@@ -19,10 +19,10 @@ use words::bytes::read_16;
 use words::bytes::write_16;
 
 // The leaf key. Each top goes into the hash as it is made.
-pub fn key_of_leaf(h: Hasher, leaf: Leaf, secret: [u8; 16], width: u32, chains: u32) -> [u8; 16]
+pub fn key_of_leaf(h: Hasher, leaf: Leaf, secret: &[u8; 16], width: u32, chains: u32) -> [u8; 16]
     requires { ⌜ Seeded h ⌝ }
     requires { ⌜ (1 ≤ width) × (chains ≤ 40) ⌝ }
-    ensures { λ r. ⌜ r ≡ leafKey (h .domain) secret width chains (leaf .0) ⌝ }
+    ensures { λ r. ⌜ r ≡ leafKey (h .domain) (now (secret .entry)) width chains (leaf .0) ⌝ }
 {
     let d = h.domain;
     let address = leaf_key_address(d, leaf);
@@ -41,7 +41,7 @@ pub fn key_of_leaf(h: Hasher, leaf: Leaf, secret: [u8; 16], width: u32, chains: 
 pub fn write_values(
     h: Hasher,
     leaf: Leaf,
-    secret: [u8; 16],
+    secret: &[u8; 16],
     row: [u8; 40],
     chains: u32,
     out: &mut [u8],
@@ -49,7 +49,7 @@ pub fn write_values(
 )
     requires { ⌜ Seeded h ⌝ }
     requires { ⌜ (chains ≤ 40) × (at + 16 * chains ≤ length (now out)) ⌝ }
-    ensures { λ _. ⌜ now (out .exit) ≡ take at (now (out .entry)) ++ revealed (h .domain) secret (leaf .0) chains row ++ drop (at + 16 * chains) (now (out .entry)) ⌝ }
+    ensures { λ _. ⌜ now (out .exit) ≡ take at (now (out .entry)) ++ revealed (h .domain) (now (secret .entry)) (leaf .0) chains row ++ drop (at + 16 * chains) (now (out .entry)) ⌝ }
 {
     let mut c: u32 = 0;
     while c < chains {

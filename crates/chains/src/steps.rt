@@ -12,13 +12,13 @@ use tweak::chain_step_address;
 use tweak::tweaked_hash;
 
 // The value at height 0, from the secret seed.
-fn chain_start(h: Hasher, leaf: Leaf, chain: Chain, secret: [u8; 16]) -> [u8; 16]
+fn chain_start(h: Hasher, leaf: Leaf, chain: Chain, secret: &[u8; 16]) -> [u8; 16]
     requires { ⌜ Seeded h ⌝ }
-    ensures { λ r. ⌜ r ≡ chainHead (h .domain) (leaf .0) (chain .0) secret ⌝ }
+    ensures { λ r. ⌜ r ≡ chainHead (h .domain) (leaf .0) (chain .0) (now (secret .entry)) ⌝ }
 {
     let d = h.domain;
     let address = chain_start_address(d, leaf, chain);
-    tweaked_hash(h, address, secret)
+    tweaked_hash(h, address, *secret)
 }
 
 // One step, by the height before it.
@@ -60,9 +60,9 @@ pub fn walk(h: Hasher, leaf: Leaf, chain: Chain, low: u32, high: u32, value: [u8
 }
 
 // The value of a chain at a height, from the secret seed.
-pub fn chain_value(h: Hasher, leaf: Leaf, chain: Chain, secret: [u8; 16], height: u32) -> [u8; 16]
+pub fn chain_value(h: Hasher, leaf: Leaf, chain: Chain, secret: &[u8; 16], height: u32) -> [u8; 16]
     requires { ⌜ Seeded h ⌝ }
-    ensures { λ r. ⌜ r ≡ chainValue (h .domain) secret (leaf .0) (chain .0) height ⌝ }
+    ensures { λ r. ⌜ r ≡ chainValue (h .domain) (now (secret .entry)) (leaf .0) (chain .0) height ⌝ }
 {
     let start = chain_start(h, leaf, chain, secret);
     let walked = walk(h, leaf, chain, 0, height, start);

@@ -4,6 +4,7 @@ use mathlib.Core.List.{List}
 use Prim.Native.Nat.{ℕ, _-_, _≤_}
 use native.Mathlib.Omega.{arith}
 use borrow.Author.Needs.{needs}
+use denote.Ref.{now}
 use Rattle.sha256.specs.Running.{hashed}
 use Rattle.tweak.specs.declared.Domain.{Domain}
 use Rattle.chains.specs.Chains.{chainValue}
@@ -28,7 +29,7 @@ loop-holds : tie.Need-loop-holds Inv-loop μ-loop
 loop-holds c =
     let addressed = c .before in
     let a = addressed .before .before .args in
-    (omega arith, no-top (a .h .domain) (a .leaf .0) (top (a .h .domain) (a .secret) (a .leaf .0) (a .width)) (addressed .leaf-key-address .ensures) (c .begin .ensures))
+    (omega arith, no-top (a .h .domain) (a .leaf .0) (top (a .h .domain) (now (a .secret)) (a .leaf .0) (a .width)) (addressed .leaf-key-address .ensures) (c .begin .ensures))
 
 loop-again : tie.Need-loop-again Inv-loop μ-loop
 loop-again c =
@@ -37,14 +38,14 @@ loop-again c =
     let start = at-loop .before .before .before .before in
     let a = start .args in
     let d = a .h .domain in
-    (omega arith, top-more d (a .leaf .0) (top d (a .secret) (a .leaf .0) (a .width)) (at-loop .loop .c) (a .chains) (start .pre .0 .long) (start .pre .1 .1) (omega arith) (λ i _. length-value d (a .leaf .0) i (a .secret) (a .width - 1)) (at-loop .loop .inv .1) (valued .chain-value .ensures) (c .absorb .ensures))
+    (omega arith, top-more d (a .leaf .0) (top d (now (a .secret)) (a .leaf .0) (a .width)) (at-loop .loop .c) (a .chains) (start .pre .0 .long) (start .pre .1 .1) (omega arith) (λ i _. length-value d (a .leaf .0) i (now (a .secret)) (a .width - 1)) (at-loop .loop .inv .1) (valued .chain-value .ensures) (c .absorb .ensures))
 
 returns : tie.Need-returns Inv-loop μ-loop
 unfolding leafKey
 returns c =
     let at-loop = c .before .before in
     let a = at-loop .before .before .before .before .args in
-    all-tops (a .h .domain) (a .leaf .0) (top (a .h .domain) (a .secret) (a .leaf .0) (a .width)) (at-loop .loop .c) (a .chains) (omega arith) (at-loop .loop .inv .1) (c .end .ensures)
+    all-tops (a .h .domain) (a .leaf .0) (top (a .h .domain) (now (a .secret)) (a .leaf .0) (a .width)) (at-loop .loop .c) (a .chains) (omega arith) (at-loop .loop .inv .1) (c .end .ensures)
 
 pub key-of-leaf-spec : {M : Type 1} → statement M
 key-of-leaf-spec =

@@ -30,7 +30,7 @@ abbrev μ-loop : tie.MeasureT-loop
 loop-holds : tie.Need-loop-holds Inv-loop μ-loop
 loop-holds c =
     let a = c .before .args in
-    (omega arith, refl, write-start (shown (a .h .domain) (a .secret) (a .leaf .0) (a .t4)) 16 (a .at) (now (a .out)))
+    (omega arith, refl, write-start (shown (a .h .domain) (now (a .secret)) (a .leaf .0) (a .t4)) 16 (a .at) (now (a .out)))
 
 loop-again : tie.Need-loop-again Inv-loop μ-loop
 loop-again c =
@@ -40,7 +40,7 @@ loop-again c =
     let start = at-loop .before .before in
     let a = start .args in
     let d = a .h .domain in
-    (omega arith, written .write-16 .kept .0 ∙ at-loop .loop .inv .1, write-next (shown d (a .secret) (a .leaf .0) (a .t4)) 16 (a .chains) (λ i _. length-value d (a .leaf .0) i (a .secret) (getD (a .t4) i 0)) (a .at) (now (a .out)) (start .pre .1 .1) (at-loop .loop .c) (omega arith) (valued .chain-value .ensures) (at-loop .loop .inv .2) (written .write-16 .ensures))
+    (omega arith, written .write-16 .kept .0 ∙ at-loop .loop .inv .1, write-next (shown d (now (a .secret)) (a .leaf .0) (a .t4)) 16 (a .chains) (λ i _. length-value d (a .leaf .0) i (now (a .secret)) (getD (a .t4) i 0)) (a .at) (now (a .out)) (start .pre .1 .1) (at-loop .loop .c) (omega arith) (valued .chain-value .ensures) (at-loop .loop .inv .2) (written .write-16 .ensures))
 
 same-length : tie.Need-same-length Inv-loop μ-loop
 same-length c = c .before .loop .inv .1
