@@ -41,7 +41,7 @@ pub fn parent(h: Hasher, height: u32, index: u32, left: [u8; 16], right: [u8; 16
 // A node of any height: each leaf below it is hashed once, and the calls in progress hold one value a height.
 pub fn node(
     h: Hasher,
-    secret: [u8; 16],
+    secret: &[u8; 16],
     width: u32,
     chains: u32,
     height: u32,
@@ -49,7 +49,7 @@ pub fn node(
 ) -> [u8; 16]
     requires { ⌜ Seeded h ⌝ }
     requires { ⌜ (1 ≤ width) × (chains ≤ 40) × (height ≤ 31) × (index < 2 ^ (31 - height)) ⌝ }
-    ensures { λ r. ⌜ r ≡ nodeAt (h .domain) (leafKey (h .domain) secret width chains) height index ⌝ }
+    ensures { λ r. ⌜ r ≡ nodeAt (h .domain) (leafKey (h .domain) (now (secret .entry)) width chains) height index ⌝ }
 {
     if height == 0 {
         return key_of_leaf(h, Leaf(index), secret, width, chains);
@@ -71,7 +71,7 @@ fn sibling(index: u32) -> u32
 // The siblings of the nodes from a leaf up to below the root, from the bottom.
 pub fn write_path(
     h: Hasher,
-    secret: [u8; 16],
+    secret: &[u8; 16],
     width: u32,
     chains: u32,
     height: u32,
@@ -80,7 +80,7 @@ pub fn write_path(
 )
     requires { ⌜ Seeded h ⌝ }
     requires { ⌜ (1 ≤ width) × (chains ≤ 40) × (height ≤ 10) × (leaf < 2 ^ height) × (16 * height ≤ length (now out)) ⌝ }
-    ensures { λ _. ⌜ now (out .exit) ≡ path (h .domain) (leafKey (h .domain) secret width chains) height leaf ++ drop (16 * height) (now (out .entry)) ⌝ }
+    ensures { λ _. ⌜ now (out .exit) ≡ path (h .domain) (leafKey (h .domain) (now (secret .entry)) width chains) height leaf ++ drop (16 * height) (now (out .entry)) ⌝ }
 {
     let mut index = leaf;
     let mut k: u32 = 0;
@@ -131,8 +131,8 @@ pub fn climb_path(
 }
 
 // Root.
-pub fn root(p: Profile, seed: [u8; 16], secret: [u8; 16]) -> TreeRoot
-    ensures { λ r. ⌜ Roots p seed secret r ⌝ }
+pub fn root(p: Profile, seed: [u8; 16], secret: &[u8; 16]) -> TreeRoot
+    ensures { λ r. ⌜ Roots p seed (now (secret .entry)) r ⌝ }
 {
     let outcome = check_profile(p);
     match outcome {

@@ -4,6 +4,7 @@ use native.Mathlib.Omega.{arith}
 use borrow.Author.Needs.{needs}
 use borrow.Fn.Kinds.{In}
 use borrow.Fn.PlainCycle.{Measures, is, falls, and}
+use denote.Ref.{now}
 use Rattle.chains.specs.Leaves.{leafKey}
 use Rattle.chains.proofs.leaves.key_of_leaf.Reads as key-of-leaf-reads
 use Rattle.tree.proofs.Indices.{index-small, child-within}
@@ -15,15 +16,15 @@ use Rattle.tree.proofs.parent.Reads as parent-reads
 use Rattle.tree.proofs.+node.{statement}
 use Rattle.tree.proofs.+node.Tie.{close}
 
-abbrev μ-node : Measures 0 node-kinds.ps ℕ
+abbrev μ-node : Measures 1 node-kinds.ps ℕ
 μ-node κs a = a .1 .1 .1 .1 .0
 
 -- what `node` is given at the measure t, and what a call of it asks below t
-abbrev node-at : ℕ → In 0 node-kinds.ps
-node-at t = and 0 node-kinds.ps (is 0 node-kinds.ps μ-node t) node.Pre
+abbrev node-at : ℕ → In 1 node-kinds.ps
+node-at t = and 1 node-kinds.ps (is 1 node-kinds.ps μ-node t) node.Pre
 
-abbrev node-below : ℕ → In 0 node-kinds.ps
-node-below t = and 0 node-kinds.ps (falls 0 node-kinds.ps _<_ μ-node t) node.Pre
+abbrev node-below : ℕ → In 1 node-kinds.ps
+node-below t = and 1 node-kinds.ps (falls 1 node-kinds.ps _<_ μ-node t) node.Pre
 
 -- what is known of the calls
 abbrev calls : ℕ → node-lts.Claims
@@ -46,7 +47,7 @@ module _ (t : ℕ) where
   returns : node-lts.Need-returns (calls t) (node-at t) node.Post
   returns c =
       let a = c .before .before .args in
-      node-leaf (a .h .domain) (leafKey (a .h .domain) (a .secret) (a .width) (a .chains)) (a .height) (a .index) (c .before .if1 .taken) (c .key-of-leaf .ensures)
+      node-leaf (a .h .domain) (leafKey (a .h .domain) (now (a .secret)) (a .width) (a .chains)) (a .height) (a .index) (c .before .if1 .taken) (c .key-of-leaf .ensures)
 
   sub-below : node-lts.Need-sub-below (calls t) (node-at t) node.Post
   sub-below c = search needs
@@ -74,7 +75,7 @@ module _ (t : ℕ) where
       let right = c .before in
       let left = right .before in
       let a = left .before .before .args in
-      node-above (a .h .domain) (leafKey (a .h .domain) (a .secret) (a .width) (a .chains)) (a .height) (a .index) (above (left .before)) (left .node .ensures) (right .node2 .ensures) (c .parent .ensures)
+      node-above (a .h .domain) (leafKey (a .h .domain) (now (a .secret)) (a .width) (a .chains)) (a .height) (a .index) (above (left .before)) (left .node .ensures) (right .node2 .ensures) (c .parent .ensures)
 
 pub +node-spec : {M : Type 1} → statement M
 +node-spec =

@@ -3,6 +3,7 @@ use mathlib.Core.List.{[]}
 use Prim.Native.Nat.{_-_}
 use native.Mathlib.Omega.{arith}
 use borrow.Author.Needs.{needs}
+use denote.Ref.{now}
 use lib.Pow.{pow-mono}
 use Rattle.refusal.proofs.Causes.{granted-none}
 use Rattle.profile.specs.Checks.{profileCauses}
@@ -24,7 +25,7 @@ returns : tie.Need-returns
 returns c =
     let checked = c .before .before in
     let a = checked .before .args in
-    root-refused (a .p) (a .seed) (a .secret) _ (checked .check-profile .ensures) _ (c .enum-told .given .1)
+    root-refused (a .p) (a .seed) (now (a .secret)) _ (checked .check-profile .ensures) _ (c .enum-told .given .1)
 
 returns-2 : tie.Need-returns-2
 returns-2 c =
@@ -32,7 +33,7 @@ returns-2 c =
     let granted = begun .before .before in
     let checked = granted .before .before in
     let a = checked .before .args in
-    root-granted (a .p) (a .seed) (a .secret) _ (checked .check-profile .ensures) _ (granted .enum-told2 .given .1) (rw (begun .first-hasher .ensures .0) at (c .node .ensures))
+    root-granted (a .p) (a .seed) (now (a .secret)) _ (checked .check-profile .ensures) _ (granted .enum-told2 .given .1) (rw (begun .first-hasher .ensures .0) at (c .node .ensures))
 
 pub root-spec : {M : Type 1} → statement M
 root-spec =

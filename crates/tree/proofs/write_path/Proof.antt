@@ -25,7 +25,7 @@ abbrev μ-loop : tie.MeasureT-loop
 loop-holds : tie.Need-loop-holds Inv-loop μ-loop
 loop-holds c =
     let a = c .before .args in
-    (omega arith, sym (div-one (a .leaf)), refl, path-start (a .h .domain) (leafKey (a .h .domain) (a .secret) (a .width) (a .chains)) (a .leaf) (now (a .out)))
+    (omega arith, sym (div-one (a .leaf)), refl, path-start (a .h .domain) (leafKey (a .h .domain) (now (a .secret)) (a .width) (a .chains)) (a .leaf) (now (a .out)))
 
 sibling-requires : tie.Need-sibling-requires Inv-loop μ-loop
 sibling-requires c κs =
@@ -51,7 +51,7 @@ loop-again c =
     let start = at-loop .before .before in
     let a = start .args in
     let place = at-loop .loop .inv .1 in
-    (omega arith, ap (λ (i : ℕ). i / 2) place ∙ half-place (a .leaf) (at-loop .loop .k), written .write-16 .kept .0 ∙ at-loop .loop .inv .2, path-next (a .h .domain) (leafKey (a .h .domain) (a .secret) (a .width) (a .chains)) (a .leaf) (now (a .out)) (length-leaf-key (a .h .domain) (a .secret) (a .width) (a .chains)) (a .height) (at-loop .loop .k) (at-loop .loop .index) (start .pre .1 .4) (omega arith) place (sided .sibling .ensures) (valued .node .ensures) (at-loop .loop .inv .3) (written .write-16 .ensures))
+    (omega arith, ap (λ (i : ℕ). i / 2) place ∙ half-place (a .leaf) (at-loop .loop .k), written .write-16 .kept .0 ∙ at-loop .loop .inv .2, path-next (a .h .domain) (leafKey (a .h .domain) (now (a .secret)) (a .width) (a .chains)) (a .leaf) (now (a .out)) (length-leaf-key (a .h .domain) (now (a .secret)) (a .width) (a .chains)) (a .height) (at-loop .loop .k) (at-loop .loop .index) (start .pre .1 .4) (omega arith) place (sided .sibling .ensures) (valued .node .ensures) (at-loop .loop .inv .3) (written .write-16 .ensures))
 
 same-length : tie.Need-same-length Inv-loop μ-loop
 same-length c = c .before .loop .inv .2
