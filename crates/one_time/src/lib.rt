@@ -80,8 +80,8 @@ fn place_row(
 }
 
 // Leaf key.
-pub fn leaf_key(p: Profile, seed: [u8; 16], secret: [u8; 16], leaf: u32) -> LeafKey
-    ensures { λ r. ⌜ LeafKeys p seed secret leaf r ⌝ }
+pub fn leaf_key(p: Profile, seed: [u8; 16], secret: &[u8; 16], leaf: u32) -> LeafKey
+    ensures { λ r. ⌜ LeafKeys p seed (now (secret .entry)) leaf r ⌝ }
 {
     let outcome = leaf_key_outcome(p, leaf);
     match outcome {
@@ -104,13 +104,13 @@ pub fn leaf_key(p: Profile, seed: [u8; 16], secret: [u8; 16], leaf: u32) -> Leaf
 pub fn one_time_sign(
     p: Profile,
     seed: [u8; 16],
-    secret: [u8; 16],
+    secret: &[u8; 16],
     leaf: u32,
     number: [u32; 5],
     table: &mut [u32],
     values: &mut [u8],
 ) -> Outcome
-    ensures { λ r. ⌜ Reveals p seed secret leaf (value number) (now (table .entry)) (now (values .entry)) (now (table .exit)) (now (values .exit)) r ⌝ }
+    ensures { λ r. ⌜ Reveals p seed (now (secret .entry)) leaf (value number) (now (table .entry)) (now (values .entry)) (now (table .exit)) (now (values .exit)) r ⌝ }
 {
     let shape = p.shape;
     let chains = shape.chains as usize;

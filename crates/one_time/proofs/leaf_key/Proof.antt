@@ -1,6 +1,7 @@
 -- `one_time::leaf_key` meets its contract: refused, the key is zero; granted, it is that of the leaf.
 use native.Mathlib.Omega.{arith}
 use borrow.Author.Needs.{needs}
+use denote.Ref.{now}
 use Rattle.one_time.proofs.Answers.{leaf-key-limits, leaf-key-refused, leaf-key-granted}
 use Rattle.one_time.proofs.leaf_key.Statement.{statement}
 use Rattle.one_time.proofs.leaf_key.Tie as tie
@@ -15,13 +16,13 @@ key-of-leaf-requires c κs =
 returns : tie.Need-returns
 returns c =
     let a = c .before .before .before .args in
-    leaf-key-refused (a .p) (a .leaf) _ (c .before .before .leaf-key-outcome .ensures) (a .seed) (a .secret) _ (c .enum-told .given .1)
+    leaf-key-refused (a .p) (a .leaf) _ (c .before .before .leaf-key-outcome .ensures) (a .seed) (now (a .secret)) _ (c .enum-told .given .1)
 
 returns-2 : tie.Need-returns-2
 returns-2 c =
     let g = c .before .before .before in
     let a = g .before .before .before .args in
-    leaf-key-granted (a .p) (a .leaf) _ (g .before .before .leaf-key-outcome .ensures) (a .seed) (a .secret) (g .enum-told2 .given .1) _ (rw (c .before .first-hasher .ensures .0) at (c .key-of-leaf .ensures))
+    leaf-key-granted (a .p) (a .leaf) _ (g .before .before .leaf-key-outcome .ensures) (a .seed) (now (a .secret)) (g .enum-told2 .given .1) _ (rw (c .before .first-hasher .ensures .0) at (c .key-of-leaf .ensures))
 
 pub leaf-key-spec : {M : Type 1} → statement M
 leaf-key-spec =

@@ -19,7 +19,7 @@ returns : tie.Need-returns
 returns c =
     let placed = c .before .before .before .before .before in
     let a = start placed .args in
-    reveal-refused (now (a .values)) (placed .place-row .ensures) (a .seed) (a .secret) (c .enum-told .given .1)
+    reveal-refused (now (a .values)) (placed .place-row .ensures) (a .seed) (now (a .secret)) (c .enum-told .given .1)
 
 returns-2 : tie.Need-returns-2
 returns-2 c =
@@ -27,7 +27,7 @@ returns-2 c =
     let state = written .before .before in
     let placed = state .before .before .before .before .before .before in
     let a = start placed .args in
-    reveal-granted (now (a .values)) (placed .place-row .ensures) (a .seed) (a .secret) (state .before .enum-told2 .given .1) (rw (state .first-hasher .ensures .0) at (written .write-values .ensures))
+    reveal-granted (now (a .values)) (placed .place-row .ensures) (a .seed) (now (a .secret)) (state .before .enum-told2 .given .1) (rw (state .first-hasher .ensures .0) at (written .write-values .ensures))
 
 pub one-time-sign-spec : {M : Type 1} → statement M
 one-time-sign-spec =
