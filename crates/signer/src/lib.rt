@@ -100,11 +100,11 @@ struct Way {
 }
 
 // The way up from a leaf. Each leaf is hashed once: the siblings cover all other leaves, and the root is climbed from them.
-fn way_up(h: Hasher, p: Profile, secret: [u8; 16], leaf: u32) -> Way
+fn way_up(h: Hasher, p: Profile, secret: &[u8; 16], leaf: u32) -> Way
     requires { ⌜ Seeded h ⌝ }
     requires { ⌜ InLimits (p .shape) × (p .height ≤ 10) × (leaf < 2 ^ p .height) ⌝ }
-    ensures siblings { λ r. ⌜ take (16 * p .height) (r .siblings) ≡ path (h .domain) (leafKeyOf (h .domain) p secret) (p .height) leaf ⌝ }
-    ensures root { λ r. ⌜ r .root ≡ rootOf (h .domain) p secret ⌝ }
+    ensures siblings { λ r. ⌜ take (16 * p .height) (r .siblings) ≡ path (h .domain) (leafKeyOf (h .domain) p (now (secret .entry))) (p .height) leaf ⌝ }
+    ensures root { λ r. ⌜ r .root ≡ rootOf (h .domain) p (now (secret .entry)) ⌝ }
 {
     let shape = p.shape;
     let width = shape.width;
@@ -124,7 +124,7 @@ fn way_up(h: Hasher, p: Profile, secret: [u8; 16], leaf: u32) -> Way
 fn make_signature(
     h: Hasher,
     p: Profile,
-    secret: [u8; 16],
+    secret: &[u8; 16],
     leaf: u32,
     r: [u8; 16],
     row: [u8; 40],
@@ -132,7 +132,7 @@ fn make_signature(
 ) -> [u8; 820]
     requires { ⌜ Seeded h ⌝ }
     requires { ⌜ (p .shape .chains ≤ 40) × (p .height ≤ 10) ⌝ }
-    ensures { λ made. ⌜ take (signatureLength p) made ≡ toBytes 4 leaf ++ r ++ revealed (h .domain) secret leaf (p .shape .chains) row ++ take (16 * p .height) siblings ⌝ }
+    ensures { λ made. ⌜ take (signatureLength p) made ≡ toBytes 4 leaf ++ r ++ revealed (h .domain) (now (secret .entry)) leaf (p .shape .chains) row ++ take (16 * p .height) siblings ⌝ }
 {
     let shape = p.shape;
     let chains = shape.chains;
@@ -183,14 +183,14 @@ pub fn sign(
             let next = key.next;
             let after = advance(key);
             let h = first_hasher(seed);
-            let way = way_up(h, p, secret, next);
+            let way = way_up(h, p, &secret, next);
             let root = way.root;
             let number = message_number(p, next, r, seed, root, message);
             if less(number, count) {
                 let mut row = [0u8; 40];
                 write_codeword(shape, number, table, &mut row);
                 let siblings = way.siblings;
-                let made = make_signature(h, p, secret, next, r, row, siblings);
+                let made = make_signature(h, p, &secret, next, r, row, siblings);
                 let bytes = signature_length(p);
                 copy(&made, bytes, signature, 0);
                 Signed {

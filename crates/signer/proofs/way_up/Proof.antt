@@ -1,5 +1,6 @@
 -- `signer::way_up` meets its contract: the siblings are written, and the climb along them ends at the root.
 use borrow.Author.Needs.{needs}
+use denote.Ref.{now}
 use Rattle.signer.proofs.WayLaws.{way-siblings, way-root}
 use Rattle.signer.proofs.way_up.Statement.{statement}
 use Rattle.signer.proofs.way_up.Tie as tie
@@ -11,7 +12,7 @@ returns c =
     let start = pathed .before .before .before in
     let a = start .args in
     let d = a .h .domain in
-    (way-siblings d (a .p) (a .secret) (a .leaf) _ (pathed .write-path .ensures), way-root d (a .p) (a .secret) (a .leaf) _ (start .pre .1 .2) (pathed .write-path .ensures) (keyed .key-of-leaf .ensures) (c .climb-path .ensures))
+    (way-siblings d (a .p) (now (a .secret)) (a .leaf) _ (pathed .write-path .ensures), way-root d (a .p) (now (a .secret)) (a .leaf) _ (start .pre .1 .2) (pathed .write-path .ensures) (keyed .key-of-leaf .ensures) (c .climb-path .ensures))
 
 pub way-up-spec : {M : Type 1} → statement M
 way-up-spec =
