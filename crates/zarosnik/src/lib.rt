@@ -144,7 +144,7 @@ pub extern "C" fn zarosnik_leaf_key(
 ) -> u32
     ensures { λ r. ⌜ LeafKeyCall (profileOf l w s h) (now (seed .entry)) (now (secret .entry)) leaf (now (key .exit)) r ⌝ }
 {
-    let made = leaf_key(profile(l, w, s, h), *seed, *secret, leaf);
+    let made = leaf_key(profile(l, w, s, h), *seed, secret, leaf);
     let found = made.key;
     *key = found;
     let outcome = made.outcome;
@@ -164,7 +164,7 @@ pub extern "C" fn zarosnik_root(
 ) -> u32
     ensures { λ r. ⌜ RootCall (profileOf l w s h) (now (seed .entry)) (now (secret .entry)) (now (root .exit)) r ⌝ }
 {
-    let made = tree::root(profile(l, w, s, h), *seed, *secret);
+    let made = tree::root(profile(l, w, s, h), *seed, secret);
     let found = made.root;
     *root = found;
     let outcome = made.outcome;
@@ -190,7 +190,7 @@ pub extern "C" fn zarosnik_one_time_sign(
     returned(one_time_sign(
         profile(l, w, s, h),
         *seed,
-        *secret,
+        secret,
         leaf,
         *number,
         table,
