@@ -55,7 +55,7 @@ fn rank(table: &mut [u32], row: &[u8]) {
 }
 
 fn leaf_key() {
-    let a = one_time::leaf_key(profile(), value(), value(), word());
+    let a = one_time::leaf_key(profile(), value(), &value(), word());
     let outcome = a.outcome;
     let key = a.key;
     outcome_is(outcome);
@@ -63,7 +63,7 @@ fn leaf_key() {
 }
 
 fn root() {
-    let a = tree::root(profile(), value(), value());
+    let a = tree::root(profile(), value(), &value());
     let outcome = a.outcome;
     let root = a.root;
     outcome_is(outcome);
@@ -74,7 +74,7 @@ fn reveal(table: &mut [u32], values: &mut [u8]) {
     outcome_is(one_time::one_time_sign(
         profile(),
         value(),
-        value(),
+        &value(),
         word(),
         number(),
         table,
