@@ -46,10 +46,9 @@ part-joinTo f k (suc n) each c more h =
     by (inl e) next = rw (e, drop-at (joinTo f n) (f n ++ more) (k * n) (length-joinTo f k n before)) (take-at (f n) more k (each n (omega arith)))
     by (inr low) next = next low
 
--- of n values of length k that stand in a list from `at` on, each is there whole
-pub length-value : (k : ℕ) (l : List ℕ) (at n c : ℕ) → at + k * n ≤ length l → c < n → length (take k (drop (k * c) (drop at l))) ≡ k
-length-value k l at n c fits h =
-    length-part (drop at l) (k * c) k (omega (arith, length-drop at l, mul-suc k c, mul-le-mul-left {m = suc c} {n = n} k h))
+-- of n values of length k that stand in a list one after another, each is there whole
+pub length-value : (k : ℕ) (l : List ℕ) (n c : ℕ) → k * n ≤ length l → c < n → length (take k (drop (k * c) l)) ≡ k
+length-value k l n c fits h = length-part l (k * c) k (omega (arith, mul-suc k c, mul-le-mul-left {m = suc c} {n = n} k h))
 
 -- of a slice that begins with the front and goes on as o, a part behind the front is written
 pub written-behind : (front v o : List ℕ) (m k : ℕ) {out out′ : List ℕ} → length front ≡ m → out ≡ front ++ drop m o → out′ ≡ take m out ++ v ++ drop (m + k) out

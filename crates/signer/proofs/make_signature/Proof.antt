@@ -2,6 +2,7 @@
 use mathlib.Core.Path.{_≡_, sym}
 use native.Mathlib.Omega.{arith}
 use borrow.Author.Needs.{needs}
+use denote.Ref.{now}
 use lib.ListN.{length, replicate}
 use Rattle.words.specs.Bytes.{toBytes}
 use Rattle.words.proofs.ByteLaws.{length-toBytes}
@@ -42,9 +43,9 @@ returns c =
     let begin = start third in
     let a = begin .args in
     let d = a .h .domain in
-    signature-made (toBytes 4 (a .leaf)) (a .r) (revealed d (a .secret) (a .leaf) (a .p .shape .chains) (a .row))
+    signature-made (toBytes 4 (a .leaf)) (a .r) (revealed d (now (a .secret)) (a .leaf) (a .p .shape .chains) (a .row))
     (a .t7) (replicate 820 0) (a .p .shape .chains) (a .p .height)
-    (length-toBytes 4 (a .leaf)) (longs begin .0) (length-revealed d (a .secret) (a .leaf) (a .p .shape .chains) (a .row)) (omega (arith, begin .pre, longs begin .1))
+    (length-toBytes 4 (a .leaf)) (longs begin .0) (length-revealed d (now (a .secret)) (a .leaf) (a .p .shape .chains) (a .row)) (omega (arith, begin .pre, longs begin .1))
     (first third .write-leaf .ensures) (second third .write-16 .ensures) (third .write-values .ensures) (fourth .copy .ensures)
 
 pub make-signature-spec : {M : Type 1} → statement M

@@ -61,17 +61,17 @@ advance-requires c κs =
     next-fits (begun g .args .key .next) (begun g .args .key .profile .height) (fits g .low) (fits g .fresh)
 
 way-up-requires : tie.Need-way-up-requires
-way-up-requires c κs = let known = fits (c .before .before .before .before) in (c .first-hasher .ensures .1, (known .limits, known .low, known .fresh))
+way-up-requires c κs = let known = fits (c .before .before .before .before .before) in (c .before .first-hasher .ensures .1, (known .limits, known .low, known .fresh))
 
 message-number-requires : tie.Need-message-number-requires
-message-number-requires c κs = fits (c .before .before .before .before .before .before) .short
+message-number-requires c κs = fits (c .before .before .before .before .before .before .before) .short
 
 -- the message number
 abbrev granted : tie.After-message-number → tie.After-enum-told2
-granted n = n .before .before .before .before .before .before .before
+granted n = n .before .before .before .before .before .before .before .before
 
 abbrev hasher : tie.After-message-number → tie.After-first-hasher
-hasher n = n .before .before .before
+hasher n = n .before .before .before .before
 
 number : (n : tie.After-message-number) → value (n .message-number .result) ≡ keyNumber (begun (granted n) .args .key) (begun (granted n) .args .r) (now (begun (granted n) .args .message))
 number n =
@@ -101,13 +101,13 @@ below w = w .before .before .before
 
 make-signature-requires : tie.Need-make-signature-requires
 make-signature-requires c κs =
-    let n = below (c .before .before) .before .before in
+    let n = below (c .before .before .before) .before .before in
     let known = fits (granted n) in
     (hasher n .first-hasher .ensures .1, (known .limits .few-chains, known .low))
 
 -- the signature is made
 abbrev placed : tie.After-make-signature → tie.After-write-codeword
-placed m = m .before .before .before
+placed m = m .before .before .before .before
 
 made-long : (m : tie.After-make-signature) → length (m .make-signature .result) ≡ 820
 made-long m = search needs
