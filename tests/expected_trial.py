@@ -4,10 +4,10 @@
     python3 tests/expected_trial.py --check DIR    succeeds where these files are exactly those
 
 The cases are the document's trial values, the published SHA-256 examples, some values for each
-operation, and what the C interface cannot be given: states of the running hash, and numbers of a
-profile that are larger than C's types. tests/interface.py has the breadth. Nothing here is taken
-from the program or from the library under test: digests of messages come from hashlib, and all else
-from the implementations in this folder, which are first held to hashlib and to lists of all rows.
+operation, and what the C interface cannot be given: states of the running hash. tests/interface.py
+has the breadth. Nothing here is taken from the program or from the library under test: digests of
+messages come from hashlib, and all else from the implementations in this folder, which are first held
+to hashlib and to lists of all rows.
 """
 
 import hashlib

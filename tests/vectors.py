@@ -11,7 +11,6 @@ tests/make_vectors.py, the page's worked values by tests/worked_order.py.
 """
 
 import argparse
-import ctypes
 import json
 import re
 import sys
@@ -34,16 +33,6 @@ BY_VALUE = ("l", "w", "s", "h", "leaf")
 
 def say(line):
     print(f"tests/vectors.py: {line}", flush=True)
-
-
-def load_wide(path):
-    """The library, with the four numbers of a profile passed in 32 bits: nothing is cut."""
-    library = load(path)
-    for operation in PROTOTYPES:
-        function = getattr(library, f"zarosnik_{operation}")
-        narrow = (ctypes.c_uint8, ctypes.c_uint16)
-        function.argtypes = [ctypes.c_uint32 if t in narrow else t for t in function.argtypes]
-    return library
 
 
 def memory_of(name, value):
@@ -180,7 +169,7 @@ def main():
         command("rt", "staticlib", "zarosnik")
     with tempfile.TemporaryDirectory() as folder:
         path = shared_object((options.archive or ARCHIVE).resolve(), folder)
-        sys.exit(0 if run(load_wide(path)) else 1)
+        sys.exit(0 if run(load(path)) else 1)
 
 
 if __name__ == "__main__":
