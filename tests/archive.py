@@ -2,23 +2,20 @@
 header's functions, it needs nothing from outside but functions that copy, fill and compare memory, and
 it has no writable data.
 
-    python3 tests/archive.py                    target/staticlib/libzarosnik.a
-    python3 tests/archive.py --archive FILE
+    python3 tests/archive.py                   proves the library and writes the archive first
+    python3 tests/archive.py --archive FILE    takes this one
 
 A compiler may put a call of memcpy, memmove, memset or memcmp wherever a program copies, fills or
 compares memory; every C library has these four, also one without an operating system.
 """
 
-import argparse
 import re
 import subprocess
 import sys
-from pathlib import Path
 
+from archived import archive_of, archive_parser
 from header import declared_functions, header_text
 
-ROOT = Path(__file__).resolve().parent.parent
-ARCHIVE = ROOT / "target" / "staticlib" / "libzarosnik.a"
 NEEDED = {"memcpy", "memmove", "memset", "memcmp"}
 
 
@@ -60,9 +57,7 @@ def complaints(archive):
 
 
 def main():
-    parser = argparse.ArgumentParser()
-    parser.add_argument("--archive", default=str(ARCHIVE))
-    archive = parser.parse_args().archive
+    archive = str(archive_of(archive_parser("Holds the archive to the header.").parse_args()))
     found = complaints(archive)
     if found:
         sys.exit("\n".join(f"tests/archive.py: {line}" for line in found))

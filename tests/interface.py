@@ -13,24 +13,20 @@ narrower parameters would cut to right ones or that are 2^31 or 2^32 - 1, with e
 past the named length of each slice, and orders signed and taken at every height of the tree.
 """
 
-import argparse
 import itertools
 import multiprocessing
-import subprocess
 import sys
 import tempfile
 import time
 from collections import Counter
-from pathlib import Path
 
 import signatures
+from archived import archive_of, archive_parser, shared_object
 from interface_calls import LENT, STATES, load
 from interface_cases import case, subsets, wide_numbers
 from interface_inputs import CAUSES
 from interface_memory import unguarded
 
-ROOT = Path(__file__).resolve().parent.parent
-ARCHIVE = ROOT / "target" / "staticlib" / "libzarosnik.a"
 COUNT = 12000
 PROGRESS_SECONDS = 5
 # The implementation keeps what it has hashed. After so many cases it is let go.
@@ -39,20 +35,6 @@ CASES_KEPT = 500
 
 def say(line, stream=sys.stdout):
     print(f"tests/interface.py: {line}", file=stream, flush=True)
-
-
-def command(*words):
-    made = subprocess.run(words, cwd=ROOT, capture_output=True, text=True)
-    if made.returncode:
-        sys.exit(f"tests/interface.py: failed: {words}\n{made.stdout}{made.stderr}")
-
-
-def shared_object(archive, folder):
-    """All of the archive, as something that Python can load."""
-    path = str(Path(folder) / "libzarosnik.so")
-    whole = ["-Wl,--whole-archive", str(archive), "-Wl,--no-whole-archive"]
-    command("gcc", "-shared", "-o", path, *whole)
-    return path
 
 
 class Met:
@@ -185,16 +167,14 @@ def run_apart(path, options):
 
 
 def main():
-    parser = argparse.ArgumentParser(description="Compares the C interface with tests/*.py.")
-    parser.add_argument("--archive", type=Path, help="take this one, build none")
+    parser = archive_parser("Compares the C interface with tests/*.py.")
     parser.add_argument("--seed", type=int, default=1)
     parser.add_argument("--count", type=int, default=COUNT, help="how many calls at least")
     parser.add_argument("--case", type=int, help="only the case with this number")
     options = parser.parse_args()
-    if options.archive is None:
-        command("rt", "staticlib", "zarosnik")
+    archive = archive_of(options)
     with tempfile.TemporaryDirectory() as folder:
-        path = shared_object((options.archive or ARCHIVE).resolve(), folder)
+        path = shared_object(archive, folder)
         sys.exit(1 if run_apart(path, options) else 0)
 
 

@@ -9,16 +9,14 @@ writes what it is to read only; changes a slice or a state where it refuses, for
 slice past its named length where it grants; or leaves an old answer where it refuses.
 """
 
-import argparse
 import ctypes
 import itertools
 import os
 import random
 import sys
 import tempfile
-from pathlib import Path
 
-from interface import ARCHIVE, command, shared_object
+from archived import archive_of, archive_parser, shared_object
 from interface_calls import BY_VALUE, LENT, PROTOTYPES, STATES, load
 from interface_cases import plan
 from interface_inputs import CAUSES, FAR
@@ -188,14 +186,10 @@ def seen_apart(library, operation, wrong):
 
 
 def main():
-    parser = argparse.ArgumentParser(description="Tries tests/interface.py on wrong functions.")
-    parser.add_argument("--archive", type=Path, help="take this one, build none")
-    archive = parser.parse_args().archive
-    if archive is None:
-        command("rt", "staticlib", "zarosnik")
+    archive = archive_of(archive_parser("Tries tests/interface.py on wrong functions.").parse_args())
     unseen, tried = [], 0
     with tempfile.TemporaryDirectory() as folder:
-        library = load(shared_object((archive or ARCHIVE).resolve(), folder))
+        library = load(shared_object(archive, folder))
         for operation in PROTOTYPES:
             if seen_apart(library, operation, None):
                 sys.exit(f"tests/interface_mutants.py: {operation} differs with nothing wrong")

@@ -1,14 +1,13 @@
 """Installs the library by tools/package, builds the examples against it with nothing but what
 pkg-config says, as C11 and as C++17, and runs them.
 
-    python3 tests/package.py                    target/staticlib/libzarosnik.a
-    python3 tests/package.py --archive FILE
+    python3 tests/package.py                   proves the library and writes the archive first
+    python3 tests/package.py --archive FILE    takes this one
 
 The installed folder is moved before it is used, and neither the repository nor its headers are on the
 compiler's path. Needs pkg-config.
 """
 
-import argparse
 import os
 import re
 import shlex
@@ -17,10 +16,9 @@ import sys
 import tempfile
 from pathlib import Path
 
+from archived import ROOT, archive_of, archive_parser
 from header import WARNINGS
 
-ROOT = Path(__file__).resolve().parent.parent
-ARCHIVE = ROOT / "target" / "staticlib" / "libzarosnik.a"
 COMPILERS = [["gcc", "-std=c11"], ["g++", "-std=c++17"]]
 INSTALLED = [
     "include/zarosnik.h",
@@ -103,9 +101,7 @@ def build_and_run(prefix, folder, search):
 
 
 def main():
-    parser = argparse.ArgumentParser()
-    parser.add_argument("--archive", type=Path, default=ARCHIVE)
-    archive = parser.parse_args().archive.resolve()
+    archive = archive_of(archive_parser("Builds against the installed library.").parse_args())
     with tempfile.TemporaryDirectory() as name:
         folder = Path(name)
         prefix = install(archive, folder)

@@ -1,7 +1,7 @@
 """Shows that in the archive's code no branch, no address and no system call depends on the secret seed,
 in Leaf key, Root, Reveal and Issue, but through the digest of the order, which is public.
 
-    python3 tests/secret_seed.py                   takes target/staticlib/libzarosnik.a
+    python3 tests/secret_seed.py                   proves the library and writes the archive first
     python3 tests/secret_seed.py --archive PATH    takes this archive
 
 Runs secret_seed.c under valgrind's memcheck with the secret seed marked as undefined. Memcheck must
@@ -14,7 +14,6 @@ It speaks of the compiled code that it ran, on the inputs of secret_seed.c. Anot
 run.
 """
 
-import argparse
 import re
 import shutil
 import subprocess
@@ -23,11 +22,11 @@ import tempfile
 from pathlib import Path
 
 import signatures
+from archived import archive_of, archive_parser
 from signatures import GATE, SigningKey
 from zarosnik import table_length
 
 TESTS = Path(__file__).resolve().parent
-ARCHIVE = TESTS.parent / "target" / "staticlib" / "libzarosnik.a"
 OPTIONS = "-std=c11 -D_POSIX_C_SOURCE=200809L -O1 -g -Wall -Wextra -Wpedantic -Werror".split()
 REPORTED = 9
 
@@ -116,15 +115,14 @@ def judge(told, output, report):
 
 
 def main():
-    parser = argparse.ArgumentParser(description="Follows the secret seed through the archive.")
-    parser.add_argument("--archive", type=Path, default=ARCHIVE)
-    options = parser.parse_args()
+    options = archive_parser("Follows the secret seed through the archive.").parse_args()
     lacking = missing()
     if lacking:
         say(f"left out, since {lacking} is missing")
         return
+    archive = archive_of(options)
     with tempfile.TemporaryDirectory() as folder:
-        program = build(options.archive.resolve(), folder)
+        program = build(archive, folder)
         for case, (output, report) in expected().items():
             told = run(program, case, folder)
             wrong = judge(told, output, report)

@@ -10,15 +10,13 @@ was painted before; a byte may come to be as it was painted, so it runs with two
 counted begins at the frame of the caller, and has the arguments and the return address in it.
 """
 
-import argparse
 import ctypes
 import re
 import sys
 import tempfile
 from collections import Counter
-from pathlib import Path
 
-from interface import ARCHIVE, ROOT, command
+from archived import ROOT, archive_of, archive_parser, shared_object
 from interface_calls import BY_VALUE, PROTOTYPES
 from sheets import right_sheet
 from signatures import GATE, Profile, signature_length
@@ -41,11 +39,8 @@ def bound():
 
 
 def built(archive, folder):
-    path = str(Path(folder) / "libstack.so")
     options = ["-std=c11", "-O2", "-fPIC", "-Wall", "-Wextra", "-Wpedantic", "-Werror"]
-    whole = ["-Wl,--whole-archive", str(archive), "-Wl,--no-whole-archive"]
-    command("gcc", "-shared", *options, "tests/stack.c", *whole, "-o", path)
-    library = ctypes.CDLL(path)
+    library = ctypes.CDLL(shared_object(archive, folder, *options, "tests/stack.c"))
     library.stack_taken.restype = ctypes.c_size_t
     return library
 
@@ -147,13 +142,9 @@ def measured(library, p):
 
 
 def main():
-    parser = argparse.ArgumentParser(description="Measures the stack of the C interface.")
-    parser.add_argument("--archive", type=Path, help="take this one, build none")
-    archive = parser.parse_args().archive
-    if archive is None:
-        command("rt", "staticlib", "zarosnik")
+    archive = archive_of(archive_parser("Measures the stack of the C interface.").parse_args())
     with tempfile.TemporaryDirectory() as folder:
-        library = built((archive or ARCHIVE).resolve(), folder)
+        library = built(archive, folder)
         taken = [measured(library, p) for p in PROFILES]
     if any(profile.keys() != PROTOTYPES.keys() for profile in taken):
         sys.exit("tests/stack.py: not every function was called")

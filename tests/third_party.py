@@ -21,7 +21,6 @@ org.bouncycastle.pqc.crypto.sphincsplus, parameters sha2_128f_simple and sha2_12
 rule of FIPS 205 and gives the same values.
 """
 
-import argparse
 import ctypes
 import hashlib
 import subprocess
@@ -31,11 +30,11 @@ from pathlib import Path
 
 import signatures
 import zarosnik
+from archived import archive_of, archive_parser, shared_object
 from signatures import Profile, signature_length
 from zarosnik import number_words, table_length
 
 TESTS = Path(__file__).resolve().parent
-ARCHIVE = TESTS.parent / "target" / "staticlib" / "libzarosnik.a"
 TRIAL = TESTS.parent / "crates" / "trial" / "stdout"
 
 # Public and secret seed.
@@ -156,10 +155,7 @@ class Library:
     """The functions of the archive. Numbers of a profile are passed in 32 bits."""
 
     def __init__(self, archive, folder):
-        path = str(Path(folder) / "libzarosnik.so")
-        whole = ["-Wl,--whole-archive", str(archive), "-Wl,--no-whole-archive"]
-        subprocess.run(["gcc", "-shared", "-o", path, *whole], check=True)
-        self.functions = ctypes.CDLL(path)
+        self.functions = ctypes.CDLL(shared_object(archive, folder))
 
     def call(self, name, *arguments):
         """Numbers, lengths (a `size_t`) and memory in order; the number that it answers with."""
@@ -295,15 +291,15 @@ def compute_anew(jar):
 
 
 def main():
-    parser = argparse.ArgumentParser(description="Compares with values that others have computed.")
-    parser.add_argument("--archive", type=Path, default=ARCHIVE)
+    parser = archive_parser("Compares with values that others have computed.")
     parser.add_argument("--jar", type=Path, help="Bouncy Castle's, to compute the values anew")
     options = parser.parse_args()
+    archive = archive_of(options)
     made = hold_implementation() + hold_trial()
     if options.jar:
         made += compute_anew(options.jar.resolve())
     with tempfile.TemporaryDirectory() as folder:
-        library = Library(options.archive.resolve(), folder)
+        library = Library(archive, folder)
         for hold in (hold_hash, hold_keys, hold_values, hold_order):
             made += hold(library)
     print(f"tests/third_party.py: {made} comparisons, no difference")

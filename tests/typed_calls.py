@@ -1,27 +1,25 @@
 """Runs every call of the second header, include/zarosnik_types.h, over the archive, as C11 and as
 C++17, and compares what it writes with the independent implementation.
 
-    python3 tests/typed_calls.py                    target/staticlib/libzarosnik.a
-    python3 tests/typed_calls.py --archive FILE
+    python3 tests/typed_calls.py                   proves the library and writes the archive first
+    python3 tests/typed_calls.py --archive FILE    takes this one
 
 tests/typed_calls.c makes the calls. What they take and must give is written here, as arrays, into a file
 expected.h that it includes. No two fields have the same value, so a call that exchanged two would show.
 """
 
-import argparse
 import subprocess
 import sys
 import tempfile
 from pathlib import Path
 
 import signatures
+from archived import ROOT, archive_of, archive_parser
 from header import COMPILERS, INCLUDE, WARNINGS
 from sheets import right_sheet
 from signatures import Profile, SigningKey
 from zarosnik import number_words, row_of, table_length, ways
 
-ROOT = Path(__file__).resolve().parent.parent
-ARCHIVE = ROOT / "target" / "staticlib" / "libzarosnik.a"
 # The gate's profile over a low tree.
 P = Profile(34, 16, 255, 2)
 SEED = bytes(range(0x30, 0x40))
@@ -84,16 +82,14 @@ def must(*command):
 
 
 def main():
-    parser = argparse.ArgumentParser()
-    parser.add_argument("--archive", default=str(ARCHIVE))
-    archive = parser.parse_args().archive
+    archive = archive_of(archive_parser("Runs the calls of the second header.").parse_args())
     source = str(ROOT / "tests" / "typed_calls.c")
     with tempfile.TemporaryDirectory() as folder:
         Path(folder, "expected.h").write_text(expected_header())
         program = str(Path(folder, "typed_calls"))
         options = [*WARNINGS, "-O2", f"-I{INCLUDE}", f"-I{folder}", "-o", program]
         for compiler in COMPILERS:
-            must(*compiler, *options, source, "-x", "none", archive)
+            must(*compiler, *options, source, "-x", "none", str(archive))
             must(program)
     print(f"typed calls: every call as expected, compiled by {', '.join(c[0] for c in COMPILERS)}")
 

@@ -10,15 +10,13 @@ gate's if it were cut. The vectors themselves are held to the independent implem
 tests/make_vectors.py, the page's worked values by tests/worked_order.py.
 """
 
-import argparse
 import json
 import re
 import sys
 import tempfile
 from collections import Counter
-from pathlib import Path
 
-from interface import ARCHIVE, command, shared_object
+from archived import archive_of, archive_parser, shared_object
 from interface_calls import PROTOTYPES, Call, load
 from interface_memory import Memory, words_memory
 from make_vectors import FAMILIES, FOLDER
@@ -162,14 +160,9 @@ def run(library):
 
 
 def main():
-    parser = argparse.ArgumentParser(description="Runs the test vectors through the C interface.")
-    parser.add_argument("--archive", type=Path, help="take this one, build none")
-    options = parser.parse_args()
-    if options.archive is None:
-        command("rt", "staticlib", "zarosnik")
+    archive = archive_of(archive_parser("Runs the test vectors through the C interface.").parse_args())
     with tempfile.TemporaryDirectory() as folder:
-        path = shared_object((options.archive or ARCHIVE).resolve(), folder)
-        sys.exit(0 if run(load(path)) else 1)
+        sys.exit(0 if run(load(shared_object(archive, folder))) else 1)
 
 
 if __name__ == "__main__":
