@@ -1,5 +1,6 @@
--- What numbers written in bytes and in words mean, and values joined.
+-- What numbers written in bytes and in words mean, their order, and values joined.
 pub mod Bytes
 pub mod Joined
 pub mod Limbs
 pub mod Number
+pub mod Order

@@ -10,6 +10,8 @@ use lib.ListN.{replicate}
 use Rattle.refusal.specs.Code.{outcomeCode}
 use Rattle.refusal.specs.declared.Outcome.{Outcome}
 use Rattle.words.specs.Number.{value}
+use Rattle.words.specs.Order.{orderCode, Compares}
+use Rattle.words.specs.declared.number.Compared.{Compared}
 use Rattle.sha256.specs.Digest.{digest}
 use Rattle.sha256.specs.Running.{started, addCode}
 use Rattle.profile.specs.declared.Shape.{Shape}
@@ -70,6 +72,14 @@ pub record RankCall (p : Shape) (row work work′ number′ : List ℕ) (r : ℕ
   pub ranks : Ranks p row work work′ answer
   pub returned : r ≡ outcomeCode (answer .outcome)
   pub written : number′ ≡ answer .number
+
+-- Compare, which nothing refuses (document 02, point 2): the number of the order, and the pairs looked at
+pub record CompareCall (first second : List ℕ) (order′ looked′ r : ℕ) : Type 0 where
+  pub answer : Compared
+  pub compares : Compares first second answer
+  pub returned : r ≡ 0
+  pub order-written : order′ ≡ orderCode (answer .order)
+  pub looked-written : looked′ ≡ answer .looked
 
 -- Leaf key
 pub record LeafKeyCall (p : Profile) (seed secret : List ℕ) (leaf : ℕ) (key′ : List ℕ) (r : ℕ) : Type 0 where

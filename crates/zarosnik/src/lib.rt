@@ -10,7 +10,7 @@ ghost use lib.ListN.{replicate};
 ghost use Rattle.refusal.specs.Code.{outcomeCode};
 ghost use Rattle.sha256.specs.Digest.{digest as digestOf};
 ghost use Rattle.sha256.specs.Running.{started, addCode, Adds};
-ghost use Rattle.zarosnik.specs.Interface.{shapeOf, profileOf, signingKeyOf, verifierOf, HashCall, CountCall, UnrankCall, RankCall, LeafKeyCall, RootCall, RevealCall, RecoverCall, SignCall, VerifyCall, ReadSheetCall};
+ghost use Rattle.zarosnik.specs.Interface.{shapeOf, profileOf, signingKeyOf, verifierOf, HashCall, CountCall, UnrankCall, RankCall, CompareCall, LeafKeyCall, RootCall, RevealCall, RecoverCall, SignCall, VerifyCall, ReadSheetCall};
 use codewords::ranking::rank;
 use codewords::unrank;
 use counts::table::codeword_count;
@@ -28,6 +28,8 @@ use signer::sign;
 use tree::root;
 use verifier::Verifier;
 use verifier::verify;
+use words::number::compare;
+use words::number::order_code;
 
 // The code that a call returns.
 fn returned(o: Outcome) -> u32
@@ -128,6 +130,23 @@ pub extern "C" fn zarosnik_rank(
     *number = found;
     let outcome = ranked.outcome;
     returned(outcome)
+}
+
+// Compare.
+#[no_mangle]
+pub extern "C" fn zarosnik_compare(
+    first: &[u32; 5],
+    second: &[u32; 5],
+    order: &mut u32,
+    looked: &mut u32,
+) -> u32
+    ensures { λ r. ⌜ CompareCall (now (first .entry)) (now (second .entry)) (now (order .exit)) (now (looked .exit)) r ⌝ }
+{
+    let compared = compare(*first, *second);
+    let found = compared.order;
+    *order = order_code(found);
+    *looked = compared.looked;
+    0
 }
 
 // Leaf key.
