@@ -22,8 +22,9 @@
  *     function. Those numbers are enum zarosnik_outcome.
  *   - l, w, s and h may be any uint32_t. Nothing of them is ever cut: a value outside its range is refused by its
  *     number, 1 to 4.
- *   - An answer (digest, number, key, root, steps, message_written, line) is written by every call: the value where
- *     granted, zero where refused. Two differ: steps of zarosnik_verify after 15, line of zarosnik_read_sheet after 17.
+ *   - An answer (digest, number, order, looked, key, root, steps, message_written, line) is written by every call: the
+ *     value where granted, zero where refused. Two differ: steps of zarosnik_verify after 15, line of
+ *     zarosnik_read_sheet after 17.
  *   - A state (next_leaf, lowest_leaf) changes only where the call is granted.
  *   - A lent slice (table, row, values, signature, message) is untouched by a refusal, except that 7 and 15 leave the
  *     table of counts in the work slice `table`, as every granted call with a work slice does. What lies past the
@@ -59,10 +60,10 @@
  */
 #define ZAROSNIK_VERSION_MAJOR 0
 #define ZAROSNIK_VERSION_MINOR 1
-#define ZAROSNIK_VERSION_PATCH 0
+#define ZAROSNIK_VERSION_PATCH 1
 #define ZAROSNIK_VERSION \
     (ZAROSNIK_VERSION_MAJOR * 1000000 + ZAROSNIK_VERSION_MINOR * 1000 + ZAROSNIK_VERSION_PATCH)
-#define ZAROSNIK_VERSION_STRING "0.1.0"
+#define ZAROSNIK_VERSION_STRING "0.1.1"
 
 /* The compiler warns where the outcome of a call is not looked at: an order must not be carried out, nor a signature
  * handed out, without it. */
@@ -150,6 +151,13 @@ enum zarosnik_outcome {
     ZAROSNIK_REFUSED_HASH_TOO_LONG = 18
 };
 
+/* How the first of two numbers stands to the second: what zarosnik_compare writes to order. */
+enum zarosnik_order {
+    ZAROSNIK_LESS = 0,
+    ZAROSNIK_EQUAL = 1,
+    ZAROSNIK_GREATER = 2
+};
+
 /* What an outcome means, in the words of docs/INTERFACE.md. Not in the archive, and so not proved. */
 static inline const char *zarosnik_outcome_text(uint32_t outcome)
 {
@@ -235,6 +243,22 @@ uint32_t zarosnik_unrank(uint32_t l, uint32_t w, uint32_t s, const uint32_t numb
 ZAROSNIK_NODISCARD
 uint32_t zarosnik_rank(uint32_t l, uint32_t w, uint32_t s, const uint8_t *row, size_t row_len,
                        uint32_t *table, size_t table_len, uint32_t number[ZAROSNIK_NUMBER_WORDS]);
+
+/*
+ * Compare: the order of two numbers, from the highest word down to the first pair of words that differs. Where it ends
+ * shows in the time it takes: it is for numbers that are not secret, as message numbers are.
+ *
+ *   first    in: a number
+ *   second   in: another, or the same
+ *   order    answer: how first stands to second, one of enum zarosnik_order
+ *   looked   answer: the pairs of words looked at, 1 to 5: 5 less the place, from 0 for the least word, of the highest
+ *            word that differs, or 5 where none differs
+ *
+ * Refusals: none. It always returns 0.
+ */
+ZAROSNIK_NODISCARD
+uint32_t zarosnik_compare(const uint32_t first[ZAROSNIK_NUMBER_WORDS], const uint32_t second[ZAROSNIK_NUMBER_WORDS],
+                          uint32_t *order, uint32_t *looked);
 
 /*
  * Leaf key: the public key of one leaf.

@@ -125,6 +125,14 @@ static inline uint32_t zarosnik_profile_rank(struct zarosnik_profile profile, co
     return zarosnik_rank(profile.l, profile.w, profile.s, row, row_len, table, table_len, number->words);
 }
 
+/* Compare. */
+ZAROSNIK_NODISCARD
+static inline uint32_t zarosnik_number_compare(struct zarosnik_number first, struct zarosnik_number second,
+                                               uint32_t *order, uint32_t *looked)
+{
+    return zarosnik_compare(first.words, second.words, order, looked);
+}
+
 /* Read sheet. */
 ZAROSNIK_NODISCARD
 static inline uint32_t zarosnik_profile_read_sheet(struct zarosnik_profile profile, const uint8_t *sheet,

@@ -4,10 +4,10 @@
     python3 tests/header.py --page FILE    with another page than docs/INTERFACE.md
 
 Both headers compile as C11 and as C++17 with all warnings. The first has the functions, parameters
-and types of the crate `zarosnik` and the refusals of the crate `refusal`. The page's tables have
-their numbers and names, the words of zarosnik_outcome_text, and for each function its refusals in
-order. The second hands each parameter on as it is named. What must not compile does not: one kind of
-16 bytes for another, and an outcome that is not looked at.
+and types of the crate `zarosnik`, the refusals of the crate `refusal` and the orders of the crate
+`words`. The page's tables have their numbers and names, the words of zarosnik_outcome_text, and for
+each function its refusals in order. The second hands each parameter on as it is named. What must not
+compile does not: one kind of 16 bytes for another, and an outcome that is not looked at.
 
 Neither a compiler nor a proof compares a declaration in C with the Rattle source, so it is done here.
 """
@@ -49,6 +49,9 @@ NO_OUTCOME = "not an outcome of this library"
 # The columns of the page's tables.
 OUTCOME_TABLE = ["Number", "Name", "Meaning", "Met by", "What to do"]
 ORDER_TABLE = ["Operation", "Rattle", "C", "Refusals in order"]
+COMPARED_TABLE = ["Number", "Rattle", "C", "Meaning"]
+# What stands for an empty list of refusals.
+NO_REFUSALS = "none"
 
 
 def fail(line):
@@ -139,9 +142,10 @@ def exported_functions(text):
     return exported
 
 
-def declared_outcomes(text):
+def declared_enum(text, enum):
     """The number of each name."""
-    return {name: int(number) for name, number in re.findall(r"ZAROSNIK_(\w+) = (\d+)", text)}
+    body = re.search(rf"enum {enum} \{{(.*?)\}};", text, re.DOTALL).group(1)
+    return {name: int(number) for name, number in re.findall(r"ZAROSNIK_(\w+) = (\d+)", body)}
 
 
 def refusals(text):
@@ -150,6 +154,11 @@ def refusals(text):
     for name, number in re.findall(r"Refusal::(\w+) => (\d+)", text):
         numbers["REFUSED" + re.sub(r"([A-Z])", r"_\1", name).upper()] = int(number)
     return numbers
+
+
+def compared_orders(text):
+    """The name of each order of two numbers in the header, with its number in the source."""
+    return {name.upper(): int(code) for name, code in re.findall(r"Order::(\w+) => (\d+)", text)}
 
 
 # The words and the order of refusals, in the first header and on the page.
@@ -197,6 +206,9 @@ def header_orders():
     orders = {}
     for said, name in re.findall(comment, text, re.DOTALL):
         listed = re.search(r"Refusals: (.*?)(?:Granted:|Refused:|$)", said, re.DOTALL).group(1)
+        if listed.startswith(f"{NO_REFUSALS}."):
+            orders[name] = []
+            continue
         parts = [re.match(r"[\s*]*([\d, ]+)", part).group(1) for part in listed.split(";")]
         numbers = map(int, re.findall(r"\d+", ",".join(parts)))
         orders[name] = [number for number, _ in itertools.groupby(numbers)]
@@ -234,8 +246,19 @@ def page_rows(page):
 
 def page_orders(page):
     """By the name in C, the refusals in order."""
-    rows = page_table(page, ORDER_TABLE)
-    return without_repeats(page, [(row[2], [int(n) for n in row[3].split(",")]) for row in rows])
+    rows = [(row[2], row[3]) for row in page_table(page, ORDER_TABLE)]
+    listed = [(name, [] if cell == NO_REFUSALS else cell.split(",")) for name, cell in rows]
+    return without_repeats(page, [(name, [int(n) for n in numbers]) for name, numbers in listed])
+
+
+def page_compared(page):
+    """By the name in C, the number of each order of two numbers; in Rattle it has the same word."""
+    rows = page_table(page, COMPARED_TABLE)
+    named = [(row[2].removeprefix("ZAROSNIK_"), int(row[0])) for row in rows]
+    for (name, _), row in zip(named, rows):
+        if row[1].upper() != f"ORDER::{name}":
+            fail(f"{page} has {row[1]} beside {row[2]}")
+    return without_repeats(page, named)
 
 
 # The version.
@@ -352,15 +375,18 @@ def main():
     page = parser.parse_args().page
     compile_headers()
     flat, typed = header_text("zarosnik.h"), header_text("zarosnik_types.h")
-    functions, outcomes = declared_functions(flat), declared_outcomes(flat)
+    functions, outcomes = declared_functions(flat), declared_enum(flat, "zarosnik_outcome")
+    compared = declared_enum(flat, "zarosnik_order")
     same(functions, exported_functions(source_text("zarosnik")), "header", "source")
     same(outcomes, refusals(source_text("refusal")), "header", "source")
+    same(compared, compared_orders(source_text("words")), "header", "source")
     check_version(flat)
     check_typed(typed, functions)
     refuse_ignored({**functions, **declared_functions(typed, r"\{")})
     refuse_mistaken()
     same(header_rows(outcomes), page_rows(page), "header", "page")
     same(header_orders(), page_orders(page), "header", "page")
+    same(compared, page_compared(page), "header", "page")
     print(f"header: {len(functions)} functions and {len(outcomes)} outcomes as in the source")
 
 
