@@ -15,6 +15,7 @@ from pathlib import Path
 
 import signatures
 import zarosnik
+from comparisons import number_of_words
 from signatures import GATE, Profile
 from vector_calls import (
     GATE_SHAPE,
@@ -22,6 +23,7 @@ from vector_calls import (
     SECRET,
     SEED,
     SMALL,
+    compare_vector,
     count_vector,
     derived,
     flipped,
@@ -36,7 +38,7 @@ from vector_calls import (
 from vector_orders import orders_family
 from vector_refusals import refusals_family
 from vector_sheets import sheets_family
-from zarosnik import row_of, table_length, ways
+from zarosnik import WORDS, row_of, table_length, ways
 
 FOLDER = Path(__file__).resolve().parent.parent / "vectors"
 
@@ -82,6 +84,53 @@ def rows_family():
             yield unrank_vector("number to row", p, number, words, p[0])
             yield rank_vector("row to number", p, row, words)
         yield unrank_vector("both slices longer", p, 0, words + 1, p[0] + 3)
+
+
+# Words of a number, least first, all below 2^31: the highest bit makes each of them greater.
+COMPARED_WORDS = [0x71A2B3C4, 0x2D3E4F50, 0x61728394, 0x5A6B7C8D, 0x1E2F3041]
+MOST_WORD = 0xFFFFFFFF
+LARGEST = 2**160 - 1
+
+
+def with_word(place, word, below=None):
+    """The number with another word at a place; below it the same words, or this one everywhere."""
+    words = list(COMPARED_WORDS)
+    words[place] = word
+    if below is not None:
+        words[:place] = [below] * place
+    return number_of_words(words)
+
+
+def differing_at(place):
+    """Words, and two numbers that are alike above a place, the lesser one first."""
+    word = COMPARED_WORDS[place]
+    high = word | 1 << 31
+    yield "one more", with_word(place, word), with_word(place, word + 1)
+    yield "another highest bit", with_word(place, word), with_word(place, high)
+    yield "0 and 2^32 - 1", with_word(place, 0), with_word(place, MOST_WORD)
+    if place:
+        numbers = with_word(place, word, MOST_WORD), with_word(place, word + 1, 0)
+        yield "the words below in the other order", *numbers
+        numbers = with_word(place, word, 0), with_word(place, high, MOST_WORD)
+        yield "the words below in the same order", *numbers
+
+
+def compare_family():
+    number = number_of_words(COMPARED_WORDS)
+    for note, alike in [("zero", 0), ("a number", number), ("the largest number", LARGEST)]:
+        yield compare_vector(f"{note} and itself", alike, alike)
+    pairs = [
+        (f"word {place} differs: {note}", *numbers)
+        for place in reversed(range(WORDS))
+        for note, *numbers in differing_at(place)
+    ]
+    pairs.append(("zero and the largest number", 0, LARGEST))
+    messages = sorted(int.from_bytes(derived(f"compared {k}"), "big") for k in range(2))
+    pairs.append(("two message numbers, whose highest words are 0", *messages))
+    pairs.append(("a message number and the gate's count", messages[0], ways(GATE.w, GATE.l, GATE.s)))
+    for note, less, greater in pairs:
+        yield compare_vector(note, less, greater)
+        yield compare_vector(f"{note}; the other way round", greater, less)
 
 
 SEED_PAIRS = [(SEED, SECRET), (bytes(16), b"\xff" * 16), (derived("public"), derived("secret"))]
@@ -139,6 +188,7 @@ def one_time_family():
 FAMILIES = {
     "hash": hash_family,
     "rows": rows_family,
+    "compare": compare_family,
     "leaf_keys": leaf_keys_family,
     "roots": roots_family,
     "one_time": one_time_family,
@@ -161,6 +211,9 @@ def main():
     wrong_shape = zarosnik.disagreement()
     if wrong_shape:
         sys.exit(f"tests/make_vectors.py: counts or rows are wrong at l, w, s = {wrong_shape}")
+    wrong_pair = zarosnik.wrong_comparison()
+    if wrong_pair:
+        sys.exit(f"tests/make_vectors.py: the comparison is wrong of {wrong_pair}")
     texts = {f"{family}.json": file_text(family) for family in FAMILIES}
     if not check:
         for name, text in texts.items():

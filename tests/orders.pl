@@ -1,12 +1,12 @@
 #!/usr/bin/env perl
-# Signs, verifies and reads the orders in files of vectors/ by the rules of docs/INTERFACE.md, with nothing of the
-# library and of the other tests: it shows that the page is enough to build a desk and a cabinet from. It needs Perl's
-# core modules alone.
+# Signs, verifies and reads the orders in files of vectors/, and compares the numbers, by the rules of
+# docs/INTERFACE.md, with nothing of the library and of the other tests: it shows that the page is enough to build a
+# desk and a cabinet from. It needs Perl's core modules alone.
 #
 #     perl tests/orders.pl vectors/*.json
 #
-# Prints a line for each call of Root, Issue, Check and Read sheet. Fails where one answers other than the file says,
-# and where one of these has no call. Vectors of other operations are passed over.
+# Prints a line for each call of Root, Issue, Check, Read sheet and Compare. Fails where one answers other than the
+# file says, and where one of these has no call. Vectors of other operations are passed over.
 use strict;
 use warnings;
 use Digest::SHA qw(sha256);
@@ -143,8 +143,19 @@ sub read_sheet {
     return (outcome => 0, line => 0, message_written => $text_written, signature => $signature, message => $text);
 }
 
+# Numbers in hex, eight digits a word, highest word first.
+sub compare {
+    my ($first, $second) = map { [unpack('(A8)5', $_)] } @_;
+    for my $pair (0 .. 4) {
+        my $order = hex($first->[$pair]) <=> hex($second->[$pair]);
+        return (outcome => 0, order => $order + 1, looked => $pair + 1) if $order;
+    }
+    return (outcome => 0, order => 1, looked => 5);
+}
+
 sub answer {
     my ($operation, $in) = @_;
+    return compare(@$in{'first', 'second'}) if $operation eq 'compare';
     my @profile = @$in{'l', 'w', 's', 'h'};
     my ($seed, $secret, $root, $r, $text, $signature, $sheet) =
         map { pack('H*', $in->{$_} // '') } qw(public_seed secret_seed root r message signature sheet);
@@ -154,7 +165,7 @@ sub answer {
     return (outcome => 0, root => uc unpack('H*', node(@profile[0, 1], $seed, $secret, $profile[3], 0)));
 }
 
-my %made = (root => 0, sign => 0, verify => 0, read_sheet => 0);
+my %made = (root => 0, sign => 0, verify => 0, read_sheet => 0, compare => 0);
 my $differing = 0;
 for my $file (@ARGV) {
     open my $handle, '<', $file or die "$file: $!\n";
@@ -166,7 +177,8 @@ for my $file (@ARGV) {
         my %found = answer($operation, $in);
         my @wrong = grep { $found{$_} ne $out->{$_} } sort keys %found;
         my $told = join ', ', map { "$_ $found{$_}" } grep { !/^(signature|message)$/ } sort keys %found;
-        print "$operation at @$in{'l', 'w', 's', 'h'}, $vector->{note}: $told\n";
+        my $profile = exists $in->{l} ? " at @$in{'l', 'w', 's', 'h'}" : '';
+        print "$operation$profile, $vector->{note}: $told\n";
         print "  DIFFERS: $_ $found{$_}, expected $out->{$_}\n" for @wrong;
         $made{$operation}++;
         $differing++ if @wrong;

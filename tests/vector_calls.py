@@ -104,6 +104,12 @@ def rank_vector(note, p, row, words):
     return vector("rank", note, given, outcome, left)
 
 
+def compare_vector(note, first, second):
+    outcome, order, looked = zarosnik.compare(first, second)
+    given = {"first": number_hex(first), "second": number_hex(second)}
+    return vector("compare", note, given, outcome, {"order": order, "looked": looked})
+
+
 def seeds(seed, secret):
     return {"public_seed": hexed(seed), "secret_seed": hexed(secret)}
 

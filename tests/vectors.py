@@ -5,8 +5,8 @@ programs link, and compares the answer, the states and all memory lent.
     python3 tests/vectors.py --archive PATH   takes this archive
 
 Fails where a call differs, and where something has no vector: a family, an operation granted, a
-refusal that docs/INTERFACE.md lists for an operation, or a number of a profile that would be the
-gate's if it were cut. The vectors themselves are held to the independent implementation by
+refusal that docs/INTERFACE.md lists for an operation, a kind of numbers compared, or a number of a
+profile that would be the gate's if it were cut. The vectors themselves are held to the independent implementation by
 tests/make_vectors.py, the page's worked values by tests/worked_order.py.
 """
 
@@ -16,7 +16,9 @@ import sys
 import tempfile
 from collections import Counter
 
+import comparisons
 from archived import archive_of, archive_parser, shared_object
+from header import NO_REFUSALS
 from interface_calls import PROTOTYPES, Call, load
 from interface_memory import Memory, words_memory
 from make_vectors import FAMILIES, FOLDER
@@ -25,7 +27,8 @@ from vector_refusals import CUT
 from zarosnik import filled, number_words
 
 PAGE = FOLDER.parent / "docs" / "INTERFACE.md"
-WORDS = ("next_leaf", "lowest_leaf", "steps", "line")
+WORDS = ("next_leaf", "lowest_leaf", "steps", "line", "order", "looked")
+NUMBERS = ("number", "first", "second")
 BY_VALUE = ("l", "w", "s", "h", "leaf")
 
 
@@ -35,7 +38,7 @@ def say(line):
 
 def memory_of(name, value):
     """An argument or an answer, as the call finds or leaves it."""
-    if name == "number":
+    if name in NUMBERS:
         return words_memory(number_words(int(value, 16)))
     if name in WORDS:
         return words_memory([value])
@@ -118,8 +121,8 @@ def failures(library, vectors):
 def listed_refusals():
     """By operation, the refusals that the page lists in its table of operations."""
     text = PAGE.read_text(encoding="utf-8")
-    rows = re.findall(r"\| `zarosnik_(\w+)` \| ([\d, ]+) \|$", text, re.MULTILINE)
-    return {operation: list(map(int, numbers.split(","))) for operation, numbers in rows}
+    rows = re.findall(rf"\| `zarosnik_(\w+)` \| ([\d, ]+|{NO_REFUSALS}) \|$", text, re.MULTILINE)
+    return {operation: list(map(int, re.findall(r"\d+", listed))) for operation, listed in rows}
 
 
 def missing(vectors):
@@ -138,6 +141,10 @@ def missing(vectors):
         for name, number in CUT.items():
             if name in parameters.split() and all(given[name] != number for given in calls):
                 yield f"no vector: {operation} with {name} = {number}"
+    compared = [vector["in"] for vector in vectors if vector["operation"] == "compare"]
+    numbers = [(int(given["first"], 16), int(given["second"], 16)) for given in compared]
+    for kind in comparisons.missing_kinds({comparisons.kind(*pair) for pair in numbers}):
+        yield f"no vector: compare comes to {kind}"
 
 
 def run(library):

@@ -1,5 +1,5 @@
-"""Count, Spread and Gather on whole numbers: an implementation of the scope document that is
-independent of the library.
+"""Count, Spread, Gather and Compare on whole numbers: an implementation of the scope document that
+is independent of the library.
 
 Work slices are lists of 32-bit words, rows are bytes. No slice is changed: every function answers
 with the number of its refusal, or 0, its value, and the slices as the call leaves them.
@@ -9,6 +9,8 @@ import itertools
 from functools import cache, lru_cache
 
 WORDS = 5
+# How the first of two numbers stands to the second.
+LESS, EQUAL, GREATER = range(3)
 
 
 @cache
@@ -114,6 +116,33 @@ def gather(l, w, s, row, work):
     if refused:
         return refused, 0, work
     return 0, number_of(w, s, row), filled(l, w, s, work)
+
+
+def compare(first, second):
+    """The outcome, the order of two numbers, and the word pairs looked at: 5 less the place of the
+    highest word that differs, where the highest bit that differs stands, or 5 where none does."""
+    order = LESS if first < second else GREATER if first > second else EQUAL
+    differing = (first ^ second).bit_length()
+    return 0, order, WORDS - (differing - 1) // 32 if differing else WORDS
+
+
+def compared_by_words(first, second):
+    """The same by the words alone, highest first, the pairs counted one by one."""
+    pairs = list(zip(number_words(first), number_words(second)))[::-1]
+    alike = sum(1 for _ in itertools.takewhile(lambda pair: pair[0] == pair[1], pairs))
+    if alike == WORDS:
+        return 0, EQUAL, alike
+    return 0, LESS if pairs[alike][0] < pairs[alike][1] else GREATER, alike + 1
+
+
+def wrong_comparison():
+    """Two numbers with words at their ends for which these two differ, or None."""
+    words = itertools.product((0, 1, 0xFFFFFFFF), repeat=WORDS)
+    numbers = [sum(word << 32 * k for k, word in enumerate(listed)) for listed in words]
+    for first, second in itertools.product(numbers, repeat=2):
+        if compare(first, second) != compared_by_words(first, second):
+            return first, second
+    return None
 
 
 def disagreement():
