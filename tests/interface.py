@@ -10,7 +10,8 @@ Proves the library and writes the archive first, unless --archive names one. Fai
 that is not as the scope document says, and where something has not come up that must: each
 operation granted, each cause of its refusals and each two, each set of numbers of the profile that
 narrower parameters would cut to right ones or that are 2^31 or 2^32 - 1, with each answer something
-past the named length of each slice, and orders signed and taken at every height of the tree.
+past the named length of each slice, numbers compared in each order after each count of pairs, the
+words below being alike or in either order, and orders signed and taken at every height of the tree.
 """
 
 import itertools
@@ -20,6 +21,7 @@ import tempfile
 import time
 from collections import Counter
 
+import comparisons
 import signatures
 from archived import archive_of, archive_parser, shared_object
 from interface_calls import LENT, STATES, load
@@ -40,13 +42,15 @@ def say(line, stream=sys.stdout):
 class Met:
     """What has come up: the answers of each operation, the causes told and those behind them, wide
     numbers of the profile, slices longer than they must be and states other than 0 with each
-    answer, and the heights of trees under which orders were signed and taken."""
+    answer, the kinds of numbers compared, and the heights of trees under which orders were signed
+    and taken."""
 
     def __init__(self):
         self.outcomes = Counter()
         self.causes = set()
         self.wide = set()
         self.kept = set()
+        self.compared = set()
         self.heights = set()
 
     def add(self, call):
@@ -58,6 +62,9 @@ class Met:
         longer = {name for name in LENT.get(operation, ()) if arguments[name].spare}
         used = {name for name in STATES.get(operation, ()) if any(arguments[name].before)}
         self.kept |= {(operation, outcome, name) for name in longer | used}
+        if operation == "compare":
+            numbers = (arguments[name].before for name in ("first", "second"))
+            self.compared.add(comparisons.kind(*(int.from_bytes(n, "little") for n in numbers)))
         if outcome == 0 and operation in STATES:
             self.heights.add((operation, arguments["h"]))
 
@@ -75,6 +82,8 @@ class Met:
                 if (operation, wide) not in self.wide:
                     yield f"{operation} has never been given wide numbers: {wide}"
             yield from self.missing_kept(operation, causes)
+        for kind in comparisons.missing_kinds(self.compared):
+            yield f"compare has never come to {kind}"
         for operation, h in itertools.product(STATES, range(11)):
             if (operation, h) not in self.heights:
                 yield f"{operation} has never been granted at height {h}"

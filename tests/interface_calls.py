@@ -18,6 +18,7 @@ PROTOTYPES = {
     "count": "l w s table[] number",
     "unrank": "l w s &number table[] row[]",
     "rank": "l w s &row[] table[] number",
+    "compare": "&first &second order looked",
     "leaf_key": "l w s h &public_seed &secret_seed leaf key",
     "root": "l w s h &public_seed &secret_seed root",
     "one_time_sign": "l w s h &public_seed &secret_seed leaf &number table[] values[]",
@@ -170,6 +171,17 @@ class Calls:
             row=row,
             table=table.leave(filled),
             number=self.answer(number_words(number)),
+        )
+
+    def compare(self, first, second):
+        outcome, order, looked = zarosnik.compare(first, second)
+        return self.call(
+            "compare",
+            outcome,
+            first=words_memory(number_words(first)),
+            second=words_memory(number_words(second)),
+            order=self.answer([order]),
+            looked=self.answer([looked]),
         )
 
     def leaf_key(self, p, seed, secret, leaf):

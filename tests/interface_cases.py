@@ -2,10 +2,10 @@
 number give it, so that it can be made again alone.
 
 A run begins with the tallest trees, once for each height. Every round of cases has, for each
-operation, granted calls, each cause of refusal alone, each two together, and several; numbers of
-the profile that narrower parameters would cut to right ones, or that are the ends of what wide ones
-hold; slices whose length passes 32 bits; and sequences in which a fresh key signs and a fresh
-verifier checks.
+operation, granted calls, each cause of refusal alone, each two together, and several; numbers to
+compare of many kinds; numbers of the profile that narrower parameters would cut to right ones, or
+that are the ends of what wide ones hold; slices whose length passes 32 bits; and sequences in which
+a fresh key signs and a fresh verifier checks.
 """
 
 import itertools
@@ -20,8 +20,8 @@ from sheets import right_sheet
 from signatures import GATE, Profile, SigningKey, Verifier, pieces, root_of, signature_length
 
 SEQUENCES = 8
-# Causes that come in many ways.
-MANIFOLD = [("rank", 10), ("verify", 15), ("read_sheet", 17)]
+# Causes that come in many ways, and numbers that are compared in more.
+MANIFOLD = [("rank", [10]), ("verify", [15]), ("read_sheet", [17]), *[("compare", [])] * 3]
 # Counts of about half of 2^128: some orders are refused by 7.
 HALF_SIGNABLE = [(40, 10, 168), (40, 11, 144), (40, 16, 130), (34, 15, 238)]
 
@@ -184,7 +184,7 @@ def plan():
         cases += [partial(single, operation, c) for c in granted + 2 * alone + subsets(causes, 2)]
         cases += [partial(several, operation)] * len(causes)
         cases += [partial(single, operation, c, wide=w) for c, w in wide_numbers(operation)]
-    cases += [partial(single, operation, [cause]) for operation, cause in MANIFOLD * 20]
+    cases += [partial(single, operation, causes) for operation, causes in MANIFOLD * 20]
     return cases + [sequence] * SEQUENCES
 
 

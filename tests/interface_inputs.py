@@ -2,6 +2,7 @@
 for: none, one, or several at once, of which the first in the document's order must be told.
 """
 
+import comparisons
 from interface_calls import LENT, MOST_HASHED, TEXT_SLICE, Calls
 from interface_damage import Order, flipped, wrong_sheet
 from interface_memory import Filling, Memory
@@ -9,12 +10,13 @@ from sheets import right_sheet
 from signatures import Profile, SigningKey, Verifier, revealed, signature_length
 from zarosnik import row_of, table_length, ways
 
-# The causes of each operation in the document's order.
+# The causes of each operation in the document's order. Compare is never refused.
 CAUSES = {
     "hash": [18],
     "count": [1, 2, 3, 5],
     "unrank": [1, 2, 3, 5, 6, 7],
     "rank": [1, 2, 3, 5, 8, 9, 10],
+    "compare": [],
     "leaf_key": [1, 2, 3, 4, 11],
     "root": [1, 2, 3, 4],
     "one_time_sign": [1, 2, 3, 4, 5, 6, 11, 7],
@@ -264,6 +266,9 @@ class Inputs:
             return row_of(l, w, s + 256, self.pick.randrange(ways(w, l, s + 256)))
         by = 1 if row[at] == 0 or row[at] < w - 1 and self.pick.random() < 0.5 else -1
         return row[:at] + bytes([row[at] + by]) + row[at + 1 :]
+
+    def compare(self):
+        return self.calls.compare(*comparisons.drawn(self.pick))
 
     def leaf_key(self):
         return self.calls.leaf_key(self.p, self.seed(), self.seed(), self.leaf(11))

@@ -6,7 +6,8 @@ the C interface at a time, and fails where the comparison finds no difference th
 
 A wrong function cuts a number or a length; reads just before or behind memory that it is lent;
 writes what it is to read only; changes a slice or a state where it refuses, for each cause, or a
-slice past its named length where it grants; or leaves an old answer where it refuses.
+slice past its named length where it grants; leaves an old answer where it refuses; or compares two
+numbers by another rule, or wrongly for one order and one count of pairs alone.
 """
 
 import ctypes
@@ -17,13 +18,16 @@ import sys
 import tempfile
 
 from archived import archive_of, archive_parser, shared_object
+from comparisons import KINDS
 from interface_calls import BY_VALUE, LENT, PROTOTYPES, STATES, load
 from interface_cases import plan
 from interface_inputs import CAUSES, FAR
+from zarosnik import EQUAL, GREATER, LESS, WORDS
 
 # Bytes of what has no length of its own; all else has 16.
-SIZES = {"digest": 32, "number": 20, "message_written": 8}
-SIZES |= dict.fromkeys(["steps", "line", "next_leaf", "lowest_leaf"], 4)
+SIZES = {"digest": 32, "message_written": 8}
+SIZES |= dict.fromkeys(["number", "first", "second"], 20)
+SIZES |= dict.fromkeys(["order", "looked", "steps", "line", "next_leaf", "lowest_leaf"], 4)
 ROUNDS = 3
 SEEN, UNSEEN = 10, 11
 
@@ -55,6 +59,10 @@ class Given:
             return ctypes.c_size_t.from_address(self["message_written"]).value
         table, signature = 20 * (l + 1) * (s + 1), 20 + 16 * l + 16 * h
         return {"table": table, "row": l, "values": 16 * l, "signature": signature}[name]
+
+    def words(self, name):
+        """What stands there, to be read or changed."""
+        return (ctypes.c_uint32 * (self.size(name) // 4)).from_address(self[name])
 
     def flip(self, name, at):
         byte = ctypes.c_uint8.from_address(self[name] + at)
@@ -120,8 +128,73 @@ def leave_answer(name):
     return wrong
 
 
+def answer_by(name, rule):
+    """Compare with one answer by another rule."""
+
+    def wrong(right, given):
+        outcome = right(*given.values.values())
+        numbers = (list(given.words(number)) for number in ("first", "second"))
+        answers = (given.words(answer)[0] for answer in ("order", "looked"))
+        given.words(name)[0] = rule(*numbers, *answers)
+        return outcome
+
+    return wrong
+
+
+def order_of(first, second):
+    return LESS if first < second else GREATER if first > second else EQUAL
+
+
+def signed(words):
+    """Highest first, as they must stand to be compared as a list."""
+    return [word - (word >> 31 << 32) for word in reversed(words)]
+
+
+def least_place(first, second):
+    """The place of the least word that differs, or the highest place."""
+    return next((k for k in range(WORDS) if first[k] != second[k]), WORDS - 1)
+
+
+# What becomes of an answer of Compare, by the words of both numbers, least first, the right order
+# and the right count of pairs.
+RULES = [
+    ("order", "of the least word that differs", lambda a, b, order, looked: order_of(a, b)),
+    ("order", "of the highest words", lambda a, b, order, looked: order_of(a[-1], b[-1])),
+    ("order", "of signed words", lambda a, b, order, looked: order_of(signed(a), signed(b))),
+    ("order", "the other way", lambda a, b, order, looked: GREATER - order),
+    ("looked", "from the least word up", lambda a, b, order, looked: least_place(a, b) + 1),
+    ("looked", "the place", lambda a, b, order, looked: WORDS - looked),
+    ("looked", "one less where one differs", lambda a, b, order, looked: looked - (a != b)),
+    ("looked", "one less where none differs", lambda a, b, order, looked: looked - (a == b)),
+    ("looked", "always 5", lambda a, b, order, looked: WORDS),
+    ("looked", "by two words", lambda a, b, order, looked: (looked + 2) // 2),
+]
+
+
+def change_where_compared(name, expected):
+    """Just where order and count of pairs are these."""
+
+    def wrong(right, given):
+        outcome = right(*given.values.values())
+        if (given.words("order")[0], given.words("looked")[0]) == expected:
+            given.flip(name, 0)
+        return outcome
+
+    return wrong
+
+
+def wrong_comparisons():
+    for name, what, rule in RULES:
+        yield f"{name} {what}", answer_by(name, rule)
+    for expected in sorted({(order, looked) for order, looked, _ in KINDS}):
+        for name in ("order", "looked"):
+            yield f"{name} changed at {expected}", change_where_compared(name, expected)
+
+
 def mutants():
     """What is wrong, with which operation, and the wrong function."""
+    for what, wrong in wrong_comparisons():
+        yield what, "compare", wrong
     for operation, parameters in PROTOTYPES.items():
         causes = dict.fromkeys(map(abs, CAUSES[operation]))
         kept = [*LENT.get(operation, ()), *STATES.get(operation, ())]
@@ -135,7 +208,7 @@ def mutants():
             yield f"{name} read behind", operation, read(name, True)
             if parameter.startswith("&"):
                 yield f"{name} written", operation, write_the_same(name)
-            elif name not in kept:
+            elif causes and name not in kept:
                 yield f"{name} left where refused", operation, leave_answer(name)
         for name, cause in itertools.product(kept, causes):
             yield f"{name} changed by {cause}", operation, change_where_refused(name, cause)

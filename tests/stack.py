@@ -65,6 +65,8 @@ class Caller:
             "data": octets(bytes(65535)),
             "table": words([0] * table_length(p.l, p.s)),
             "number": words([0] * 5),
+            "first": words([0] * 5),
+            "second": words([0] * 5),
             "row": octets(bytes(p.l)),
             "values": octets(bytes(16 * p.l)),
             "message": octets(text),
@@ -72,7 +74,7 @@ class Caller:
             "sheet": octets(right_sheet(p, signature, text)),
             "message_written": (ctypes.c_size_t * 1)(),
         }
-        self.memory |= {name: words([0]) for name in ("steps", "line")}
+        self.memory |= {name: words([0]) for name in ("order", "looked", "steps", "line")}
         self.memory |= {name: octets(bytes(32)) for name in ("digest", "public_seed", "root", "r")}
         self.memory |= {name: octets(bytes(32)) for name in ("secret_seed", "key")}
 
@@ -110,7 +112,7 @@ class Caller:
         self.call("hash", 0)
         self.call("count", 0)
         self.memory["number"][:] = number_words(count // 2)
-        for operation in ("unrank", "rank", "leaf_key", "root"):
+        for operation in ("unrank", "rank", "compare", "leaf_key", "root"):
             self.call(operation, 0)
         for operation in ("one_time_sign", "one_time_recover"):
             self.call(operation, 0)

@@ -47,6 +47,26 @@ static void rows(void)
     expect_bytes("number", number.words, expected_number, sizeof expected_number);
 }
 
+static void compare(void)
+{
+    struct zarosnik_number number;
+    struct zarosnik_number below;
+    uint32_t order;
+    uint32_t looked;
+    memcpy(number.words, expected_number, sizeof expected_number);
+    memcpy(below.words, expected_below, sizeof expected_below);
+    expect("compare", zarosnik_number_compare(number, below, &order, &looked), ZAROSNIK_GRANTED);
+    expect("order", order, EXPECTED_ORDER);
+    expect("order's name", order, ZAROSNIK_GREATER);
+    expect("pairs looked at", looked, EXPECTED_LOOKED);
+    expect("compare the other way", zarosnik_number_compare(below, number, &order, &looked), ZAROSNIK_GRANTED);
+    expect("order the other way", order, ZAROSNIK_LESS);
+    expect("pairs looked at the other way", looked, EXPECTED_LOOKED);
+    expect("compare with itself", zarosnik_number_compare(number, number, &order, &looked), ZAROSNIK_GRANTED);
+    expect("order of a number and itself", order, ZAROSNIK_EQUAL);
+    expect("pairs of a number and itself", looked, ZAROSNIK_NUMBER_WORDS);
+}
+
 static void leaves(const struct zarosnik_key *key)
 {
     struct zarosnik_one_time_key leaf_key;
@@ -135,6 +155,7 @@ int main(void)
     expect("fresh cabinet", cabinet.lowest_leaf, 0);
 
     rows();
+    compare();
     leaves(&key);
     sign(&key);
     verify(&cabinet);

@@ -18,7 +18,7 @@ from archived import ROOT, archive_of, archive_parser
 from header import COMPILERS, INCLUDE, WARNINGS
 from sheets import right_sheet
 from signatures import Profile, SigningKey
-from zarosnik import number_words, row_of, table_length, ways
+from zarosnik import compare, number_words, row_of, table_length, ways
 
 # The gate's profile over a low tree.
 P = Profile(34, 16, 255, 2)
@@ -27,6 +27,8 @@ SECRET = bytes(range(0x50, 0x60))
 R = bytes(range(0x90, 0xA0))
 TEXT = b"sill level 1.9 m until 06:00"
 NUMBER = int.from_bytes(bytes(range(1, 17)), "big")
+# Less than the number, first by its word 2.
+BELOW = NUMBER - (1 << 64) + 1
 # The leaf that is revealed, and the one that signs.
 LEAF = 3
 NEXT = 1
@@ -57,9 +59,10 @@ def expected():
         "signature": signature,
         "sheet": right_sheet(P, signature, TEXT),
     }
-    numbers = {"count": ways(P.w, P.l, P.s), "number": NUMBER}
+    numbers = {"count": ways(P.w, P.l, P.s), "number": NUMBER, "below": BELOW}
     steps = P.l * (P.w - 1) - P.s
     singles = {**P._asdict(), "leaf": LEAF, "next": NEXT, "steps": steps}
+    _, singles["order"], singles["looked"] = compare(NUMBER, BELOW)
     return byte_arrays, numbers, singles
 
 
