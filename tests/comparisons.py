@@ -42,8 +42,8 @@ def other_word(pick, word):
 
 
 def drawn(pick):
-    """Two numbers that are alike above a place, or everywhere. Below the place they are alike, other
-    in every word, or as far apart as can be."""
+    """Two numbers that are alike above a place, or everywhere. Below the place they are alike,
+    other in every word, or as far apart as can be."""
     first = [pick.choice([*EDGES, pick.getrandbits(32)]) for _ in range(WORDS)]
     second = list(first)
     place = pick.choice([None, *range(WORDS)])

@@ -6,8 +6,8 @@
 Both headers compile as C11 and as C++17 with all warnings. The first has the functions, parameters
 and types of the crate `zarosnik`, the refusals of the crate `refusal` and the orders of the crate
 `words`. The page's tables have their numbers and names, the words of zarosnik_outcome_text, and for
-each function its refusals in order. The second hands each parameter on as it is named. What must not
-compile does not: one kind of 16 bytes for another, and an outcome that is not looked at.
+each function its refusals in order. The second hands each parameter on as it is named. What must
+not compile does not: one kind of 16 bytes for another, and an outcome that is not looked at.
 
 Neither a compiler nor a proof compares a declaration in C with the Rattle source, so it is done here.
 """
