@@ -127,7 +127,8 @@ def compare_family():
     pairs.append(("zero and the largest number", 0, LARGEST))
     messages = sorted(int.from_bytes(derived(f"compared {k}"), "big") for k in range(2))
     pairs.append(("two message numbers, whose highest words are 0", *messages))
-    pairs.append(("a message number and the gate's count", messages[0], ways(GATE.w, GATE.l, GATE.s)))
+    count = ways(GATE.w, GATE.l, GATE.s)
+    pairs.append(("a message number and the gate's count", messages[0], count))
     for note, less, greater in pairs:
         yield compare_vector(note, less, greater)
         yield compare_vector(f"{note}; the other way round", greater, less)
