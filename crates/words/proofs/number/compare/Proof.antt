@@ -2,7 +2,7 @@
 use mathlib.Core.Path.{_≡_, refl, sym, ap, _∙_}
 use mathlib.Core.Option.{Option, none, some}
 use mathlib.Core.List.{List}
-use Prim.Native.Nat.{ℕ, suc, _+_, _-_, _≤_}
+use Prim.Native.Nat.{ℕ, suc, _+_, _-_}
 use native.Mathlib.Omega.{arith}
 use borrow.Author.Needs.{needs}
 use mir.Syntax.{w32}
@@ -14,8 +14,8 @@ use Rattle.words.proofs.Comparison.{highest-none, highest-lower, highes
 use Rattle.words.proofs.number.compare.Statement.{statement}
 use Rattle.words.proofs.number.compare.Tie as tie
 
+-- with the words from place i on passed
 record Passed (a b : List ℕ) (order : Order) (looked i : ℕ) : Type 0 where
-  within : i ≤ 5
   counted : looked + i ≡ 5
   equal : order ≡ Equal
   none-above : highestDiffering a b ≡ highestBelow i a b
@@ -27,7 +27,7 @@ abbrev μ-loop : tie.MeasureT-loop
 μ-loop a b order₀ looked₀ i₀ order looked i = i
 
 loop-holds : tie.Need-loop-holds Inv-loop μ-loop
-loop-holds c = record { within = omega arith; counted = refl; equal = refl; none-above = refl }
+loop-holds c = record { counted = refl; equal = refl; none-above = refl }
 
 -- in a turn, no words above the pair that is looked at differ
 above : (c : tie.In-loop Inv-loop μ-loop) → highestDiffering (c .before .before .args .t1) (c .before .before .args .t2) ≡ highestBelow (suc (c .before .loop .i - 1)) (c .before .before .args .t1) (c .before .before .args .t2)
@@ -40,7 +40,6 @@ loop-again c =
     let args = c .before .before .before .args in
     let turn = c .before .before .loop in
     record {
-      within = omega arith;
       counted = omega arith;
       equal = turn .inv .equal;
       none-above = above (c .before) ∙ highest-lower (args .t1) (args .t2) (turn .i - 1) (c .if1 .left);
