@@ -65,6 +65,10 @@ static void compare(void)
     expect("compare with itself", zarosnik_number_compare(number, number, &order, &looked), ZAROSNIK_GRANTED);
     expect("order of a number and itself", order, ZAROSNIK_EQUAL);
     expect("pairs of a number and itself", looked, ZAROSNIK_NUMBER_WORDS);
+    /* What is only read may overlap. */
+    expect("compare in one place", zarosnik_compare(number.words, number.words, &order, &looked), ZAROSNIK_GRANTED);
+    expect("order in one place", order, ZAROSNIK_EQUAL);
+    expect("pairs in one place", looked, ZAROSNIK_NUMBER_WORDS);
 }
 
 static void leaves(const struct zarosnik_key *key)
