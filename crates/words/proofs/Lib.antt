@@ -2,8 +2,10 @@
 pub mod ByteLaws
 pub mod Comparison
 pub mod Fill
+pub mod FirstBits
 pub mod Joins
 pub mod LimbLaws
 pub mod Lists
 pub mod NumberLaws
 pub mod Numbers
+pub mod PowerLaws

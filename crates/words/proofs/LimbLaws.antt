@@ -3,10 +3,9 @@ use mathlib.Core.Path.{_≡_, _∙_, ap, sym}
 use mathlib.Core.List.{List, [], _∷_}
 use Prim.Native.Nat.{ℕ, suc, _+_, _*_, _-_, _/_, _%_, _^_, _≤_, _<_}
 use native.Mathlib.Omega.{arith}
-use lib.ListN.{length, getD, take}
-use lib.Seq.{take-length}
+use lib.ListN.{length, getD}
 use Rattle.words.specs.Number.{value, toWords}
-use Rattle.words.proofs.Lists.{part-5}
+use Rattle.words.proofs.Lists.{five}
 use Rattle.words.proofs.NumberLaws.{toWords-split}
 use Rattle.words.specs.Limbs.{upper, number}
 use Rattle.words.specs.declared.limbs.Limbs.{Limbs}
@@ -113,8 +112,7 @@ value-five a b c d e =
 pub number-words : (n : List ℕ) → length n ≡ 5
     → number (record { low = getD n 0 0 + 2 ^ 32 * getD n 1 0; middle = getD n 2 0 + 2 ^ 32 * getD n 3 0; high = getD n 4 0 }) ≡ value n
 number-words n long =
-    let all : take 5 n ≡ n = ap (λ k. take k n) (sym long) ∙ take-length n in
-    sym (ap value (sym all ∙ part-5 0 n 0 (omega arith)) ∙ value-five (getD n 0 0) (getD n 1 0) (getD n 2 0) (getD n 3 0) (getD n 4 0))
+    sym (ap value (five 0 n long) ∙ value-five (getD n 0 0) (getD n 1 0) (getD n 2 0) (getD n 3 0) (getD n 4 0))
 
 -- the five words of a number
 pub words-number : (n : Limbs) → n .low < 2 ^ 64 → n .middle < 2 ^ 64 → n .high < 2 ^ 32

@@ -1,5 +1,5 @@
 -- Lists: a part, its length and its elements written out, an element that is there, and elements that are all below a bound.
-use mathlib.Core.Path.{_≡_, refl, _∙_}
+use mathlib.Core.Path.{_≡_, refl, sym, ap, _∙_}
 use mathlib.Core.Bool.{Bool, true, false, _&&_}
 use mathlib.Core.List.{List, [], _∷_, _++_}
 use Prim.Native.Nat.{ℕ, zero, suc, _+_, _^_, _≤_, _<_}
@@ -8,7 +8,7 @@ use native.Mathlib.Numerals.{add-one, add-two}
 use native.Mathlib.Omega.{arith}
 use lib.Dec.{T, ltb, ltb→lt}
 use lib.ListN.{length, getD, take, drop, length-drop}
-use lib.Seq.{drop-cons, getD-drop, length-take-le}
+use lib.Seq.{drop-cons, getD-drop, length-take-le, take-length}
 use mir.Syntax.{Width}
 use mir.Val.{Fits, bits}
 
@@ -45,6 +45,10 @@ module _ {A : Type 0} (d : A) (l : List A) (at : ℕ) where
   -- two elements in front of what is behind them
   pub drop-two : at + 2 ≤ length l → drop at l ≡ getD l at d ∷ getD l (at + 1) d ∷ drop (at + 2) l
   drop-two h = rw (drop-cons l at d (omega arith), add-one, add-two, drop-cons l (suc at) d (omega arith))
+
+-- a list of five, written out
+pub five : {A : Type 0} (d : A) (l : List A) → length l ≡ 5 → l ≡ getD l 0 d ∷ getD l 1 d ∷ getD l 2 d ∷ getD l 3 d ∷ getD l 4 d ∷ []
+five d l long = sym (ap (λ k. take k l) (sym long) ∙ take-length l) ∙ part-5 d l 0 (omega arith)
 
 pub length-part : {A : Type 0} (l : List A) (at n : ℕ) → at + n ≤ length l → length (take n (drop at l)) ≡ n
 length-part l at n h = length-take-le n (drop at l) (omega (arith, length-drop at l))

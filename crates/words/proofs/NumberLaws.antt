@@ -1,6 +1,6 @@
 -- Numbers in 32-bit words, least first: `value` undoes `toWords`.
 use mathlib.Core.Path.{_≡_, refl, sym, ap, _∙_}
-use mathlib.Core.List.{_∷_}
+use mathlib.Core.List.{List, [], _∷_}
 use Prim.Native.Nat.{ℕ, zero, suc, _+_, _*_, _/_, _-_, _%_, _^_, _<_}
 use native.Mathlib.Nat.{pow-suc, one-le-pow, mod-eq-of-lt, mod-one}
 use native.Mathlib.Omega.{arith}
@@ -8,6 +8,7 @@ use lib.Arith.{mod-mul}
 use lib.Dec.{lit<}
 use lib.ListN.{length}
 use Rattle.words.specs.Number.{value, toWords}
+use Rattle.words.proofs.Lists.{Below}
 
 pub length-toWords : (k n : ℕ) → length (toWords k n) ≡ k
 unfolding toWords
@@ -27,6 +28,15 @@ value-toWords-lt k n h = value-toWords k n ∙ mod-eq-of-lt h
 
 pub value-toWords-5 : (n : ℕ) → n < 2 ^ 160 → value (toWords 5 n) ≡ n
 value-toWords-5 n h = value-toWords-lt 5 n h
+
+-- five words hold numbers below 2^160
+value-below : (n : List ℕ) → Below (2 ^ 32) n → value n < (2 ^ 32) ^ length n
+unfolding value
+value-below [] words = lit< tt
+value-below (x ∷ xs) words = rw (pow-suc (2 ^ 32) (length xs)) (omega (arith, words 0, value-below xs (λ j. words (suc j))))
+
+pub value-below-5 : (n : List ℕ) → length n ≡ 5 → Below (2 ^ 32) n → value n < 2 ^ 160
+value-below-5 n long words = rw long at (value-below n words)
 
 -- a number's words are the lowest of them, and those of what is left
 pub toWords-split : (k t n : ℕ) → toWords (suc k) (t + 2 ^ 32 * n) ≡ t % 2 ^ 32 ∷ toWords k (t / 2 ^ 32 + n)

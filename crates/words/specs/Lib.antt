@@ -1,6 +1,7 @@
--- What numbers written in bytes and in words mean, their order, and values joined.
+-- What numbers written in bytes and in words mean, their order, the powers of two in them, and values joined.
 pub mod Bytes
 pub mod Joined
 pub mod Limbs
 pub mod Number
 pub mod Order
+pub mod Powers

@@ -2,3 +2,4 @@
 pub mod bytes;
 pub mod limbs;
 pub mod number;
+pub mod powers;

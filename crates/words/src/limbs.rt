@@ -92,7 +92,7 @@ pub fn subtract(a: Limbs, b: Limbs) -> Limbs
 }
 
 // Two words as a limb.
-fn limb_of(low: u32, high: u32) -> u64
+pub fn limb_of(low: u32, high: u32) -> u64
     ensures { λ r. ⌜ r ≡ low + 2 ^ 32 * high ⌝ }
 {
     low as u64 + 4294967296 * (high as u64)
