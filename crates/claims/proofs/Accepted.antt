@@ -2,8 +2,8 @@
 use mathlib.Core.Path.{_≡_, _∙_}
 use mathlib.Core.Bool.{false}
 use mathlib.Core.List.{List, [], _∷_}
-use Prim.Native.Nat.{ℕ, _-_, _*_, _≤_}
-use borrow.Author.Tests.{le-ltb, lt-leb, eq-eqb}
+use Prim.Native.Nat.{ℕ, _-_, _*_, _≤_, _<_}
+use borrow.Author.Tests.{le-ltb, eq-eqb}
 use lib.Dec.{ltb}
 use lib.ListN.{length}
 use Rattle.refusal.specs.Code.{firstCause}
@@ -26,7 +26,7 @@ use Rattle.claims.proofs.Climb.{climbs}
 use Rattle.claims.proofs.ReadBack.{ReadBack}
 use Rattle.claims.proofs.Judged.{judged-by-root}
 use Rattle.claims.proofs.LeafLaws.{leaf-inside, CabinetOf}
-use Rattle.claims.proofs.Made.{numberOf, Made, made-read}
+use Rattle.claims.proofs.Made.{numberOf, Made, made-below, made-read}
 
 -- a profile that passes its checks, and a work slice that is long enough
 table-none : (p : Profile) (words : ℕ) → firstCause (profileCauses p) ≡ 0 → tableLength (p .shape) ≤ words → firstCause (tableCauses p words) ≡ 0
@@ -46,6 +46,9 @@ module _ (p : Profile) (seed secret : List ℕ) (leaf : ℕ) (one : Issued) (mad
   back : ReadBack d p secret leaf n (made .r) (one .signature)
   back = made-read p seed secret leaf one made
 
+  below : n < count (p .shape)
+  below = made-below p seed secret leaf one made
+
   made-number : numberIn v (one .message) (one .signature) ≡ n
   unfolding numberIn
   made-number = rw (back .own-leaf, back .own-random, of .same-profile, of .same-seed, of .same-root)
@@ -54,20 +57,20 @@ module _ (p : Profile) (seed secret : List ℕ) (leaf : ℕ) (one : Issued) (mad
   unfolding rootIn recoveredRoot
   made-root =
       rw
-      (back .own-leaf, made-number, of .same-profile, of .same-seed, of .same-root, back .own-values, back .own-siblings, recovers-revealed d p secret leaf n (made .below))
+      (back .own-leaf, made-number, of .same-profile, of .same-seed, of .same-root, back .own-values, back .own-siblings, recovers-revealed d p secret leaf n below)
       (climbs d p secret leaf (made .in-tree))
 
   module _ (work : List ℕ) (ahead : passed v leaf ≡ false) (long : tableLength (p .shape) ≤ length work) where
     before : firstCause (causesBeforeRoot v (one .message) (one .signature) work) ≡ 0
     unfolding causesBeforeRoot
     before =
-        rw (back .own-leaf, ahead, made-number, of .same-profile)
+        rw (back .own-leaf, ahead, of .same-profile)
         (none-then (tableCauses p (length work)) _ (table-none p (length work) (made .profile) long) (table-numbered p (length work))
         ∙ rw (
           made .text,
           eq-eqb (length (one .signature)) (signatureLength p) (back .size),
           leaf-inside (p .height) leaf (made .in-tree),
-          lt-leb (count (p .shape)) n (made .below),
+          made .large,
         ))
 
     -- what a check of it answers
@@ -82,6 +85,6 @@ module _ (p : Profile) (seed secret : List ℕ) (leaf : ℕ) (one : Issued) (mad
         let accepted = judged-by-root v (one .message) (one .signature) work before .1 made-root in
         record {
           accepted = accepted;
-          steps = rw (accepted, made-number, of .same-profile) (steps-below (p .shape) n (made .below));
+          steps = rw (accepted, made-number, of .same-profile) (steps-below (p .shape) n below);
           after = rw (accepted, back .own-leaf);
         }

@@ -1,5 +1,6 @@
 -- The laws behind the claims.
 pub mod Accepted
+pub mod Bits
 pub mod Climb
 pub mod InOrder
 pub mod Judged

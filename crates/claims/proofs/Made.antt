@@ -5,8 +5,8 @@ use mathlib.Core.List.{List, [], _∷_}
 use Prim.Native.Nat.{ℕ, _+_, _^_, _<_}
 use native.Mathlib.Nat.{le-refl}
 use native.Mathlib.Omega.{arith}
-use borrow.Author.Tests.{eqb-true, leb-false}
-use lib.Dec.{ltb, leb, eqb}
+use borrow.Author.Tests.{eqb-true}
+use lib.Dec.{ltb, eqb}
 use lib.ListN.{length, drop}
 use lib.Seq.{take-at}
 use Rattle.refusal.specs.Code.{firstCause}
@@ -20,8 +20,9 @@ use Rattle.counts.proofs.Room.{table-numbered}
 use Rattle.tweak.specs.Tweak.{firstDomain}
 use Rattle.tweak.specs.declared.Domain.{Domain}
 use Rattle.tree.specs.Tree.{rootOf}
-use Rattle.message.specs.Message.{messageNumber, outsideText, signatureLength}
+use Rattle.message.specs.Message.{messageNumber, countTooSmall, outsideText, signatureLength}
 use Rattle.message.proofs.Fits.{next-fits}
+use Rattle.message.proofs.NumberLaws.{number-fits}
 use Rattle.signer.specs.Signing.{spent, keyNumber, signatureOf, signCode, keyAfter, outputAfter}
 use Rattle.signer.specs.declared.SigningKey.{SigningKey}
 use Rattle.signer.proofs.SignatureLaws.{length-signature}
@@ -45,10 +46,14 @@ module _ (p : Profile) (seed secret : List ℕ) where
     pub profile : firstCause (profileCauses p) ≡ 0
     pub text : outsideText (length (one .message)) ≡ false
     pub in-tree : leaf < 2 ^ p .height
-    pub below : numberOf leaf r (one .message) < count (p .shape)
+    pub large : countTooSmall (count (p .shape)) ≡ false
     pub bytes : one .signature ≡ signatureOf d p secret leaf (numberOf leaf r (one .message)) r
 
   module _ (leaf : ℕ) (one : Issued) (made : Made leaf one) where
+    -- its number is below the count
+    pub made-below : numberOf leaf (made .r) (one .message) < count (p .shape)
+    made-below = number-fits p leaf (made .r) seed (rootOf d p secret) (one .message) (made .large)
+
     -- its parts, read back from its bytes: a leaf below 2 ^ h has four bytes
     pub made-read : ReadBack d p secret leaf (numberOf leaf (made .r) (one .message)) (made .r) (one .signature)
     made-read =
@@ -72,21 +77,20 @@ module _ (key : SigningKey) (c : IssueCall) where
   issue-made e =
       let p = key .profile in
       let n = keyNumber key (c .r) (c .message) in
-      let number : List (Bool × ℕ) = (leb (count (p .shape)) n, 7) ∷ [] in
-      let leaf : List (Bool × ℕ) = (spent key, 12) ∷ number in
+      let counted : List (Bool × ℕ) = (countTooSmall (count (p .shape)), 19) ∷ [] in
+      let leaf : List (Bool × ℕ) = (spent key, 12) ∷ counted in
       let output : List (Bool × ℕ) = (ltb (length (c .out)) (signatureLength p), 6) ∷ leaf in
       let table = none-of-append (tableCauses p (length (c .work))) ((outsideText (length (c .message)), 16) ∷ output) (table-numbered p (length (c .work))) (eqb-true _ 0 e) in
       let text = none-here (outsideText (length (c .message))) 16 output refl (table .1) in
       let room = none-here (ltb (length (c .out)) (signatureLength p)) 6 leaf refl (text .1) in
-      let left = none-here (spent key) 12 number refl (room .1) in
-      let below = none-here (leb (count (p .shape)) n) 7 [] refl (left .1) in
+      let left = none-here (spent key) 12 counted refl (room .1) in
       record {
         r = c .r;
         sixteen = c .sixteen;
         profile = none-of-append (profileCauses p) ((ltb (length (c .work)) (tableLength (p .shape)), 5) ∷ []) (profile-numbered p) (table .0) .0;
         text = text .0;
         in-tree = not-spent key (left .0);
-        below = leb-false (count (p .shape)) n (below .0);
+        large = none-here (countTooSmall (count (p .shape))) 19 [] refl (left .1) .0;
         bytes =
             rw e
             (take-at (signatureOf (firstDomain (key .seed)) p (key .secret) (key .next) n (c .r)) (drop (signatureLength p) (c .out)) (signatureLength p)

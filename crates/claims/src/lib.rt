@@ -7,6 +7,7 @@ ghost use Rattle.counts.specs.Counts.{CountsFit};
 ghost use Rattle.codewords.specs.Operations.{RankUnrank};
 ghost use Rattle.listing.specs.Listing.{FirstEleven, Example};
 ghost use Rattle.sheet.specs.Sheet.{Exact};
+ghost use Rattle.claims.specs.Bits.{LargestBits, NumbersFit, SmallCounts};
 ghost use Rattle.claims.specs.Demand3.{Demand3};
 ghost use Rattle.claims.specs.Gate.{GateFigures};
 ghost use Rattle.claims.specs.Hashing.{AbcDigest};
@@ -40,6 +41,19 @@ pub fn counts_fit()
 // Numbers compared.
 pub fn highest_word_decides()
     ensures { λ _. ⌜ HighestDecides ⌝ }
+{}
+
+// Bits by the count.
+pub fn largest_bits()
+    ensures { λ _. ⌜ LargestBits ⌝ }
+{}
+
+pub fn numbers_fit()
+    ensures { λ _. ⌜ NumbersFit ⌝ }
+{}
+
+pub fn small_counts()
+    ensures { λ _. ⌜ SmallCounts ⌝ }
 {}
 
 // Signing and checking.

@@ -9,7 +9,7 @@ use borrow.Author.Tests.{lt-ltb, le-ltb}
 use lib.ListN.{length, getD}
 use Rattle.words.proofs.Numbers.{lt-or-le}
 use Rattle.counts.specs.Counts.{sumTo, share, D}
-use Rattle.counts.proofs.CountLaws.{share-low, share-high}
+use Rattle.counts.proofs.CountLaws.{share-low, share-high, sum-term}
 use Rattle.codewords.specs.Codeword.{Placed, place, codeword, rank, total, IsCodeword}
 
 -- a share that holds the number ends the search
@@ -119,13 +119,6 @@ front is =
       within = omega arith;
       rest = record { chains = refl; digits = λ c h. is .digits (suc c) (omega arith); sum = omega arith };
     }
-
--- a sum has each of its terms above the terms before it
-sum-term : (f : ℕ → ℕ) (a b : ℕ) → a < b → sumTo f a + f a ≤ sumTo f b
-unfolding sumTo
-sum-term f a zero h = absurd (not-suc-le-zero h)
-sum-term f a (suc b) h =
-    ⊎-elim (λ e. rw e (le-refl _)) (λ less. omega (arith, sum-term f a b less)) (eq-or-lt-of-le (le-of-suc-le-suc h))
 
 -- the number of a row whose first length is below b is below the shares before b
 pub rank-below : {w t a : ℕ} {row : List ℕ} (b : ℕ) → Front w t a row → rank w (t - a) row < D w (length row) (t - a) → a < b

@@ -1,5 +1,5 @@
 -- An operation over the table: causes that are looked at first, then the table is filled past them, then 7 and what is left. What each way out answers and leaves.
-use mathlib.Core.Path.{_≡_, _∙_, ap, sym}
+use mathlib.Core.Path.{_≡_, refl, _∙_, ap, sym}
 use mathlib.Core.Bool.{Bool, true, false, _||_, not, cond, true≢false}
 use mathlib.Core.List.{List, _++_, append-assoc}
 use Prim.Native.Nat.{ℕ}
@@ -19,12 +19,13 @@ pub record Refuses (n code : ℕ) : Type 0 where
 
 -- a code that leaves no table is not 15
 not-fifteen : (n : ℕ) → leavesTable n ≡ false → eqb n 15 ≡ false
-not-fifteen n e = by (eqb n 0) (eqb n 7) e
+not-fifteen n e = by (eqb n 0) (eqb n 7) (eqb n 15) e
   where
-    by : (zero seven : Bool) → (zero || seven || eqb n 15) ≡ false → eqb n 15 ≡ false
-    by true seven e = absurd (true≢false e)
-    by false true e = absurd (true≢false e)
-    by false false e = e
+    by : (zero seven fifteen : Bool) → (zero || seven || fifteen || eqb n 19) ≡ false → fifteen ≡ false
+    by true seven fifteen e = absurd (true≢false e)
+    by false true fifteen e = absurd (true≢false e)
+    by false false true e = e
+    by false false false e = refl
 
 numbered : (causes : List (Bool × ℕ)) → Avoids leavesTable causes → Numbered causes
 numbered causes avoids = avoids-other leavesTable (λ k. eqb k 0) causes not-granted avoids

@@ -16,7 +16,7 @@ use Rattle.profile.specs.declared.Shape.{Shape}
 use Rattle.counts.specs.Counts.{count, CountsFit}
 use Rattle.counts.specs.Table.{rows, tableLength, withTable, countCauses, countCode, leavesTable, tableAfter, Counts, Holds}
 use Rattle.counts.specs.Filling.{FillsPast}
-use Rattle.counts.proofs.CountLaws.{D-small}
+use Rattle.counts.proofs.CountLaws.{D-small, D-some}
 use Rattle.counts.proofs.Room.{count-early}
 use Rattle.counts.proofs.TableLaws.{cell-row, above-row}
 
@@ -31,6 +31,11 @@ module _ (p : Shape) (limits : InLimits p) where
   count-below : count p < 2 ^ 160
   unfolding count
   count-below = D-small (p .width) (p .chains) (p .sum) (omega (arith, limits .wide)) (limits .narrow) (limits .few-chains)
+
+  -- some row has the sum
+  pub count-some : 0 < count p
+  unfolding count
+  count-some = D-some (p .width) (p .chains) (p .sum) (omega (arith, limits .wide)) (limits .reached)
 
   pub count-value : {n : List ℕ} → n ≡ toWords 5 (count p) → value n ≡ count p
   count-value e = ap value e ∙ value-toWords-5 (count p) count-below

@@ -1,8 +1,8 @@
--- The numbers D: the recurrence by which each comes from at most three others, how large they are, and where they are 0.
+-- The numbers D: the recurrence by which each comes from at most three others, how large they are, and where they are 0 and are not.
 use mathlib.Core.Path.{_≡_, refl, ap, _∙_}
 use mathlib.Core.Bool.{Bool, true, false, cond}
 use mathlib.Core.Logic.{_⊎_, inl, inr}
-use Prim.Native.Nat.{ℕ, zero, suc, _+_, _*_, _-_, _^_, _≤_, _<_, zero-le}
+use Prim.Native.Nat.{ℕ, zero, suc, _+_, _*_, _-_, _^_, _≤_, _<_, min, zero-le}
 use native.Mathlib.Nat.{le-refl, le-trans, le-of-eq, le-of-suc-le-suc, lt-of-le-of-lt, eq-or-lt-of-le, add-le-add, suc-mul, suc-sub-suc, sub-zero, pow-zero, pow-succ', pow-le-pow-left, pow-le-pow-right}
 use native.Mathlib.Numerals.{add-one}
 use native.Mathlib.Omega.{arith}
@@ -32,6 +32,11 @@ sumTo-mono f m (suc n) h = by (eq-or-lt-of-le h) (sumTo-mono f m n)
     by : (m ≡ suc n) ⊎ (m < suc n) → (m ≤ n → sumTo f m ≤ sumTo f n) → sumTo f m ≤ sumTo f (suc n)
     by (inl e) up = le-of-eq (ap (sumTo f) e)
     by (inr less) up = omega (arith, up (le-of-suc-le-suc less))
+
+-- a sum has each of its terms above the terms before it
+pub sum-term : (f : ℕ → ℕ) (a b : ℕ) → a < b → sumTo f a + f a ≤ sumTo f b
+unfolding sumTo
+sum-term f a b less = sumTo-mono f (suc a) b less
 
 -- n numbers, none above b
 sumTo-le : (f : ℕ → ℕ) (b n : ℕ) → ((j : ℕ) → j < n → f j ≤ b) → sumTo f n ≤ n * b
@@ -132,3 +137,13 @@ pub D-sum-small : (w i t : ℕ) → w ≤ 16 → i < 40 → share (D w (suc i)) 
 D-sum-small w i t small few =
     let before = share-le (D w (suc i)) (16 ^ 39) t 1 (λ low. D-bound-16 w (suc i) (t - 1) small few) in
     lt-of-le-of-lt (add-le-add before (D-bound-16 w i t small (omega arith))) (lit< tt)
+
+-- a sum that the lengths reach has a row
+pub D-some : (w i t : ℕ) → 1 ≤ w → t ≤ i * (w - 1) → 0 < D w i t
+unfolding D
+D-some w zero zero wide reached = lit< tt
+D-some w zero (suc t) wide reached = absurd (omega arith)
+D-some w (suc i) t wide reached =
+    let j = min t (w - 1) in
+    let behind : t - j ≤ i * (w - 1) = omega (arith, suc-mul i (w - 1)) in
+    omega (arith, sum-term (share (D w i) t) j w (omega arith), share-low (D w i) t j (omega arith), D-some w i (t - j) wide behind)

@@ -26,7 +26,7 @@ short p words = (ltb words (tableLength p), 5) ∷ []
 pub not-granted : (n : ℕ) → leavesTable n ≡ false → eqb n 0 ≡ false
 not-granted n e = by (eqb n 0) e
   where
-    by : (zero : Bool) → (zero || eqb n 7 || eqb n 15) ≡ false → zero ≡ false
+    by : (zero : Bool) → (zero || eqb n 7 || eqb n 15 || eqb n 19) ≡ false → zero ≡ false
     by true e = e
     by false e = refl
 

@@ -42,9 +42,9 @@ tableCauses p words = profileCauses p ++ ((ltb words (tableLength (p .shape)), 5
 unfoldable pub countCode : Shape → List ℕ → ℕ
 countCode p work = firstCause (countCauses p (length work))
 
--- "Every refusal leaves all lent slices untouched, except that 7 and 15 leave the table in the work slice, as every success with a work slice does"
+-- "Every refusal leaves all lent slices untouched, except that 7 and 15 leave the table in the work slice, as every success with a work slice does"; document 02, point 3: 19 "with the table left in the work slice"
 abbrev pub leavesTable : (code : ℕ) → Bool
-leavesTable code = eqb code 0 || eqb code 7 || eqb code 15
+leavesTable code = eqb code 0 || eqb code 7 || eqb code 15 || eqb code 19
 
 unfoldable pub tableAfter : (code : ℕ) → Shape → (work : List ℕ) → List ℕ
 tableAfter code p work = cond (leavesTable code) (withTable p work) work

@@ -12,7 +12,7 @@ use Rattle.sha256.specs.Digest.{wordBytes, digest}
 use Rattle.sha256.specs.Running.{started, addState, finished, hashed}
 use Rattle.sha256.specs.declared.running.Hash.{Hash}
 use Rattle.sha256.proofs.Joined.{started-hashed, finished-hashed, more-taken}
-use Rattle.message.specs.Message.{messageDigest, numberOfDigest}
+use Rattle.message.specs.Message.{messageDigest}
 
 -- start, and four adds
 pub all-taken : (r seed root message : List ℕ) {s₀ s₁ s₂ s₃ s₄ : Hash}
@@ -40,6 +40,6 @@ from-word l n h =
 -- the first 16 bytes, as words
 pub number-of-words : (l : List ℕ) → 16 ≤ length l
     → value (fromBytes (take 4 (drop 12 l)) ∷ fromBytes (take 4 (drop 8 l)) ∷ fromBytes (take 4 (drop 4 l)) ∷ fromBytes (take 4 (drop 0 l)) ∷ 0 ∷ [])
-    ≡ numberOfDigest l
-unfolding value numberOfDigest
+    ≡ fromBytes (take 16 l)
+unfolding value
 number-of-words l h = omega (arith, from-word l 12 (omega arith), from-word l 8 (omega arith), from-word l 4 (omega arith))

@@ -1,24 +1,34 @@
--- Document 01, Tree, key and cabinet: the digest, the message number and the length of a signature.
-use mathlib.Core.Bool.{Bool}
+-- Document 01, Tree, key and cabinet: the digest and the length of a signature. Document 02, point 3: the message number.
+use mathlib.Core.Bool.{Bool, cond}
 use mathlib.Core.List.{List, _++_}
-use Prim.Native.Nat.{ℕ, _+_, _*_}
-use lib.ListN.{take}
-use Rattle.words.specs.Bytes.{fromBytes}
+use Prim.Native.Nat.{ℕ, zero, suc, _+_, _*_, _^_}
+use lib.Dec.{ltb, leb}
+use Rattle.words.specs.Powers.{firstBits}
 use Rattle.sha256.specs.Digest.{digest}
 use Rattle.profile.specs.Checks.{outside}
 use Rattle.profile.specs.declared.Profile.{Profile}
+use Rattle.counts.specs.Counts.{count}
 
 -- "Digest: SHA-256 over R (16 bytes, given by the caller), public seed, root, order text"
 unfoldable pub messageDigest : (r seed root message : List ℕ) → List ℕ
 messageDigest r seed root message = digest (r ++ seed ++ root ++ message)
 
--- "The message number is the first 16 digest bytes, most significant first, for every profile"
-unfoldable pub numberOfDigest : List ℕ → ℕ
-numberOfDigest bytes = fromBytes (take 16 bytes)
+-- "the largest value up to 128 with 2^b not above the count": the values from a limit down; 0 where the count is 0
+unfoldable pub largestUpTo : (limit count : ℕ) → ℕ
+largestUpTo zero count = 0
+largestUpTo (suc b) count = cond (leb (2 ^ suc b) count) (suc b) (largestUpTo b count)
 
--- the number that a leaf of a profile signs: what it is depends neither on the profile nor on the leaf
+-- b
+unfoldable pub numberBits : (count : ℕ) → ℕ
+numberBits count = largestUpTo 128 count
+
+-- "the number is the first b bits of the digest": it does not depend on the leaf
 unfoldable pub messageNumber : Profile → (leaf : ℕ) (r seed root message : List ℕ) → ℕ
-messageNumber p leaf r seed root message = numberOfDigest (messageDigest r seed root message)
+messageNumber p leaf r seed root message = firstBits (numberBits (count (p .shape))) (messageDigest r seed root message)
+
+-- "19 when the count is below 256"
+unfoldable pub countTooSmall : (count : ℕ) → Bool
+countTooSmall count = ltb count 256
 
 -- "order text (1 to 200 bytes)": 16 where it is "empty or over 200 bytes"
 unfoldable pub outsideText : (bytes : ℕ) → Bool

@@ -1,12 +1,18 @@
 // The digest of an order, its number, and how long an order's text and a signature are.
 ghost use mathlib.Core.Path.{_≡_};
 ghost use Prim.Native.Nat.{_≤_};
-ghost use lib.ListN.{length};
+ghost use lib.ListN.{length, take};
+ghost use Rattle.words.specs.Bytes.{fromBytes};
 ghost use Rattle.words.specs.Number.{value};
-ghost use Rattle.message.specs.Message.{messageDigest, numberOfDigest, messageNumber, outsideText, signatureLength};
+ghost use Rattle.words.specs.Powers.{firstBits};
+ghost use Rattle.counts.specs.Counts as counts;
+ghost use Rattle.message.specs.Message.{messageDigest, numberBits, messageNumber, countTooSmall, outsideText, signatureLength};
 use profile::Profile;
 use sha256::Hash;
 use words::bytes::word_at;
+use words::number::less;
+use words::powers::log2;
+use words::powers::shift_right;
 
 // The digest over R, the public seed, the root and the message.
 fn message_digest(r: [u8; 16], seed: [u8; 16], root: [u8; 16], message: &[u8]) -> [u8; 32]
@@ -24,9 +30,24 @@ fn message_digest(r: [u8; 16], seed: [u8; 16], root: [u8; 16], message: &[u8]) -
     last.finish().digest()
 }
 
+// Whether a count is too small for a number of 8 bits.
+pub fn count_too_small(count: [u32; 5]) -> bool
+    ensures { λ r. ⌜ r ≡ countTooSmall (value count) ⌝ }
+{
+    less(count, [256, 0, 0, 0, 0])
+}
+
+// How many bits of the digest a count takes.
+pub fn number_bits(count: [u32; 5]) -> u32
+    ensures { λ b. ⌜ b ≡ numberBits (value count) ⌝ }
+{
+    let log = log2(count);
+    if log < 128 { log } else { 128 }
+}
+
 // The number that the first 16 bytes of a digest are, in five words.
-fn number_of_digest(digest: [u8; 32]) -> [u32; 5]
-    ensures { λ n. ⌜ value n ≡ numberOfDigest digest ⌝ }
+fn first_words(digest: [u8; 32]) -> [u32; 5]
+    ensures { λ n. ⌜ value n ≡ fromBytes (take 16 digest) ⌝ }
 {
     [
         word_at(&digest, 12),
@@ -37,19 +58,30 @@ fn number_of_digest(digest: [u8; 32]) -> [u32; 5]
     ]
 }
 
-// The message number that a leaf of a profile signs.
+// The number that the first bits of a digest are.
+pub fn number_of_digest(digest: [u8; 32], bits: u32) -> [u32; 5]
+    requires { ⌜ bits ≤ 128 ⌝ }
+    ensures { λ n. ⌜ value n ≡ firstBits bits digest ⌝ }
+{
+    shift_right(first_words(digest), 128 - bits)
+}
+
+// The message number that a leaf of a profile with this count signs.
 pub fn message_number(
     p: Profile,
+    count: [u32; 5],
     leaf: u32,
     r: [u8; 16],
     seed: [u8; 16],
     root: [u8; 16],
     message: &[u8],
 ) -> [u32; 5]
+    requires { ⌜ value count ≡ counts.count (p .shape) ⌝ }
     requires { ⌜ length (now message) ≤ 200 ⌝ }
     ensures { λ n. ⌜ value n ≡ messageNumber p leaf r seed root (now (message .entry)) ⌝ }
 {
-    number_of_digest(message_digest(r, seed, root, message))
+    let bits = number_bits(count);
+    number_of_digest(message_digest(r, seed, root, message), bits)
 }
 
 // Whether a message is empty or over 200 bytes.

@@ -2,9 +2,10 @@
 use mathlib.Core.Path.{_≡_, refl, _∙_, ap, sym}
 use mathlib.Core.Bool.{Bool, true, false, not, cond, true≢false}
 use mathlib.Core.List.{List, [], _∷_, _++_, append-assoc, append-nil}
+use mathlib.Core.Logic.{_↔_}
 use Prim.Native.Nat.{ℕ, zero, suc, _<_, _≤_}
 use native.Mathlib.Omega.{arith}
-use borrow.Author.Tests.{eqb-true, eqb-false, ne-eqb, not-false}
+use borrow.Author.Tests.{eqb-true, eqb-false, eq-eqb, ne-eqb, not-false}
 use lib.Dec.{eqb}
 use Rattle.refusal.specs.Code.{code, outcomeCode, firstCause, thenFirst, thenCode}
 use Rattle.refusal.specs.declared.Refusal.{Refusal}
@@ -49,6 +50,10 @@ first-avoids kind (cause ∷ more) p h = by (cause .0) (cause .1) (p .0) h (firs
         → kind (firstCause ((test, n) ∷ more)) ≡ false
     by true n here some rest = here
     by false n here some rest = rest some
+
+-- a code that no cause of a list has is not that of the first that holds
+pub first-without : (k : ℕ) (causes : List (Bool × ℕ)) → Without k causes → 0 < k → firstCause causes ≡ k → ⊥
+first-without k causes p some e = true≢false (sym (rw e (eq-eqb k k refl)) ∙ first-avoids (λ n. eqb n k) causes p (omega arith))
 
 -- causes none of which is of a kind, and then causes that all are, as 0 is: the first that holds is of the kind exactly where none of the former holds
 pub kind-then : (kind : ℕ → Bool) (first more : List (Bool × ℕ)) → kind 0 ≡ true → Avoids kind first → Avoids (λ n. not (kind n)) more
@@ -97,6 +102,19 @@ some-then (cause ∷ first) more h = by (cause .0) (cause .1) h (some-then first
         → firstCause ((test, n) ∷ (first ++ more)) ≡ firstCause ((test, n) ∷ first)
     by true n k rest = refl
     by false n k rest = rest k
+
+-- a cause whose code no other has gives the answer exactly where it holds and none before it does
+pub cause-answers : (before more : List (Bool × ℕ)) (test : Bool) (k : ℕ) → Numbered before → Without k before → Without k more → 0 < k
+    → (firstCause (before ++ ((test, k) ∷ more)) ≡ k) ↔ ((firstCause before ≡ 0) × (test ≡ true))
+cause-answers [] more true k p q later some = ((λ e. (refl, refl)), (λ holds. refl))
+cause-answers [] more false k p q later some = ((λ e. absurd (first-without k more later some e)), (λ holds. absurd (true≢false (sym (holds .1)))))
+cause-answers (cause ∷ before) more test k p q later some = by (cause .0) (cause .1) (p .0) (q .0) (cause-answers before more test k (p .1) (q .1) later some)
+  where
+    by : (first : Bool) (n : ℕ) → eqb n 0 ≡ false → eqb n k ≡ false
+        → (firstCause (before ++ ((test, k) ∷ more)) ≡ k) ↔ ((firstCause before ≡ 0) × (test ≡ true))
+        → (firstCause ((first, n) ∷ (before ++ ((test, k) ∷ more))) ≡ k) ↔ ((firstCause ((first, n) ∷ before) ≡ 0) × (test ≡ true))
+    by true n numbered other rest = ((λ e. absurd (eqb-false n k other e)), (λ holds. absurd (eqb-false n 0 numbered (holds .0))))
+    by false n numbered other rest = rest
 
 -- where none of a list holds, none of its first part does, and none of its second
 pub none-of-append : (first more : List (Bool × ℕ)) → Numbered first → firstCause (first ++ more) ≡ 0 → (firstCause first ≡ 0) × (firstCause more ≡ 0)

@@ -1,10 +1,10 @@
--- The codes of the causes of document 01, "Operations and their refusals".
+-- The codes of the causes of document 01, "Operations and their refusals", and of those of document 02 that have landed.
 use mathlib.Core.Bool.{Bool, cond}
 use mathlib.Core.List.{List, [], _∷_}
 use Prim.Native.Nat.{ℕ}
 use lib.Dec.{eqb}
 use Rattle.refusal.specs.declared.Refusal.{Refusal}
-use Rattle.refusal.specs.declared.Refusal.the-variants.{ChainCount, Width, Sum, Height, TableTooShort, OutputTooShort, NumberTooLarge, CodewordLength, DigitTooLarge, CodewordSum, LeafOutOfRange, KeySpent, SignatureLength, LeafPassed, RootDiffers, MessageLength, SheetLine, HashTooLong}
+use Rattle.refusal.specs.declared.Refusal.the-variants.{ChainCount, Width, Sum, Height, TableTooShort, OutputTooShort, NumberTooLarge, CodewordLength, DigitTooLarge, CodewordSum, LeafOutOfRange, KeySpent, SignatureLength, LeafPassed, RootDiffers, MessageLength, SheetLine, HashTooLong, CountTooSmall}
 use Rattle.refusal.specs.declared.Outcome.{Outcome}
 use Rattle.refusal.specs.declared.Outcome.the-variants.{Granted, Refused}
 
@@ -42,6 +42,8 @@ code MessageLength = 16
 code SheetLine = 17
 -- "18, if the total with the new bytes is over 65,535"
 code HashTooLong = 18
+-- document 02, point 3: "19 when the count is below 256"
+code CountTooSmall = 19
 
 -- 0 for granted, else the code of the cause
 abbrev pub outcomeCode : Outcome → ℕ

@@ -2,7 +2,8 @@
 ghost use mathlib.Core.Path.{_≡_};
 ghost use Rattle.refusal.specs.Code.{code, outcomeCode, thenCode};
 
-// Every cause of document 01, in the order of its code, which is the document's number.
+// Every cause of document 01, and of document 02 as far as it has landed, in the order of their codes, which are the
+// documents' numbers.
 pub enum Refusal {
     ChainCount,
     Width,
@@ -22,6 +23,7 @@ pub enum Refusal {
     MessageLength,
     SheetLine,
     HashTooLong,
+    CountTooSmall,
 }
 
 // The answer of an operation that gives no value of its own.
@@ -53,6 +55,7 @@ pub fn code(r: Refusal) -> u8
         Refusal::MessageLength => 16,
         Refusal::SheetLine => 17,
         Refusal::HashTooLong => 18,
+        Refusal::CountTooSmall => 19,
     }
 }
 

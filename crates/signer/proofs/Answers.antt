@@ -1,16 +1,16 @@
 -- What Issue answers and leaves on each way out.
 use mathlib.Core.Path.{_≡_, refl, _∙_, sym}
-use mathlib.Core.Bool.{Bool, cond}
+use mathlib.Core.Bool.{Bool, true, false, cond}
 use mathlib.Core.List.{List, [], _∷_, _++_}
 use Prim.Native.Nat.{ℕ, _^_, _<_, _≤_}
 use native.Mathlib.Nat.{zero-add}
-use borrow.Author.Tests.{ltb-false, le-leb, lt-leb}
-use lib.Dec.{ltb, leb, eqb}
+use borrow.Author.Tests.{ltb-false}
+use lib.Dec.{ltb, eqb}
 use lib.ListN.{length, take}
 use lib.Seq.{paste}
 use Rattle.refusal.specs.Code.{outcomeCode, firstCause, thenFirst}
 use Rattle.refusal.specs.declared.Refusal.{Refusal}
-use Rattle.refusal.specs.declared.Refusal.the-variants.{NumberTooLarge}
+use Rattle.refusal.specs.declared.Refusal.the-variants.{CountTooSmall}
 use Rattle.refusal.specs.declared.Outcome.{Outcome}
 use Rattle.refusal.specs.declared.Outcome.the-variants.{Granted, Refused}
 use Rattle.refusal.proofs.Causes.{Avoids, none-here, refused-number, code-kept}
@@ -29,12 +29,13 @@ use Rattle.chains.specs.Leaves.{leafKeyOf, revealed}
 use Rattle.one_time.specs.Operations.{revealedBy}
 use Rattle.one_time.proofs.RowLaws.{revealed-row}
 use Rattle.tree.specs.Tree.{rootOf, path}
-use Rattle.message.specs.Message.{messageNumber, outsideText, signatureLength}
+use Rattle.message.specs.Message.{messageNumber, countTooSmall, outsideText, signatureLength}
 use Rattle.message.proofs.Fits.{short-text}
+use Rattle.message.proofs.NumberLaws.{number-fits}
 use Rattle.signer.specs.Signing.{spent, advanced, keyNumber, signatureOf, orderCauses, signCode, keyAfter, outputAfter, Signs}
 use Rattle.signer.specs.declared.SigningKey.{SigningKey}
 
--- past the causes before 7: everything is within its limits, the output has room, and the key has a leaf
+-- past the causes before 19: everything is within its limits, the output has room, and the key has a leaf
 pub record SignFits (key : SigningKey) (text bytes : ℕ) : Type 0 where
   pub limits : InLimits (key .profile .shape)
   pub low : key .profile .height ≤ 10
@@ -48,7 +49,12 @@ pub number-is : (key : SigningKey) (r message : List ℕ) {root : List ℕ} {n :
 unfolding keyNumber
 number-is key r message above e = e ∙ rw above
 
--- the causes before 7: those of the table, then those of the order
+-- below the count, where that is not too small
+pub key-number-fits : (key : SigningKey) (r message : List ℕ) → countTooSmall (count (key .profile .shape)) ≡ false → keyNumber key r message < count (key .profile .shape)
+unfolding keyNumber
+key-number-fits key r message = number-fits (key .profile) (key .next) r (key .seed) (rootOf (firstDomain (key .seed)) (key .profile) (key .secret)) message
+
+-- the causes before 19: those of the table, then those of the order
 module _ (key : SigningKey) (r message work out : List ℕ) {n m : ℕ} (checked : n ≡ firstCause (tableCauses (key .profile) (length work)))
     (e : m ≡ thenFirst n (orderCauses key (length message) (length out))) where
   abbrev shape : Shape
@@ -99,14 +105,14 @@ module _ (key : SigningKey) (r message work out : List ℕ) {n m : ℕ} (checked
 
   -- the cause behind the table
   abbrev after : List (Bool × ℕ)
-  after = (leb (count shape) (keyNumber key r message), 7) ∷ []
+  after = (countTooSmall (count shape), 19) ∷ []
 
   -- all causes
   causes : code ≡ firstCause (first ++ (own ++ after))
   unfolding signCode
   causes = refl
 
-  -- the table is filled past the causes before 7
+  -- the table is filled past the causes before 19
   module _ {left : List ℕ} (filled : left ≡ cond (eqb m 0) (withTable shape work) work) where
     table : left ≡ tableAfter code shape work
     table = table-after first own early between before after (refl, tt) causes shape work filled
@@ -117,19 +123,19 @@ module _ (key : SigningKey) (r message work out : List ℕ) {n m : ℕ} (checked
         let refused = refused-before first own early between before after (refl, tt) causes (refused-number o m x answer q) in
         record { code = answer ∙ refused .answer; key′ = rw (refused .some); table = table; written = rw (refused .some) }
 
-    -- none of them holds, and the number is compared with the count
+    -- none of them holds, and the count is looked at
     module _ (none : m ≡ 0) where
       left-over : code ≡ firstCause after
       left-over = granted-before first own early between before after (refl, tt) causes none
 
-      pub sign-seven : count shape ≤ keyNumber key r message → Signs key r message work out left out (record { outcome = Refused NumberTooLarge; key = key })
+      pub sign-nineteen : countTooSmall (count shape) ≡ true → Signs key r message work out left out (record { outcome = Refused CountTooSmall; key = key })
       unfolding keyAfter outputAfter
-      sign-seven h =
-          let seven : code ≡ 7 = left-over ∙ rw (le-leb (count shape) (keyNumber key r message) h) in
-          record { code = sym seven; key′ = rw seven; table = table; written = rw seven }
+      sign-nineteen small =
+          let nineteen : code ≡ 19 = left-over ∙ rw small in
+          record { code = sym nineteen; key′ = rw nineteen; table = table; written = rw nineteen }
 
       -- the codeword in the row, in front of what else it has, the signature made of it, and that copied to the output
-      pub sign-granted : {o : Outcome} {d : Domain} {row siblings out′ : List ℕ} {after′ : SigningKey} {k bytes : ℕ} (more made : List ℕ) → d ≡ firstDomain (key .seed) → o ≡ Granted → k ≡ keyNumber key r message → keyNumber key r message < count shape
+      pub sign-granted : {o : Outcome} {d : Domain} {row siblings out′ : List ℕ} {after′ : SigningKey} {k bytes : ℕ} (more made : List ℕ) → d ≡ firstDomain (key .seed) → o ≡ Granted → k ≡ keyNumber key r message → countTooSmall (count shape) ≡ false
           → row ≡ rowOf shape k ++ more → after′ ≡ advanced key
           → siblings ≡ path d (leafKeyOf d (key .profile) (key .secret)) (key .profile .height) (key .next)
           → take (signatureLength (key .profile)) made
@@ -137,7 +143,7 @@ module _ (key : SigningKey) (r message work out : List ℕ) {n m : ℕ} (checked
           → bytes ≡ signatureLength (key .profile) → out′ ≡ paste out 0 made bytes
           → Signs key r message work out left out′ (record { outcome = o; key = after′ })
       unfolding keyAfter outputAfter signatureOf revealedBy
-      sign-granted more made domain q same below placed a way m′ long w =
-          let zero : code ≡ 0 = left-over ∙ rw (lt-leb (count shape) (keyNumber key r message) below) in
-          let shown = revealed-row shape (keyNumber key r message) more below (firstDomain (key .seed)) (key .secret) (key .next) in
+      sign-granted more made domain q same large placed a way m′ long w =
+          let zero : code ≡ 0 = left-over ∙ rw large in
+          let shown = revealed-row shape (keyNumber key r message) more (key-number-fits key r message large) (firstDomain (key .seed)) (key .secret) (key .next) in
           record { code = rw q (sym zero); key′ = rw zero a; table = table; written = rw zero (w ∙ rw (long, zero-add, m′, way, placed, same, domain, shown)) }

@@ -1,9 +1,9 @@
--- Document 01, "Issue": what a key signs, what comes back and what is written.
+-- Document 01, "Issue", with document 02, point 3: what a key signs, what comes back and what is written.
 use mathlib.Core.Path.{_≡_}
 use mathlib.Core.Bool.{Bool, cond}
 use mathlib.Core.List.{List, [], _∷_, _++_}
 use Prim.Native.Nat.{ℕ, _+_}
-use lib.Dec.{ltb, leb, eqb}
+use lib.Dec.{ltb, eqb}
 use lib.ListN.{length, drop}
 use Rattle.refusal.specs.Code.{outcomeCode, firstCause}
 use Rattle.words.specs.Bytes.{toBytes}
@@ -16,7 +16,7 @@ use Rattle.tweak.specs.declared.Domain.{Domain}
 use Rattle.chains.specs.Leaves.{leafKeyOf}
 use Rattle.one_time.specs.Operations.{revealedBy}
 use Rattle.tree.specs.Tree.{rootOf, path}
-use Rattle.message.specs.Message.{messageNumber, outsideText, signatureLength}
+use Rattle.message.specs.Message.{messageNumber, countTooSmall, outsideText, signatureLength}
 use Rattle.signer.specs.declared.SigningKey.{SigningKey}
 use Rattle.signer.specs.declared.Signed.{Signed}
 
@@ -48,12 +48,12 @@ abbrev pub orderCauses : SigningKey → (text bytes : ℕ) → List (Bool × ℕ
 orderCauses key text bytes =
     (outsideText text, 16) ∷ (ltb bytes (signatureLength (key .profile)), 6) ∷ (spent key, 12) ∷ []
 
--- "Issue: profile checks, 5; 16 …; 6 …; 12 …; 7"
+-- "Issue: profile checks, 5; 16 …; 6 …; 12 …; 7", with 19 "in 7's place"
 unfoldable pub signCode : SigningKey → (r message work out : List ℕ) → ℕ
 signCode key r message work out =
     firstCause
     (tableCauses (key .profile) (length work)
-    ++ (orderCauses key (length message) (length out) ++ ((leb (count (key .profile .shape)) (keyNumber key r message), 7) ∷ [])))
+    ++ (orderCauses key (length message) (length out) ++ ((countTooSmall (count (key .profile .shape)), 19) ∷ [])))
 
 -- the key that comes back: "Success adds 1 to the next leaf; a refusal uses no leaf"
 unfoldable pub keyAfter : SigningKey → (r message work out : List ℕ) → SigningKey

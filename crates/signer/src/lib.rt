@@ -16,6 +16,7 @@ use chains::leaves::write_values;
 use codewords::unranking::write_codeword;
 use counts::table::fill_past;
 use counts::table::table_outcome;
+use message::count_too_small;
 use message::message_number;
 use message::outside_text;
 use message::signature_length;
@@ -32,7 +33,6 @@ use tweak::first_hasher;
 use words::bytes::copy;
 use words::bytes::word_bytes;
 use words::bytes::write_16;
-use words::number::less;
 
 // A key (document 01): its profile, both seeds, and the next leaf that it will use.
 pub struct SigningKey {
@@ -68,7 +68,7 @@ fn advance(key: SigningKey) -> SigningKey
     }
 }
 
-// The causes of Issue between 5 and 7, behind an outcome.
+// The causes of Issue between 5 and 19, behind an outcome.
 fn sign_outcome(checked: Outcome, key: SigningKey, text: usize, bytes: usize) -> Outcome
     ensures { λ r. ⌜ outcomeCode r ≡ thenFirst (outcomeCode checked) (spec.orderCauses key text bytes) ⌝ }
 {
@@ -178,15 +178,20 @@ pub fn sign(
             key: key,
         },
         Outcome::Granted => {
-            let seed = key.seed;
-            let secret = key.secret;
-            let next = key.next;
             let after = advance(key);
-            let h = first_hasher(seed);
-            let way = way_up(h, p, &secret, next);
-            let root = way.root;
-            let number = message_number(p, next, r, seed, root, message);
-            if less(number, count) {
+            if count_too_small(count) {
+                Signed {
+                    outcome: Outcome::Refused(Refusal::CountTooSmall),
+                    key: key,
+                }
+            } else {
+                let seed = key.seed;
+                let secret = key.secret;
+                let next = key.next;
+                let h = first_hasher(seed);
+                let way = way_up(h, p, &secret, next);
+                let root = way.root;
+                let number = message_number(p, count, next, r, seed, root, message);
                 let mut row = [0u8; 40];
                 write_codeword(shape, number, table, &mut row);
                 let siblings = way.siblings;
@@ -196,11 +201,6 @@ pub fn sign(
                 Signed {
                     outcome: early,
                     key: after,
-                }
-            } else {
-                Signed {
-                    outcome: Outcome::Refused(Refusal::NumberTooLarge),
-                    key: key,
                 }
             }
         }

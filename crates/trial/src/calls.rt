@@ -1,4 +1,6 @@
 // The operations, by the tests' own numbers. Each reads what it takes besides the slices, and writes its answer.
+use super::bits::bits;
+use super::bits::first_bits;
 use super::hash::hash;
 use super::input::length;
 use super::input::number;
@@ -24,7 +26,9 @@ pub fn call(operation: u32, table: &mut [u32], bytes: &mut [u8], text: &mut [u8]
         7 => recover(table, bytes),
         8 => issue(table, text, bytes),
         9 => check(table, text, bytes),
-        _ => sheet(bytes, text),
+        10 => sheet(bytes, text),
+        11 => bits(),
+        _ => first_bits(),
     }
 }
 

@@ -14,6 +14,7 @@ use Rattle.sha256.specs.Digest.{padding, compressAll, finalWords, wordBytes, di
 use Rattle.sha256.specs.Running.{rest, finished, hashed}
 use Rattle.sha256.specs.declared.running.Hash.{Hash}
 use Rattle.sha256.proofs.Blocks.{all-append, all-one, rest-append}
+use Rattle.sha256.proofs.DigestBytes.{length-digest}
 use Rattle.sha256.proofs.Joined.{finished-hashed}
 use Rattle.tweak.specs.Tweak.{address, seedBlock, tweakedHash}
 use Rattle.tweak.specs.declared.Domain.{Domain}
@@ -25,10 +26,6 @@ length-address d kind first second third = simp (length-append, length-toBytes)
 pub length-seed-block : (seed : List ℕ) → length seed ≡ 16 → length (seedBlock seed) ≡ 64
 unfolding seedBlock
 length-seed-block seed e = length-append seed (replicate 48 0) ∙ rw e
-
-length-digest : (bytes : List ℕ) → length (digest bytes) ≡ 32
-unfolding digest wordBytes
-length-digest bytes = simp (length-append, length-toBytes)
 
 pub length-tweaked : (d : Domain) (a bytes : List ℕ) → length (tweakedHash d a bytes) ≡ 16
 unfolding tweakedHash

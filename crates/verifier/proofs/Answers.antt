@@ -5,13 +5,13 @@ use mathlib.Core.List.{List, [], _∷_, _++_, append-assoc}
 use Prim.Native.Nat.{ℕ, _^_, _<_, _≤_}
 use native.Mathlib.Nat.{lt-of-lt-of-le}
 use native.Mathlib.Omega.{arith}
-use borrow.Author.Tests.{eqb-true, not-false, le-leb, lt-leb}
-use lib.Dec.{leb, eqb}
+use borrow.Author.Tests.{eqb-true, not-false}
+use lib.Dec.{eqb}
 use lib.ListN.{length, take}
 use lib.Pow.{pow-mono}
 use Rattle.refusal.specs.Code.{outcomeCode, firstCause, thenFirst}
 use Rattle.refusal.specs.declared.Refusal.{Refusal}
-use Rattle.refusal.specs.declared.Refusal.the-variants.{NumberTooLarge, RootDiffers}
+use Rattle.refusal.specs.declared.Refusal.the-variants.{RootDiffers, CountTooSmall}
 use Rattle.refusal.specs.declared.Outcome.{Outcome}
 use Rattle.refusal.specs.declared.Outcome.the-variants.{Granted, Refused}
 use Rattle.refusal.proofs.Causes.{Avoids, none-here, refused-number, code-kept}
@@ -29,12 +29,13 @@ use Rattle.chains.specs.Leaves.{recovered}
 use Rattle.one_time.specs.Operations.{recoveredBy, stepsOf}
 use Rattle.one_time.proofs.RowLaws.{recovered-row, steps-row}
 use Rattle.tree.specs.Tree.{climbed}
-use Rattle.message.specs.Message.{outsideText, signatureLength}
+use Rattle.message.specs.Message.{countTooSmall, outsideText, signatureLength}
 use Rattle.message.proofs.Fits.{short-text}
-use Rattle.verifier.specs.Verifying.{passed, taken, leafIn, valuesIn, siblingsIn, numberIn, recoveredRoot, rootIn, same, orderCauses, causesBeforeRoot, verifyCode, verifierAfter, stepsMade, Verifies}
+use Rattle.message.proofs.NumberLaws.{number-fits}
+use Rattle.verifier.specs.Verifying.{passed, taken, leafIn, randomIn, valuesIn, siblingsIn, numberIn, recoveredRoot, rootIn, same, orderCauses, causesBeforeRoot, verifyCode, verifierAfter, stepsMade, Verifies}
 use Rattle.verifier.specs.declared.Verifier.{Verifier}
 
--- past the causes before 7: everything is within its limits, the signature has its length, and the leaf that it names is small
+-- past the causes before 19: everything is within its limits, the signature has its length, and the leaf that it names is small
 pub record VerifyFits (v : Verifier) (text : ℕ) (signature : List ℕ) : Type 0 where
   pub limits : InLimits (v .profile .shape)
   pub low : v .profile .height ≤ 10
@@ -48,7 +49,12 @@ pub record Judged (v : Verifier) (message signature work left : List ℕ) (b : B
   pub differs : b ≡ false → Verifies v message signature work left (record { outcome = Refused RootDiffers; verifier = v; steps = steps })
   pub agrees : {o : Outcome} {after : Verifier} → b ≡ true → o ≡ Granted → after ≡ taken v leaf → Verifies v message signature work left (record { outcome = o; verifier = after; steps = steps })
 
--- the causes before 7: those of the table, then those of the order
+-- the message number is below the count, where that is not too small
+pub number-in-fits : (v : Verifier) (message signature : List ℕ) → countTooSmall (count (v .profile .shape)) ≡ false → numberIn v message signature < count (v .profile .shape)
+unfolding numberIn
+number-in-fits v message signature = number-fits (v .profile) (leafIn signature) (randomIn signature) (v .seed) (v .root) message
+
+-- the causes before 19: those of the table, then those of the order
 module _ (v : Verifier) (message signature work : List ℕ) {n m : ℕ} (checked : n ≡ firstCause (tableCauses (v .profile) (length work)))
     (e : m ≡ thenFirst n (orderCauses v (length message) signature)) where
   abbrev shape : Shape
@@ -105,14 +111,14 @@ module _ (v : Verifier) (message signature work : List ℕ) {n m : ℕ} (checked
 
   -- the causes behind the table
   abbrev after : List (Bool × ℕ)
-  after = (leb (count shape) number, 7) ∷ (not (same (rootIn v message signature) (v .root)), 15) ∷ []
+  after = (countTooSmall (count shape), 19) ∷ (not (same (rootIn v message signature) (v .root)), 15) ∷ []
 
   -- all causes
   causes : code ≡ firstCause (first ++ (own ++ after))
   unfolding verifyCode causesBeforeRoot
-  causes = ap firstCause (append-assoc first (own ++ ((leb (count shape) number, 7) ∷ [])) ((not (same (rootIn v message signature) (v .root)), 15) ∷ []))
+  causes = ap firstCause (append-assoc first (own ++ ((countTooSmall (count shape), 19) ∷ [])) ((not (same (rootIn v message signature) (v .root)), 15) ∷ []))
 
-  -- the table is filled past the causes before 7
+  -- the table is filled past the causes before 19
   module _ {left : List ℕ} (filled : left ≡ cond (eqb m 0) (withTable shape work) work) where
     table : left ≡ tableAfter code shape work
     table = table-after first own early between before after (refl, (refl, tt)) causes shape work filled
@@ -123,23 +129,26 @@ module _ (v : Verifier) (message signature work : List ℕ) {n m : ℕ} (checked
         let refused = refused-before first own early between before after (refl, (refl, tt)) causes (refused-number o m x answer q) in
         record { code = answer ∙ refused .answer; verifier = rw (refused .some); steps = rw (refused .some, refused .not-fifteen); table = table }
 
-    -- none of them holds, and the number is compared with the count
+    -- none of them holds, and the count is looked at
     module _ (none : m ≡ 0) where
       left-over : code ≡ firstCause after
       left-over = granted-before first own early between before after (refl, (refl, tt)) causes none
 
-      pub verify-seven : count shape ≤ number → Verifies v message signature work left (record { outcome = Refused NumberTooLarge; verifier = v; steps = 0 })
+      pub verify-nineteen : countTooSmall (count shape) ≡ true → Verifies v message signature work left (record { outcome = Refused CountTooSmall; verifier = v; steps = 0 })
       unfolding verifierAfter stepsMade
-      verify-seven h =
-          let seven : code ≡ 7 = left-over ∙ rw (le-leb (count shape) number h) in
-          record { code = sym seven; verifier = rw seven; steps = rw seven; table = table }
+      verify-nineteen small =
+          let nineteen : code ≡ 19 = left-over ∙ rw small in
+          record { code = sym nineteen; verifier = rw nineteen; steps = rw nineteen; table = table }
 
       -- the number's codeword in the row, in front of what else it has, with the root and the steps found over that row
-      module _ {k : ℕ} {row : List ℕ} (more : List ℕ) (same-number : k ≡ number) (below : number < count shape) (placed : row ≡ rowOf shape k ++ more)
+      module _ {k : ℕ} {row : List ℕ} (more : List ℕ) (same-number : k ≡ number) (large : countTooSmall (count shape) ≡ false) (placed : row ≡ rowOf shape k ++ more)
           {leaf steps : ℕ} {top : List ℕ} (own-leaf : leaf ≡ leafIn signature)
           (climb : top
           ≡ climbed (firstDomain (v .seed)) leaf (recovered (firstDomain (v .seed)) (shape .width) (shape .chains) leaf row (valuesIn (v .profile) signature)) (siblingsIn (v .profile) signature) (v .profile .height))
           (made : steps ≡ stepsLeft (shape .width) (take (shape .chains) row)) where
+        below : number < count shape
+        below = number-in-fits v message signature large
+
         top-recovered : top ≡ rootIn v message signature
         unfolding rootIn recoveredRoot recoveredBy
         top-recovered = climb ∙ rw (own-leaf, placed, same-number, recovered-row shape number more below (firstDomain (v .seed)) (valuesIn (v .profile) signature) (leafIn signature))
@@ -150,7 +159,7 @@ module _ (v : Verifier) (message signature work : List ℕ) {n m : ℕ} (checked
 
         -- 15 or granted, as the comparison of the roots answers
         compared : (b : Bool) → b ≡ same top (v .root) → code ≡ firstCause ((not b, 15) ∷ [])
-        compared b c = left-over ∙ rw (lt-leb (count shape) number below, c, top-recovered)
+        compared b c = left-over ∙ rw (large, c, top-recovered)
 
         pub verify-judged : {b : Bool} → b ≡ same top (v .root) → Judged v message signature work left b leaf steps
         unfolding verifierAfter stepsMade

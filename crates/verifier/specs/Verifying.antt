@@ -1,9 +1,9 @@
--- Document 01, "Check": how a signature is read and judged, and what the cabinet is afterwards.
+-- Document 01, "Check", with document 02, point 3: how a signature is read and judged, and what the cabinet is afterwards.
 use mathlib.Core.Path.{_≡_}
 use mathlib.Core.Bool.{Bool, true, false, not, _&&_, _||_, cond}
 use mathlib.Core.List.{List, [], _∷_, _++_}
 use Prim.Native.Nat.{ℕ, _+_, _*_}
-use lib.Dec.{ltb, leb, eqb}
+use lib.Dec.{ltb, eqb}
 use lib.ListN.{length, take, drop}
 use Rattle.refusal.specs.Code.{outcomeCode, firstCause}
 use Rattle.words.specs.Bytes.{fromBytes}
@@ -15,7 +15,7 @@ use Rattle.tweak.specs.Tweak.{firstDomain}
 use Rattle.tweak.specs.declared.Domain.{Domain}
 use Rattle.one_time.specs.Operations.{recoveredBy, stepsOf}
 use Rattle.tree.specs.Tree.{climbed}
-use Rattle.message.specs.Message.{messageNumber, outsideText, signatureLength}
+use Rattle.message.specs.Message.{messageNumber, countTooSmall, outsideText, signatureLength}
 use Rattle.verifier.specs.declared.Verifier.{Verifier}
 use Rattle.verifier.specs.declared.Verdict.{Verdict}
 
@@ -72,11 +72,11 @@ orderCauses v text signature =
     (outsideText text, 16) ∷ (not (eqb (length signature) (signatureLength (v .profile))), 13)
     ∷ (leafBeyond (v .profile .height) (leafIn signature), 11) ∷ (passed v (leafIn signature), 14) ∷ []
 
--- "Check: profile checks, 5, 16; 13 …; 11; 14 …; 7; …"
+-- "Check: profile checks, 5, 16; 13 …; 11; 14 …; 7; …", with 19 "in 7's place"
 unfoldable pub causesBeforeRoot : Verifier → (message signature work : List ℕ) → List (Bool × ℕ)
 causesBeforeRoot v message signature work =
     tableCauses (v .profile) (length work)
-    ++ (orderCauses v (length message) signature ++ ((leb (count (v .profile .shape)) (numberIn v message signature), 7) ∷ []))
+    ++ (orderCauses v (length message) signature ++ ((countTooSmall (count (v .profile .shape)), 19) ∷ []))
 
 -- "… 15 recovered root differs"
 unfoldable pub verifyCode : Verifier → (message signature work : List ℕ) → ℕ

@@ -5,6 +5,7 @@ ghost use lib.ListN.{length, take};
 ghost use Rattle.refusal.specs.Code.{outcomeCode, thenFirst};
 ghost use Rattle.words.specs.Number.{value};
 ghost use Rattle.profile.specs.Checks.{InLimits};
+ghost use Rattle.counts.specs.Counts as counts;
 ghost use Rattle.codewords.specs.Codeword.{stepsLeft};
 ghost use Rattle.tweak.specs.Tweak.{firstDomain};
 ghost use Rattle.chains.specs.Leaves.{recovered};
@@ -15,6 +16,7 @@ use chains::leaves::recover_key;
 use codewords::unranking::write_codeword;
 use counts::table::fill_past;
 use counts::table::table_outcome;
+use message::count_too_small;
 use message::message_number;
 use message::outside_text;
 use message::signature_length;
@@ -28,7 +30,6 @@ use tweak::Leaf;
 use tweak::first_hasher;
 use words::bytes::front_word;
 use words::bytes::read_16;
-use words::number::less;
 
 // A cabinet (document 01): its profile, the public seed, the root, and the lowest leaf that it will still take.
 pub struct Verifier {
@@ -89,8 +90,9 @@ fn leaf_in(signature: &[u8]) -> u32
     front_word(signature)
 }
 
-// The message number, with the signature's R and the cabinet's root.
-fn number_in(v: Verifier, message: &[u8], signature: &[u8]) -> [u32; 5]
+// The message number, with the signature's R and the cabinet's root, for the count of the cabinet's profile.
+fn number_in(v: Verifier, count: [u32; 5], message: &[u8], signature: &[u8]) -> [u32; 5]
+    requires { ⌜ value count ≡ counts.count (v .profile .shape) ⌝ }
     requires { ⌜ (length (now message) ≤ 200) × (20 ≤ length (now signature)) ⌝ }
     ensures { λ r. ⌜ value r ≡ spec.numberIn v (now (message .entry)) (now (signature .entry)) ⌝ }
 {
@@ -99,10 +101,10 @@ fn number_in(v: Verifier, message: &[u8], signature: &[u8]) -> [u32; 5]
     let root = v.root;
     let leaf = leaf_in(signature);
     let r = read_16(signature, 4);
-    message_number(p, leaf, r, seed, root, message)
+    message_number(p, count, leaf, r, seed, root, message)
 }
 
-// The causes of Check between 5 and 7, behind an outcome. A signature of the wrong length is refused before its leaf counts.
+// The causes of Check between 5 and 19, behind an outcome. A signature of the wrong length is refused before its leaf counts.
 fn verify_outcome(checked: Outcome, v: Verifier, text: usize, signature: &[u8]) -> Outcome
     ensures { λ r. ⌜ outcomeCode r ≡ thenFirst (outcomeCode checked) (spec.orderCauses v text (now (signature .entry))) ⌝ }
 {
@@ -165,8 +167,14 @@ pub fn verify(v: Verifier, message: &[u8], signature: &[u8], table: &mut [u32]) 
             steps: 0,
         },
         Outcome::Granted => {
-            let number = number_in(v, message, signature);
-            if less(number, count) {
+            if count_too_small(count) {
+                Verdict {
+                    outcome: Outcome::Refused(Refusal::CountTooSmall),
+                    verifier: v,
+                    steps: 0,
+                }
+            } else {
+                let number = number_in(v, count, message, signature);
                 let mut row = [0u8; 40];
                 write_codeword(shape, number, table, &mut row);
                 let leaf = leaf_in(signature);
@@ -187,12 +195,6 @@ pub fn verify(v: Verifier, message: &[u8], signature: &[u8], table: &mut [u32]) 
                         verifier: v,
                         steps: steps,
                     }
-                }
-            } else {
-                Verdict {
-                    outcome: Outcome::Refused(Refusal::NumberTooLarge),
-                    verifier: v,
-                    steps: 0,
                 }
             }
         }

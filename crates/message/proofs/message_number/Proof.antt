@@ -1,14 +1,22 @@
--- `message::message_number` meets its contract: the number of the digest.
-use mathlib.Core.Path.{_∙_, ap}
-use Rattle.message.specs.Message.{numberOfDigest, messageNumber}
+-- `message::message_number` meets its contract: the first bits of the digest, as many as the count takes.
+use mathlib.Core.Path.{_≡_, _∙_, ap}
+use native.Mathlib.Omega.{arith}
 use borrow.Author.Needs.{needs}
+use Rattle.words.specs.Powers.{firstBits}
+use Rattle.words.specs.Number.{value}
+use Rattle.message.specs.Message.{numberBits, messageNumber}
+use Rattle.message.proofs.NumberLaws.{bits-few}
 use Rattle.message.proofs.message_number.Statement.{statement}
 use Rattle.message.proofs.message_number.Tie as tie
 
+few : tie.Need-number-of-digest-requires
+few c κs = omega (arith, c .before .number-bits .ensures, bits-few (value (c .before .before .before .args .count)))
+
 returns : tie.Need-returns
 unfolding messageNumber
-returns c = c .number-of-digest .ensures ∙ ap numberOfDigest (c .before .message-digest .ensures)
+returns c =
+    let start = c .before .before .before .before in
+    c .number-of-digest .ensures ∙ rw (c .before .message-digest .ensures, c .before .before .number-bits .ensures, start .pre .0)
 
 pub message-number-spec : {M : Type 1} → statement M
-message-number-spec =
-    tie.close (tie.spec (λ c κs. search needs) (λ c κs. search needs) returns)
+message-number-spec = tie.close (tie.spec (λ c κs. search needs) (λ c κs. search needs) few returns)

@@ -59,6 +59,9 @@ returns-17 c = sym (ap code (c .enum-told17 .given .1))
 returns-18 : tie.Need-returns-18
 returns-18 c = sym (ap code (c .enum-told18 .given .1))
 
+returns-19 : tie.Need-returns-19
+returns-19 c = sym (ap code (c .enum-told19 .given .1))
+
 pub code-spec : {M : Type 1} → statement M
 code-spec =
     tie.close
@@ -66,7 +69,7 @@ code-spec =
     (λ c. search needs) (λ c. search needs) (λ c. search needs) (λ c. search needs) (λ c. search needs)
     (λ c. search needs) (λ c. search needs) (λ c. search needs) (λ c. search needs) (λ c. search needs)
     (λ c. search needs) (λ c. search needs) (λ c. search needs) (λ c. search needs) (λ c. search needs)
-    (λ c. search needs) (λ c. search needs) (λ c. search needs)
+    (λ c. search needs) (λ c. search needs) (λ c. search needs) (λ c. search needs)
     returns
     returns-2
     returns-3
@@ -84,4 +87,5 @@ code-spec =
     returns-15
     returns-16
     returns-17
-    returns-18)
+    returns-18
+    returns-19)

@@ -1,20 +1,20 @@
--- `verifier::verify` meets its contract: refused before the table, refused by 7, by 15, and granted.
+-- `verifier::verify` meets its contract: refused before the table, refused by 19, by 15, and granted.
 use mathlib.Core.Path.{_≡_, refl, ap, sym, _∙_}
+use mathlib.Core.Bool.{false}
 use native.Mathlib.Omega.{arith}
-use borrow.Author.Tests.{ltb-true, ltb-false}
 use borrow.Author.Needs.{needs}
 use denote.Ref.{now}
-use lib.Dec.{ltb}
 use lib.ListN.{length}
 use Rattle.refusal.specs.Code.{outcomeCode}
+use Rattle.words.specs.Number.{value}
 use Rattle.counts.specs.Counts.{count}
 use Rattle.counts.proofs.Answer.{count-value, table-held}
-use Rattle.verifier.specs.Verifying.{numberIn}
-use Rattle.verifier.proofs.Answers.{VerifyFits, verify-kept, verify-passed, verify-fits, verify-refused, verify-seven, Judged, verify-judged}
+use Rattle.message.specs.Message.{countTooSmall}
+use Rattle.verifier.proofs.Answers.{VerifyFits, number-in-fits, verify-kept, verify-passed, verify-fits, verify-refused, verify-nineteen, Judged, verify-judged}
 use Rattle.verifier.proofs.verify.Statement.{statement}
 use Rattle.verifier.proofs.verify.Tie as tie
 
--- the outcome of the causes before 7, and the table filled past them
+-- the outcome of the causes before 19, and the table filled past them
 abbrev early : tie.After-fill-past → tie.After-verify-outcome
 early f = f .before .before
 
@@ -52,39 +52,42 @@ fits g =
     let a = begun g .args in
     verify-fits (a .v) (now (a .message)) (now (a .signature)) (now (a .table)) (e .before .table-outcome .ensures) (e .verify-outcome .ensures) (none g)
 
--- the number against the count
-abbrev granted : tie.After-less → tie.After-enum-told2
-granted c = c .before .before
+-- the count, and what the test of it tells
+counted : (g : tie.After-enum-told2) → value (filled g .fill-past .result) ≡ count (begun g .args .v .profile .shape)
+counted g = count-value (begun g .args .v .profile .shape) (fits g .limits) (rw (none g) at (filled g .fill-past .ensures .counted))
 
-compared : (c : tie.After-less)
-    → c .less .result ≡ ltb (numberIn (begun (granted c) .args .v) (now (begun (granted c) .args .message)) (now (begun (granted c) .args .signature))) (count (begun (granted c) .args .v .profile .shape))
-compared c =
-    let g = granted c in
-    let counted = count-value (begun g .args .v .profile .shape) (fits g .limits) (rw (none g) at (filled g .fill-past .ensures .counted)) in
-    c .less .ensures ∙ rw (c .before .number-in .ensures, counted)
+looked : (t : tie.After-count-too-small) → t .count-too-small .result ≡ countTooSmall (count (begun (t .before) .args .v .profile .shape))
+looked t = t .count-too-small .ensures ∙ ap countTooSmall (counted (t .before))
+
+-- the way on which it is large enough
+abbrev granted : tie.Else1 → tie.After-enum-told2
+granted w = w .before .before
+
+large : (w : tie.Else1) → countTooSmall (count (begun (granted w) .args .v .profile .shape)) ≡ false
+large w = sym (looked (w .before)) ∙ w .if1 .left
 
 number-in-requires : tie.Need-number-in-requires
-number-in-requires c κs = let known = fits c in (known .short, known .front)
-
--- the number is below the count
-abbrev below : tie.After-write-codeword → tie.Then1
-below c = c .before .before .before
+number-in-requires c κs = let g = granted c in (counted g, (fits g .short, fits g .front))
 
 write-codeword-requires : tie.Need-write-codeword-requires
 write-codeword-requires c κs =
-    let small = c .before .before in
-    let less = small .before in
-    let g = granted less in
+    let n = c .before .before in
+    let g = granted (n .before) in
     let a = begun g .args in
     let known = fits g in
     let held = table-held (a .v .profile .shape) (now (a .table)) (rw (none g) at (filled g .fill-past .ensures .table)) in
-    (known .limits, (held, (rw (less .before .number-in .ensures) (ltb-true _ _ (sym (compared less) ∙ small .if1 .taken)), omega (arith, known .limits .few-chains))))
+    let fitting = number-in-fits (a .v) (now (a .message)) (now (a .signature)) (large (n .before)) in
+    (known .limits, (held, (rw (n .number-in .ensures) fitting, omega (arith, known .limits .few-chains))))
+
+-- the number's codeword is in the row
+abbrev numbered : tie.After-write-codeword → tie.After-number-in
+numbered w = w .before .before .before
 
 take-leaf-requires : tie.Need-take-leaf-requires
-take-leaf-requires c κs = omega (arith, fits (granted (below (c .before .before) .before)) .small, c .leaf-in .ensures)
+take-leaf-requires c κs = omega (arith, fits (granted (numbered (c .before .before) .before)) .small, c .leaf-in .ensures)
 
 recover-root-requires : tie.Need-recover-root-requires
-recover-root-requires c κs = let known = fits (granted (below (c .before .before .before) .before)) in (known .limits, known .low, known .long)
+recover-root-requires c κs = let known = fits (granted (numbered (c .before .before .before) .before)) in (known .limits, known .low, known .long)
 
 -- the roots are compared
 abbrev found : tie.After-same-root → tie.After-recover-root
@@ -94,7 +97,7 @@ abbrev placed : tie.After-same-root → tie.After-write-codeword
 placed j = found j .before .before .before .before
 
 abbrev way : tie.After-same-root → tie.After-enum-told2
-way j = granted (below (placed j) .before)
+way j = granted (numbered (placed j) .before)
 
 judged : (j : tie.After-same-root)
     → Judged (begun (way j) .args .v) (now (begun (way j) .args .message)) (now (begun (way j) .args .signature)) (now (begun (way j) .args .table)) (filled (way j) .fill-past .last .1 .1 .0)
@@ -103,32 +106,32 @@ judged j =
     let g = way j in
     let e = early (filled g) in
     let a = begun g .args in
-    let small = below (placed j) in
+    let n = numbered (placed j) in
     let root = found j .recover-root .ensures in
     verify-judged (a .v) (now (a .message)) (now (a .signature)) (now (a .table)) (e .before .table-outcome .ensures) (e .verify-outcome .ensures) (filled g .fill-past .ensures .table) (none g)
-    _ (small .before .before .number-in .ensures) (ltb-true _ _ (sym (compared (small .before)) ∙ small .if1 .taken))
+    _ (n .number-in .ensures) (large (n .before))
     (placed j .write-codeword .ensures) (found j .before .before .leaf-in .ensures) (root .0) (root .1) (j .same-root .ensures)
 
-same-length-2 : tie.Need-same-length-2
-same-length-2 c = filled (way (c .before)) .fill-past .kept .1 .1 .0
+returns-2 : tie.Need-returns-2
+returns-2 c =
+    let small = c .before in
+    let g = small .before in
+    let e = early (filled g) in
+    let a = begun g .args in
+    verify-nineteen (a .v) (now (a .message)) (now (a .signature)) (now (a .table)) (e .before .table-outcome .ensures) (e .verify-outcome .ensures) (filled g .fill-past .ensures .table) (none g)
+    (sym (looked small) ∙ c .if1 .taken)
 
 same-length-3 : tie.Need-same-length-3
 same-length-3 c = filled (way (c .before)) .fill-past .kept .1 .1 .0
 
-returns-2 : tie.Need-returns-2
-returns-2 c = let j = c .before in judged j .agrees (c .if2 .taken) (way j .enum-told2 .given .1) (found j .before .take-leaf .ensures)
+same-length-4 : tie.Need-same-length-4
+same-length-4 c = filled (way (c .before)) .fill-past .kept .1 .1 .0
 
 returns-3 : tie.Need-returns-3
-returns-3 c = judged (c .before) .differs (c .if2 .left)
+returns-3 c = let j = c .before in judged j .agrees (c .if2 .taken) (way j .enum-told2 .given .1) (found j .before .take-leaf .ensures)
 
 returns-4 : tie.Need-returns-4
-returns-4 c =
-    let less = c .before in
-    let g = granted less in
-    let e = early (filled g) in
-    let a = begun g .args in
-    verify-seven (a .v) (now (a .message)) (now (a .signature)) (now (a .table)) (e .before .table-outcome .ensures) (e .verify-outcome .ensures) (filled g .fill-past .ensures .table) (none g)
-    (ltb-false _ _ (sym (compared less) ∙ c .if1 .left))
+returns-4 c = judged (c .before) .differs (c .if2 .left)
 
 pub verify-spec : {M : Type 1} → statement M
 verify-spec =
@@ -136,18 +139,18 @@ verify-spec =
     (tie.spec
     (λ c κs. search needs) (λ c κs. search needs)
     fill-past-requires
-    (λ c. search needs) (λ c. search needs)
+    (λ c. search needs) (λ c. search needs) (λ c κs. search needs)
     number-in-requires
-    (λ c κs. search needs) (λ c. search needs)
+    (λ c. search needs)
     write-codeword-requires
     (λ c κs. search needs)
     take-leaf-requires
     recover-root-requires
     (λ c κs. search needs) (λ c. search needs)
     returns
-    same-length-2
+    (λ c. search needs)
     returns-2
     same-length-3
     returns-3
-    (λ c. search needs)
+    same-length-4
     returns-4)

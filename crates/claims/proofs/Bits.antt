@@ -1,0 +1,103 @@
+-- The bits of a message number, and where Issue and Check answer 19.
+use mathlib.Core.Path.{_≡_, refl, sym, ap, _∙_}
+use mathlib.Core.Bool.{Bool, false, not}
+use mathlib.Core.List.{List, [], _∷_, _++_, append-assoc}
+use mathlib.Core.Logic.{_↔_}
+use Prim.Native.Nat.{ℕ, _<_, _≤_}
+use native.Mathlib.Omega.{arith}
+use borrow.Author.Tests.{ltb-true, lt-ltb}
+use lib.Dec.{eqb, lit<, lit≤}
+use lib.ListN.{length}
+use Rattle.refusal.specs.Code.{firstCause}
+use Rattle.refusal.proofs.Causes.{Without, Numbered, without-append, smaller-number, first-without, cause-answers}
+use Rattle.profile.specs.Checks.{shapeCauses, profileCauses}
+use Rattle.profile.specs.declared.Profile.{Profile}
+use Rattle.counts.specs.Counts.{count}
+use Rattle.counts.specs.Table.{tableCauses}
+use Rattle.counts.proofs.Answer.{count-some}
+use Rattle.counts.proofs.Room.{table-numbered}
+use Rattle.message.specs.Message.{countTooSmall}
+use Rattle.message.proofs.NumberLaws.{bits-few, bits-held, bits-largest, number-of-bits, number-below-count, number-of-16-bytes}
+use Rattle.signer.specs.Signing as signing
+use Rattle.signer.specs.declared.SigningKey.{SigningKey}
+use Rattle.verifier.specs.Verifying as verifying
+use Rattle.verifier.specs.declared.Verifier.{Verifier}
+use Rattle.claims.specs.Bits.{LargestBits, NumbersFit, SmallCounts}
+
+pub largest-bits : LargestBits
+largest-bits p limits = (bits-few (count p), bits-held (count p) (count-some p limits), bits-largest (count p))
+
+pub numbers-fit : NumbersFit
+numbers-fit =
+    record {
+      bits = number-of-bits;
+      below = λ p leaf r seed root message limits. number-below-count p leaf r seed root message (count-some (p .shape) limits);
+      earlier = number-of-16-bytes;
+    }
+
+-- the causes of the table are 1 to 5
+table-without : (k : ℕ) (p : Profile) (words : ℕ) → 5 < k → Without k (tableCauses p words)
+unfolding tableCauses profileCauses shapeCauses
+table-without k p words more =
+    let other : (n : ℕ) → n ≤ 5 → eqb n k ≡ false = λ n low. smaller-number n k (omega arith) in
+    (other 1 (lit≤ tt), (other 2 (lit≤ tt), (other 3 (lit≤ tt), (other 4 (lit≤ tt), (other 5 (lit≤ tt), tt)))))
+
+-- an operation over the table that has no 7 of its own does not answer 7
+never-seven : (p : Profile) (words : ℕ) (own : List (Bool × ℕ)) → Without 7 own → firstCause (tableCauses p words ++ own) ≡ 7 → ⊥
+never-seven p words own other =
+    first-without 7 (tableCauses p words ++ own) (without-append 7 (tableCauses p words) own (table-without 7 p words (lit< tt)) other) (lit< tt)
+
+-- the cause of 19, among others that are not 19
+nineteen : (first own last : List (Bool × ℕ)) (counted : ℕ) → Numbered (first ++ own) → Without 19 (first ++ own) → Without 19 last
+    → (firstCause (first ++ (own ++ ((countTooSmall counted, 19) ∷ last))) ≡ 19) ↔ ((firstCause (first ++ own) ≡ 0) × (counted < 256))
+unfolding countTooSmall
+nineteen first own last counted numbered before behind =
+    let answers = cause-answers (first ++ own) last (countTooSmall counted) 19 numbered before behind (lit< tt) in
+    let joined = append-assoc first own ((countTooSmall counted, 19) ∷ last) in (
+      (λ e. let holds = answers .0 (ap firstCause joined ∙ e) in (holds .0, ltb-true counted 256 (holds .1))),
+      (λ holds. sym (ap firstCause joined) ∙ answers .1 (holds .0, lt-ltb counted 256 (holds .1))),
+    )
+
+module _ (key : SigningKey) (r message work out : List ℕ) where
+  abbrev sign-first : List (Bool × ℕ)
+  sign-first = tableCauses (key .profile) (length work)
+
+  abbrev sign-own : List (Bool × ℕ)
+  sign-own = signing.orderCauses key (length message) (length out)
+
+  sign-seven : signing.signCode key r message work out ≡ 7 → ⊥
+  unfolding signing.signCode
+  sign-seven = never-seven (key .profile) (length work) (sign-own ++ ((countTooSmall (count (key .profile .shape)), 19) ∷ [])) (refl, (refl, (refl, (refl, tt))))
+
+  sign-nineteen : (signing.signCode key r message work out ≡ 19) ↔ ((firstCause (sign-first ++ sign-own) ≡ 0) × (count (key .profile .shape) < 256))
+  unfolding signing.signCode
+  sign-nineteen =
+      nineteen sign-first sign-own [] (count (key .profile .shape)) (without-append 0 sign-first sign-own (table-numbered (key .profile) (length work)) (refl, (refl, (refl, tt))))
+      (without-append 19 sign-first sign-own (table-without 19 (key .profile) (length work) (lit< tt)) (refl, (refl, (refl, tt)))) tt
+
+module _ (v : Verifier) (message signature work : List ℕ) where
+  abbrev verify-first : List (Bool × ℕ)
+  verify-first = tableCauses (v .profile) (length work)
+
+  abbrev verify-own : List (Bool × ℕ)
+  verify-own = verifying.orderCauses v (length message) signature
+
+  abbrev verify-last : List (Bool × ℕ)
+  verify-last = (not (verifying.same (verifying.rootIn v message signature) (v .root)), 15) ∷ []
+
+  verify-causes : verifying.verifyCode v message signature work ≡ firstCause (verify-first ++ (verify-own ++ ((countTooSmall (count (v .profile .shape)), 19) ∷ verify-last)))
+  unfolding verifying.verifyCode verifying.causesBeforeRoot
+  verify-causes = ap firstCause (append-assoc verify-first (verify-own ++ ((countTooSmall (count (v .profile .shape)), 19) ∷ [])) verify-last)
+
+  verify-seven : verifying.verifyCode v message signature work ≡ 7 → ⊥
+  verify-seven e =
+      never-seven (v .profile) (length work) (verify-own ++ ((countTooSmall (count (v .profile .shape)), 19) ∷ verify-last)) (refl, (refl, (refl, (refl, (refl, (refl, tt)))))) (sym verify-causes ∙ e)
+
+  verify-nineteen : (verifying.verifyCode v message signature work ≡ 19) ↔ ((firstCause (verify-first ++ verify-own) ≡ 0) × (count (v .profile .shape) < 256))
+  verify-nineteen =
+      rw verify-causes
+      (nineteen verify-first verify-own verify-last (count (v .profile .shape)) (without-append 0 verify-first verify-own (table-numbered (v .profile) (length work)) (refl, (refl, (refl, (refl, tt)))))
+      (without-append 19 verify-first verify-own (table-without 19 (v .profile) (length work) (lit< tt)) (refl, (refl, (refl, (refl, tt))))) (refl, tt))
+
+pub small-counts : SmallCounts
+small-counts = record { sign-seven = sign-seven; verify-seven = verify-seven; sign-nineteen = sign-nineteen; verify-nineteen = verify-nineteen }
