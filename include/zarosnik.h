@@ -26,8 +26,8 @@
  *     value where granted, zero where refused. Two differ: steps of zarosnik_verify after 15, line of
  *     zarosnik_read_sheet after 17.
  *   - A state (next_leaf, lowest_leaf) changes only where the call is granted.
- *   - A lent slice (table, row, values, signature, message) is untouched by a refusal, except that 7 and 15 leave the
- *     table of counts in the work slice `table`, as every granted call with a work slice does. What lies past the
+ *   - A lent slice (table, row, values, signature, message) is untouched by a refusal, except that 7, 15 and 19 leave
+ *     the table of counts in the work slice `table`, as every granted call with a work slice does. What lies past the
  *     length that is named with the function never changes.
  *
  * What the caller keeps and draws:
@@ -39,6 +39,8 @@
  *     lowest_leaf before the order is carried out: a cabinet restored from an older copy would take an order again.
  *   - The library draws no random numbers. The secret seed is 16 random bytes known to the key's holder alone; R is
  *     16 fresh random bytes for each order.
+ *   - A profile whose count is below 2^128 is for trials: its orders' numbers have fewer than 128 bits, and another
+ *     text with the number of one that was signed is the sooner found (docs/SECURITY.md).
  *
  * zarosnik_types.h has the same calls over structs, so that a root cannot be passed for a seed.
  */
@@ -59,11 +61,11 @@
  *   PATCH   one more with every other release: a program only needs to be linked again.
  */
 #define ZAROSNIK_VERSION_MAJOR 0
-#define ZAROSNIK_VERSION_MINOR 1
-#define ZAROSNIK_VERSION_PATCH 1
+#define ZAROSNIK_VERSION_MINOR 2
+#define ZAROSNIK_VERSION_PATCH 0
 #define ZAROSNIK_VERSION \
     (ZAROSNIK_VERSION_MAJOR * 1000000 + ZAROSNIK_VERSION_MINOR * 1000 + ZAROSNIK_VERSION_PATCH)
-#define ZAROSNIK_VERSION_STRING "0.1.1"
+#define ZAROSNIK_VERSION_STRING "0.2.0"
 
 /* The compiler warns where the outcome of a call is not looked at: an order must not be carried out, nor a signature
  * handed out, without it. */
@@ -148,7 +150,8 @@ enum zarosnik_outcome {
     ZAROSNIK_REFUSED_ROOT_DIFFERS = 15,
     ZAROSNIK_REFUSED_MESSAGE_LENGTH = 16,
     ZAROSNIK_REFUSED_SHEET_LINE = 17,
-    ZAROSNIK_REFUSED_HASH_TOO_LONG = 18
+    ZAROSNIK_REFUSED_HASH_TOO_LONG = 18,
+    ZAROSNIK_REFUSED_COUNT_TOO_SMALL = 19
 };
 
 /* How the first of two numbers stands to the second: what zarosnik_compare writes to order. */
@@ -181,6 +184,7 @@ static inline const char *zarosnik_outcome_text(uint32_t outcome)
     case ZAROSNIK_REFUSED_MESSAGE_LENGTH: return "order text empty or over 200 bytes";
     case ZAROSNIK_REFUSED_SHEET_LINE: return "wrong, missing or surplus line in the sheet";
     case ZAROSNIK_REFUSED_HASH_TOO_LONG: return "over 65,535 bytes to hash";
+    case ZAROSNIK_REFUSED_COUNT_TOO_SMALL: return "count below 256";
     default: return "not an outcome of this library";
     }
 }
@@ -344,7 +348,9 @@ uint32_t zarosnik_one_time_recover(uint32_t l, uint32_t w, uint32_t s, uint32_t 
                                    uint8_t key[ZAROSNIK_HASH_BYTES], uint32_t *steps);
 
 /*
- * Issue: signs an order text with the key's next leaf.
+ * Issue: signs an order text with the key's next leaf. The order's number is the first b bits of the SHA-256 digest
+ * over R, public seed, root and text, where b is the largest value up to 128 with 2^b not above the profile's count. So
+ * it is below the count, and no order is refused for its number.
  *
  *   l, w, s, h                 in: the key's profile
  *   public_seed                in: the key's public seed
@@ -356,10 +362,10 @@ uint32_t zarosnik_one_time_recover(uint32_t l, uint32_t w, uint32_t s, uint32_t 
  *   signature, signature_len   output slice of at least ZAROSNIK_SIGNATURE_BYTES(l, h) bytes
  *
  * Refusals: 1, 2, 3, 4; 5 work slice too short; 16 text empty or over 200 bytes; 6 signature_len under
- * 20 + 16 * l + 16 * h; 12 next leaf not below 2^h; 7 message number not below the count (then take another R).
+ * 20 + 16 * l + 16 * h; 12 next leaf not below 2^h; 19 the profile's count below 256, whatever text and R.
  * Granted: the signature stands in the first 20 + 16 * l + 16 * h bytes of signature, the table of counts in table,
  * and next_leaf is 1 more. Store next_leaf before the signature is handed out.
- * Refused: next_leaf keeps its value, so no leaf is used up. signature is untouched, and so is table, except that 7
+ * Refused: next_leaf keeps its value, so no leaf is used up. signature is untouched, and so is table, except that 19
  * leaves the table of counts in it.
  */
 ZAROSNIK_NODISCARD
@@ -370,7 +376,8 @@ uint32_t zarosnik_sign(uint32_t l, uint32_t w, uint32_t s, uint32_t h,
                        uint32_t *table, size_t table_len, uint8_t *signature, size_t signature_len);
 
 /*
- * Check: judges the signature of an order text.
+ * Check: judges the signature of an order text. The order's number is that of zarosnik_sign, from the signature's R and
+ * the cabinet's public seed and root.
  *
  *   l, w, s, h                 in: the cabinet's profile
  *   public_seed                in: the cabinet's public seed
@@ -382,11 +389,11 @@ uint32_t zarosnik_sign(uint32_t l, uint32_t w, uint32_t s, uint32_t h,
  *   steps                      answer: the chain steps made, ZAROSNIK_STEPS(l, w, s) where granted and for 15, else 0
  *
  * Refusals: 1, 2, 3, 4; 5 work slice too short; 16 text empty or over 200 bytes; 13 signature_len other than
- * 20 + 16 * l + 16 * h; 11 the signature's leaf not below 2^h; 14 that leaf below lowest_leaf; 7 message number not
- * below the count; 15 the root recovered differs from root.
+ * 20 + 16 * l + 16 * h; 11 the signature's leaf not below 2^h; 14 that leaf below lowest_leaf; 19 the profile's count
+ * below 256, whatever text and signature; 15 the root recovered differs from root.
  * Granted: the order may be carried out. lowest_leaf is the signature's leaf + 1, and the table of counts stands in
  * table. Store lowest_leaf before the order is carried out.
- * Refused: lowest_leaf keeps its value. table is untouched, except that 7 and 15 leave the table of counts in it.
+ * Refused: lowest_leaf keeps its value. table is untouched, except that 15 and 19 leave the table of counts in it.
  */
 ZAROSNIK_NODISCARD
 uint32_t zarosnik_verify(uint32_t l, uint32_t w, uint32_t s, uint32_t h,
