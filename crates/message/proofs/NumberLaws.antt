@@ -1,23 +1,21 @@
 -- The bits that a count takes, and the number that so many bits of a digest are: it is below the count.
-use mathlib.Core.Path.{_≡_, refl, sym, ap, _∙_}
-use mathlib.Core.Bool.{Bool, true, false}
+use mathlib.Core.Path.{_≡_, sym, ap, _∙_}
+use mathlib.Core.Bool.{false}
 use mathlib.Core.List.{List}
 use mathlib.Core.Logic.{_⊎_, inl, inr}
-use Prim.Native.Nat.{ℕ, zero, suc, _+_, _*_, _-_, _/_, _^_, _≤_, _<_, min, max}
+use Prim.Native.Nat.{ℕ, zero, suc, _+_, _-_, _/_, _^_, _≤_, _<_, min, max}
 use native.Mathlib.Nat.{le-refl, le-trans, le-of-suc-le-suc, lt-of-lt-of-le, le-max-left, le-max-right, min-le-left, min-le-right, div-one}
 use native.Mathlib.Omega.{arith}
 use borrow.Author.Tests.{ltb-false, le-leb, lt-leb}
-use lib.Dec.{lit<}
 use lib.ListN.{length, take}
 use lib.Pow.{pow-mono}
 use lib.Seq.{length-take-le}
 use Rattle.words.specs.Bytes.{fromBytes}
 use Rattle.words.specs.Powers.{Log2, firstBits}
-use Rattle.words.proofs.FirstBits.{first-bits-below, first-bits-front, first-bits-all}
+use Rattle.words.proofs.FirstBits.{first-bits-below, first-bits-front}
 use Rattle.words.proofs.Lists.{Below}
 use Rattle.words.proofs.Numbers.{lt-or-le}
 use Rattle.words.proofs.PowerLaws.{held-fits}
-use Rattle.sha256.specs.Digest.{digest}
 use Rattle.sha256.proofs.DigestBytes.{length-digest, digest-below}
 use Rattle.profile.specs.declared.Profile.{Profile}
 use Rattle.counts.specs.Counts.{count}
@@ -32,7 +30,7 @@ skipped : (b n : ℕ) → n < 2 ^ suc b → largestUpTo (suc b) n ≡ largestUpT
 unfolding largestUpTo
 skipped b n fails = rw (lt-leb (2 ^ suc b) n fails)
 
--- b is the largest value up to a limit with 2^b not above n, or above 1 where n is 0
+-- b is the largest value up to a limit with 2^b not above n; where n is 0, not above 1
 record Largest (limit n b : ℕ) : Type 0 where
   within : b ≤ limit
   held : 2 ^ b ≤ max n 1

@@ -18,7 +18,7 @@ unfoldable pub largestUpTo : (limit count : ℕ) → ℕ
 largestUpTo zero count = 0
 largestUpTo (suc b) count = cond (leb (2 ^ suc b) count) (suc b) (largestUpTo b count)
 
--- b
+-- b of a count
 unfoldable pub numberBits : (count : ℕ) → ℕ
 numberBits count = largestUpTo 128 count
 

@@ -1,8 +1,8 @@
 -- The first bits of bytes: they are the first bits of the bytes that hold them, and a number of so many bits.
 use mathlib.Core.Path.{_≡_, refl, sym, ap, _∙_}
-use mathlib.Core.List.{List, [], _∷_, _++_}
-use Prim.Native.Nat.{ℕ, zero, suc, _+_, _*_, _-_, _/_, _^_, _≤_, _<_}
-use native.Mathlib.Nat.{pow-suc, mul-suc, div-one, sub-self}
+use mathlib.Core.List.{List, [], _∷_}
+use Prim.Native.Nat.{ℕ, zero, suc, _+_, _*_, _-_, _^_, _≤_, _<_}
+use native.Mathlib.Nat.{pow-suc, mul-suc}
 use native.Mathlib.Omega.{arith}
 use lib.Arith.{digits-lt}
 use lib.Dec.{lit<}
@@ -42,8 +42,3 @@ first-bits-front b m bytes within enough below =
     rw front
     (sym
     (rw (← behind, ← shr-shr (fromBytes bytes) (8 * k) (8 * m - b), joined, high (fromBytes (take m bytes)) (8 * k) (from-below (drop m bytes) (below-drop 256 m bytes below)))))
-
--- all bits
-pub first-bits-all : (bytes : List ℕ) → firstBits (8 * length bytes) bytes ≡ fromBytes bytes
-unfolding firstBits
-first-bits-all bytes = rw (sub-self (8 * length bytes)) (div-one (fromBytes bytes))

@@ -1,10 +1,9 @@
 -- `message::message_number` meets its contract: the first bits of the digest, as many as the count takes.
-use mathlib.Core.Path.{_≡_, _∙_, ap}
+use mathlib.Core.Path.{_∙_}
 use native.Mathlib.Omega.{arith}
 use borrow.Author.Needs.{needs}
-use Rattle.words.specs.Powers.{firstBits}
 use Rattle.words.specs.Number.{value}
-use Rattle.message.specs.Message.{numberBits, messageNumber}
+use Rattle.message.specs.Message.{messageNumber}
 use Rattle.message.proofs.NumberLaws.{bits-few}
 use Rattle.message.proofs.message_number.Statement.{statement}
 use Rattle.message.proofs.message_number.Tie as tie

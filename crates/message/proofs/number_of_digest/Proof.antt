@@ -1,6 +1,5 @@
 -- `message::number_of_digest` meets its contract: the first bits are those of the first 16 bytes, shifted right.
 use mathlib.Core.Path.{_≡_, sym, _∙_}
-use native.Mathlib.Omega.{arith}
 use borrow.Author.Needs.{needs}
 use lib.ListN.{length}
 use mir.Syntax.{w8}

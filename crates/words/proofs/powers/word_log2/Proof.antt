@@ -1,6 +1,5 @@
 -- `words::powers::word_log2` meets its contract. The invariant: what is left is the word shifted, and not 0 once anything was.
-use mathlib.Core.Path.{_≡_, refl, sym, _∙_}
-use Prim.Native.Nat.{_+_, _/_, _^_, _≤_, _<_}
+use Prim.Native.Nat.{_<_}
 use native.Mathlib.Nat.{add-zero, le-max-right}
 use native.Mathlib.Omega.{arith}
 use borrow.Author.Needs.{needs}
