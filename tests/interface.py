@@ -11,7 +11,9 @@ that is not as the scope document says, and where something has not come up that
 operation granted, each cause of its refusals and each two, each set of numbers of the profile that
 narrower parameters would cut to right ones or that are 2^31 or 2^32 - 1, with each answer something
 past the named length of each slice, numbers compared in each order after each count of pairs, the
-words below being alike or in either order, and orders signed and taken at every height of the tree.
+words below being alike or in either order, orders signed and taken at every height of the tree, and
+at every number of bits from 8 to 128, at the nearest counts on both sides of each power of two, the
+two shapes of 255 refused by 19; and orders of earlier days, taken where 128 bits are and else refused.
 """
 
 import itertools
@@ -22,6 +24,7 @@ import time
 from collections import Counter
 
 import comparisons
+import shapes
 import signatures
 from archived import archive_of, archive_parser, shared_object
 from interface_calls import LENT, STATES, load
@@ -42,8 +45,8 @@ def say(line, stream=sys.stdout):
 class Met:
     """What has come up: the answers of each operation, the causes told and those behind them, wide
     numbers of the profile, slices longer than they must be and states other than 0 with each
-    answer, the kinds of numbers compared, and the heights of trees under which orders were signed
-    and taken."""
+    answer, the kinds of numbers compared, and, of orders, the heights of trees under which they were
+    signed and taken, the shapes with the answers there, and the answers to those of earlier days."""
 
     def __init__(self):
         self.outcomes = Counter()
@@ -52,6 +55,8 @@ class Met:
         self.kept = set()
         self.compared = set()
         self.heights = set()
+        self.shapes = {operation: set() for operation in STATES}
+        self.earlier = set()
 
     def add(self, call):
         operation, outcome, arguments = call.operation, call.outcome, call.arguments
@@ -65,8 +70,13 @@ class Met:
         if operation == "compare":
             numbers = (arguments[name].before for name in ("first", "second"))
             self.compared.add(comparisons.kind(*(int.from_bytes(n, "little") for n in numbers)))
-        if outcome == 0 and operation in STATES:
-            self.heights.add((operation, arguments["h"]))
+        if operation in STATES:
+            shape = arguments["l"], arguments["w"], arguments["s"]
+            self.shapes[operation].add((shape, outcome))
+            if outcome == 0:
+                self.heights.add((operation, arguments["h"]))
+        if call.earlier:
+            self.earlier.add(outcome)
 
     def calls(self):
         return self.outcomes.total()
@@ -87,6 +97,11 @@ class Met:
         for operation, h in itertools.product(STATES, range(11)):
             if (operation, h) not in self.heights:
                 yield f"{operation} has never been granted at height {h}"
+        for operation, met in self.shapes.items():
+            for edge in shapes.missing_edges(met):
+                yield f"{operation} has never answered {edge}"
+        for outcome in {0, 15} - self.earlier:
+            yield f"verify has never answered {outcome} to an order of earlier days"
 
     def missing_kept(self, operation, causes):
         """What must not change is seen only where there is some: past the named length of a slice,

@@ -67,7 +67,7 @@ def load(shared_object):
 class Call:
     """An operation, its arguments by name, and the number that it must answer with. The causes are
     those that were laid on purpose, in the document's order; for wide numbers of the profile, which
-    they are and in what way."""
+    they are and in what way; and whether an order is one of earlier days."""
 
     def __init__(self, operation, outcome, shift, arguments):
         self.operation = operation
@@ -76,6 +76,7 @@ class Call:
         self.arguments = arguments
         self.causes = []
         self.wide = None
+        self.earlier = False
 
     def __str__(self):
         lines = [f"zarosnik_{self.operation} must answer {self.outcome}"]

@@ -1,29 +1,36 @@
 """The cases of a run. A case is one call or a sequence of calls; the run's seed and the case's
 number give it, so that it can be made again alone.
 
-A run begins with the tallest trees, once for each height. Every round of cases has, for each
+A run begins with the tallest trees, once for each height, and with an order signed and one checked
+at each of the counts on both sides of the powers of two. Every round of cases has, for each
 operation, granted calls, each cause of refusal alone, each two together, and several; numbers to
 compare of many kinds; numbers of the profile that narrower parameters would cut to right ones, or
-that are the ends of what wide ones hold; slices whose length passes 32 bits; and sequences in which
-a fresh key signs and a fresh verifier checks.
+that are the ends of what wide ones hold; slices whose length passes 32 bits; orders of earlier days;
+and sequences in which a fresh key signs and a fresh verifier checks.
 """
 
 import itertools
 import random
 from functools import cache, lru_cache, partial
 
-from interface_calls import Calls
+import shapes
+from interface_calls import STATES, Calls
 from interface_damage import Order, flipped, swapped
 from interface_inputs import CAUSES, CUTS, FAR, WIDE, Inputs, cheap_height, signable_shape
 from interface_memory import Memory
 from sheets import right_sheet
 from signatures import GATE, Profile, SigningKey, Verifier, pieces, root_of, signature_length
+from zarosnik import MOST_BITS
 
 SEQUENCES = 8
 # Causes that come in many ways, and numbers that are compared in more.
 MANIFOLD = [("rank", [10]), ("verify", [15]), ("read_sheet", [17]), *[("compare", [])] * 3]
-# Counts of about half of 2^128: some orders are refused by 7.
-HALF_SIGNABLE = [(40, 10, 168), (40, 11, 144), (40, 16, 130), (34, 15, 238)]
+# Orders of earlier days have numbers of 128 bits. At so many bits and more some of these are below the
+# count, so that R need not be drawn long.
+EARLIER_BITS = range(120, MOST_BITS + 1)
+EARLIER = 6
+# Sequences sign with every leaf of trees that are no higher than this.
+MOST_HEIGHT = 3
 
 
 def subsets(causes, most):
@@ -45,15 +52,42 @@ def demand(holds, call):
         raise Unsound(f"drawn otherwise, with the causes {call.causes}: {call}")
 
 
+def caused(operation, causes, call):
+    """The call, with the causes in the document's order. The first one must be told."""
+    call.causes = [cause for cause in CAUSES[operation] if cause in causes]
+    demand(call.outcome == abs(next(iter(call.causes), 0)), call)
+    return call
+
+
 def single(operation, causes, pick, far=None, wide=None):
     """One call. A far slice is one whose length passes 32 bits. Where l is the end of what a number
     can be, no s is too large, so just the first cause is sure then."""
-    call = getattr(Inputs(pick, operation, causes, far, wide), operation)()
-    call.causes = [cause for cause in CAUSES[operation] if cause in causes]
-    demand(call.outcome == abs(next(iter(call.causes), 0)), call)
+    inputs = Inputs(pick, operation, causes, far, wide)
+    call = caused(operation, causes, getattr(inputs, operation)())
     if wide:
         call.wide = tuple(causes), wide
         call.causes = call.causes[:1]
+    yield call
+
+
+def edge(operation, shape, pick):
+    """An order at a count next to a power of two, which alone may refuse it. The tree has no part in
+    the number: it is low."""
+    answer = shapes.answer_at(shape)
+    causes = [answer] if answer else []
+    inputs = Inputs(pick, operation, causes, profile=Profile(*shape, pick.randrange(2)))
+    yield caused(operation, causes, getattr(inputs, operation)())
+
+
+def earlier(operation, pick):
+    """Checks an order of earlier days. Where the number has fewer bits today it is refused, though it
+    was taken then; with 128 bits it is the same order."""
+    bits = pick.choice(EARLIER_BITS)
+    p = Profile(*pick.choice(shapes.by_bits()[bits]), pick.randrange(11))
+    order, causes = Order(pick, p), [] if bits == MOST_BITS else [15]
+    order.sign_as_earlier()
+    call = caused(operation, causes, Inputs(pick, operation, causes, profile=p).verify(order))
+    call.earlier = True
     yield call
 
 
@@ -95,7 +129,17 @@ class Sequence:
         return call
 
     def refused_check(self, taken):
-        """A check that is refused: damaged, another key's, without the work slice, or replayed."""
+        """A check that is refused. A text or R that was changed may have the number that it had, most
+        often where there are few, and is then taken: another check is drawn."""
+        verifier = self.verifier
+        while True:
+            call = self.wrong_check(taken)
+            if call.outcome:
+                return call
+            self.verifier = verifier
+
+    def wrong_check(self, taken):
+        """Damaged, another key's, without the work slice, or replayed."""
         pick, (signature, text) = self.pick, self.pick.choice(self.issued)
         head, parts = signature[:20], pieces(signature[20:])
         values, siblings = parts[: self.p.l], parts[self.p.l :]
@@ -129,9 +173,7 @@ class Sequence:
         carries another leaf."""
         for taken, (signature, text) in enumerate(self.issued):
             for _ in range(self.pick.randrange(3)):
-                call = self.refused_check(taken)
-                demand(call.outcome != 0, call)
-                yield call
+                yield self.refused_check(taken)
             call = self.check(signature, text)
             steps = self.p.l * (self.p.w - 1) - self.p.s
             demand(call.outcome == 0 and call.arguments["steps"].after_words() == [steps], call)
@@ -151,8 +193,9 @@ class Sequence:
 
 
 def sequence(pick):
-    l, w, s = pick.choice([signable_shape(pick), pick.choice(HALF_SIGNABLE)])
-    yield from Sequence(pick, Profile(l, w, s, cheap_height(pick, l, w))).run()
+    l, w, s = signable_shape(pick)
+    h = min(cheap_height(pick, l, w), MOST_HEIGHT)
+    yield from Sequence(pick, Profile(l, w, s, h)).run()
 
 
 def tall(p, pick):
@@ -171,8 +214,15 @@ def tall(p, pick):
 
 
 # The gate profile, and every height that a sequence has not, at the shape of the shortest chains at
-# which every order has a row.
-TALL = [GATE, *(Profile(39, 11, 195, h) for h in range(4, 10))]
+# which numbers have 128 bits.
+TALL = [GATE, *(Profile(39, 11, 195, h) for h in range(MOST_HEIGHT + 1, GATE.h))]
+
+
+@cache
+def beginning():
+    """Once in a run."""
+    cases = [partial(tall, p) for p in TALL]
+    return cases + [partial(edge, name, shape) for shape in shapes.edges() for name in STATES]
 
 
 @cache
@@ -185,6 +235,7 @@ def plan():
         cases += [partial(several, operation)] * len(causes)
         cases += [partial(single, operation, c, wide=w) for c, w in wide_numbers(operation)]
     cases += [partial(single, operation, causes) for operation, causes in MANIFOLD * 20]
+    cases += [partial(earlier, "verify")] * EARLIER
     return cases + [sequence] * SEQUENCES
 
 
@@ -198,7 +249,7 @@ def round_of(seed, number):
 def case(seed, number):
     """The calls of a case, each drawn when the one before was made."""
     pick = random.Random(f"{seed} case {number}")
-    if number < len(TALL):
-        return tall(TALL[number], pick)
-    turn, place = divmod(number - len(TALL), len(plan()))
+    if number < len(beginning()):
+        return beginning()[number](pick)
+    turn, place = divmod(number - len(beginning()), len(plan()))
     return round_of(seed, turn)[place](pick)

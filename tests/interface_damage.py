@@ -2,8 +2,18 @@
 
 from interface_memory import Memory
 from sheets import hex_line, read_frames
-from signatures import climb, climb_path, key_of_leaf, message_number, pieces, revealed
-from zarosnik import row_of, ways
+from signatures import (
+    climb,
+    climb_path,
+    count_of,
+    key_of_leaf,
+    message_number,
+    order_digest,
+    pieces,
+    recovered,
+    revealed,
+)
+from zarosnik import MOST_BITS, first_bits, row_of
 
 # Digits, endings and their neighbours.
 ODD_BYTES = b"0Aa/:@G`g \x00\n\r\x8a\xff"
@@ -23,8 +33,9 @@ def swapped(pick, parts):
 
 
 class Order:
-    """A signed order that a verifier with its profile, seed and root takes. The siblings are any,
-    and the root is climbed from them: no tree is walked, whatever its height."""
+    """A signed order that a verifier with its profile, seed and root takes, if the profile signs: where
+    its count is below 256, nothing but 19 refuses it. The siblings are any, and the root is climbed
+    from them: no tree is walked, whatever its height."""
 
     def __init__(self, pick, p):
         self.pick, self.p = pick, p
@@ -34,31 +45,44 @@ class Order:
         self.siblings = [pick.randbytes(16) for _ in range(p.h)]
         key = key_of_leaf(p.l, p.w, self.seed, self.secret, self.leaf)
         self.root = climb_path(self.seed, self.leaf, key, self.siblings)
-        self.sign()
+        self.sign(self.number())
 
-    def sign(self):
-        """Any values where the order has no row."""
-        p, pick = self.p, self.pick
-        number = message_number(self.r, self.seed, self.root, self.text)
-        self.row = bytes(p.l)
-        self.values = [pick.randbytes(16) for _ in range(p.l)]
-        if number < ways(p.w, p.l, p.s):
-            self.row = row_of(p.l, p.w, p.s, number)
-            self.values = pieces(revealed(p, self.seed, self.secret, self.leaf, number))
+    def number(self):
+        return message_number(self.p, self.r, self.seed, self.root, self.text)
+
+    def sign(self, number):
+        self.row = row_of(*self.p[:3], number)
+        self.values = pieces(revealed(self.p, self.seed, self.secret, self.leaf, number))
+
+    def sign_as_earlier(self):
+        """By the number of earlier days, the digest's first 16 bytes, with an R for which it is below
+        the count."""
+        while True:
+            digest = order_digest(self.r, self.seed, self.root, self.text)
+            number = first_bits(digest, MOST_BITS)
+            if number < count_of(self.p):
+                return self.sign(number)
+            self.r = self.pick.randbytes(16)
+
+    def leads_to_root(self):
+        key, _ = recovered(self.p, self.seed, self.leaf, self.number(), b"".join(self.values))
+        return climb_path(self.seed, self.leaf, key, self.siblings) == self.root
 
     def signature(self):
         head = self.leaf.to_bytes(4, "big") + self.r
         return head + b"".join(self.values) + b"".join(self.siblings)
 
     def damage(self):
-        """One thing is other than it was signed."""
+        """One thing is other than it was signed; more where that does no harm, since another text or R
+        may have the same number where there are few."""
         changes = [self.flip_bit, self.other_text, self.other_root]
         changes += [self.flip_value, self.swap_values, self.step_on]
         if self.p.h >= 1:
             changes += [self.flip_sibling, self.other_leaf]
         if self.p.h >= 2:
             changes += [self.swap_siblings]
-        self.pick.choice(changes)()
+        while self.leads_to_root():
+            self.pick.choice(changes)()
 
     def flip_bit(self):
         name = self.pick.choice(["seed", "root", "r", "text"])
@@ -67,7 +91,7 @@ class Order:
     def other_root(self):
         """Signed for a root that is one bit off: just this bit is wrong in the end."""
         self.root = flipped(self.pick, self.root)
-        self.sign()
+        self.sign(self.number())
 
     def flip_value(self):
         at = self.pick.randrange(len(self.values))

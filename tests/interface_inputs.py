@@ -3,12 +3,13 @@ for: none, one, or several at once, of which the first in the document's order m
 """
 
 import comparisons
+import shapes
 from interface_calls import LENT, MOST_HASHED, TEXT_SLICE, Calls
 from interface_damage import Order, flipped, wrong_sheet
 from interface_memory import Filling, Memory
 from sheets import right_sheet
 from signatures import Profile, SigningKey, Verifier, revealed, signature_length
-from zarosnik import row_of, table_length, ways
+from zarosnik import MOST_BITS, row_of, table_length, ways
 
 # The causes of each operation in the document's order. Compare is never refused.
 CAUSES = {
@@ -21,8 +22,8 @@ CAUSES = {
     "root": [1, 2, 3, 4],
     "one_time_sign": [1, 2, 3, 4, 5, 6, 11, 7],
     "one_time_recover": [1, 2, 3, 4, 5, 13, 11, 7],
-    "sign": [1, 2, 3, 4, 5, 16, 6, 12, 7],
-    "verify": [1, 2, 3, 4, 5, 16, 13, 11, 14, 7, 15],
+    "sign": [1, 2, 3, 4, 5, 16, 6, 12, 19],
+    "verify": [1, 2, 3, 4, 5, 16, 13, 11, 14, 19, 15],
     "read_sheet": [1, 2, 3, 4, 17, 6, TEXT_SLICE],
 }
 
@@ -50,18 +51,6 @@ FAR = [
     ("read_sheet", "message", []),
 ]
 
-# l, w, the least and the largest s with a count of 2^128 or more, so that every order has a row.
-SIGNABLE = [
-    (34, 16, 211, 299),
-    (35, 15, 196, 294),
-    (36, 14, 184, 284),
-    (37, 13, 175, 269),
-    (38, 12, 170, 248),
-    (39, 11, 169, 221),
-    (40, 11, 149, 251),
-    (40, 16, 133, 467),
-]
-
 PAST_WORD = 1 << 32
 # For each number of the profile, the cause of refusal where it is out of its range, and the bits of
 # the narrowest parameter that holds this range. It would cut wider numbers.
@@ -76,8 +65,9 @@ MOST_WORDS = 150000
 
 
 def signable_shape(pick):
-    l, w, low, high = pick.choice(SIGNABLE)
-    return l, w, pick.choice([low, high, (low + high) // 2, pick.randrange(low, high + 1)])
+    """Any number of bits is as likely as any other but 128, which all large counts have."""
+    bits = pick.choice([MOST_BITS] + 3 * [pick.randrange(shapes.LEAST_BITS, MOST_BITS + 1)])
+    return pick.choice(shapes.by_bits()[bits])
 
 
 def any_shape(pick):
@@ -92,11 +82,8 @@ def any_shape(pick):
 
 
 def scant_shape(pick):
-    """So few rows that no digest gives the number of one."""
-    while True:
-        l, w, s = any_shape(pick)
-        if ways(w, l, s) < 1 << 80:
-            return l, w, s
+    """Too few rows for an order; often just too few."""
+    return pick.choice(pick.choice([shapes.scant(), shapes.nearly_signing()]))
 
 
 def cheap_height(pick, l, w):
@@ -134,9 +121,9 @@ class Inputs:
         elif operation not in ("sign", "verify"):
             l, w, s = any_shape(pick)
         else:
-            l, w, s = scant_shape(pick) if 7 in self.causes else signable_shape(pick)
-        # every refusal but 7 comes before the tree is hashed
-        hashed = operation in ("root", "sign") and self.causes <= {7}
+            l, w, s = scant_shape(pick) if 19 in self.causes else signable_shape(pick)
+        # a library may hash the tree before it refuses by 19, and before no other refusal
+        hashed = operation in ("root", "sign") and self.causes <= {19}
         return Profile(l, w, s, cheap_height(pick, l, w) if hashed else pick.randrange(11))
 
     def given_profile(self):
@@ -300,10 +287,12 @@ class Inputs:
         r = self.pick.randbytes(16)
         return self.calls.sign(key, r, self.message(), self.table(), signature)[0]
 
-    def verify(self):
-        order = Order(self.pick, self.good)
-        if 15 in self.causes:
-            order.damage()
+    def verify(self, order=None):
+        """Of an order that is drawn, unless one is given as it is to be."""
+        if order is None:
+            order = Order(self.pick, self.good)
+            if 15 in self.causes:
+                order.damage()
         lowest = self.pick.choice([0, order.leaf, self.pick.randrange(order.leaf + 1)])
         if 11 in self.causes:
             order.leaf = self.leaf(11)

@@ -6,8 +6,9 @@ the C interface at a time, and fails where the comparison finds no difference th
 
 A wrong function cuts a number or a length; reads just before or behind memory that it is lent;
 writes what it is to read only; changes a slice or a state where it refuses, for each cause, or a
-slice past its named length where it grants; leaves an old answer where it refuses; or compares two
-numbers by another rule, or wrongly for one order and one count of pairs alone.
+slice past its named length where it grants; leaves an old answer where it refuses; compares two
+numbers by another rule, or wrongly for one order and one count of pairs alone; or numbers orders, or
+refuses them by 19, by another rule, or wrongly at one of the shapes alone that must come up.
 """
 
 import ctypes
@@ -20,8 +21,9 @@ import tempfile
 from archived import archive_of, archive_parser, shared_object
 from comparisons import KINDS
 from interface_calls import BY_VALUE, LENT, PROTOTYPES, STATES, load
-from interface_cases import plan
+from interface_cases import beginning, edge, plan
 from interface_inputs import CAUSES, FAR
+from wrong_orders import wrong_orders
 from zarosnik import EQUAL, GREATER, LESS, WORDS
 
 # Bytes of what has no length of its own; all else has 16.
@@ -191,7 +193,7 @@ def wrong_comparisons():
             yield f"{name} changed at {expected}", change_where_compared(name, expected)
 
 
-def mutants():
+def wrong_functions():
     """What is wrong, with which operation, and the wrong function."""
     for what, wrong in wrong_comparisons():
         yield what, "compare", wrong
@@ -218,6 +220,15 @@ def mutants():
         yield f"length of {name} cut to 32 bits", operation, cut(f"{name}_len", 32)
 
 
+def mutants():
+    """The same, with the cases in which it must be seen. Those of one shape alone see it there."""
+    for what, operation, wrong in wrong_functions():
+        yield what, operation, wrong, cases_of(operation)
+    for what, operation, wrong, shape in wrong_orders():
+        cases = edges_of(operation, shape)
+        yield what, operation, wrong, cases if shape else cases_of(operation) + cases
+
+
 class Wrong:
     """The library with one function wrong, or with none."""
 
@@ -232,9 +243,18 @@ class Wrong:
         return lambda *values: self.wrong(right, Given(self.operation, values))
 
 
-def seen(library, operation):
-    """Whether a difference is found in the cases of the operation."""
-    cases = [case for case in plan() if getattr(case, "args", ())[:1] == (operation,)]
+def cases_of(operation):
+    return [case for case in plan() if getattr(case, "args", ())[:1] == (operation,)]
+
+
+def edges_of(operation, shape=None):
+    """At each shape on both sides of a power of two, or at one of them."""
+    cases = [case for case in beginning() if case.func == edge and case.args[0] == operation]
+    return [case for case in cases if shape in (None, case.args[1])]
+
+
+def seen(library, operation, cases):
+    """Whether a difference is found in the cases, which are of the operation."""
     pick = random.Random(operation)
     for _ in range(ROUNDS):
         pick.shuffle(cases)
@@ -243,13 +263,14 @@ def seen(library, operation):
     return False
 
 
-def seen_apart(library, operation, wrong):
-    """The same in a process of its own, which a call may end."""
+def seen_apart(library, operation, wrong, cases):
+    """The same with the function made wrong, in a process of its own, which a call may end."""
     child = os.fork()
     if child == 0:
         status = 1
         try:
-            status = SEEN if seen(Wrong(library, operation, wrong), operation) else UNSEEN
+            made = Wrong(library, operation, wrong)
+            status = SEEN if seen(made, operation, cases) else UNSEEN
         finally:
             os._exit(status)
     status = os.waitpid(child, 0)[1]
@@ -264,11 +285,11 @@ def main():
     with tempfile.TemporaryDirectory() as folder:
         library = load(shared_object(archive, folder))
         for operation in PROTOTYPES:
-            if seen_apart(library, operation, None):
+            if seen_apart(library, operation, None, cases_of(operation) + edges_of(operation)):
                 sys.exit(f"tests/interface_mutants.py: {operation} differs with nothing wrong")
-        for what, operation, wrong in mutants():
+        for what, operation, wrong, cases in mutants():
             tried += 1
-            if not seen_apart(library, operation, wrong):
+            if not seen_apart(library, operation, wrong, cases):
                 unseen.append(f"{operation}: {what}")
     for line in unseen:
         print(f"tests/interface_mutants.py: not seen: {line}")

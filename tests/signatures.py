@@ -9,10 +9,21 @@ import hashlib
 from collections import namedtuple
 from functools import cache
 
-from zarosnik import filled, first_cause, row_of, shape_causes, ways, work_cause
+from zarosnik import (
+    filled,
+    first_bits,
+    first_cause,
+    number_bits,
+    row_of,
+    shape_causes,
+    ways,
+    work_cause,
+)
 
 Profile = namedtuple("Profile", "l w s h")
 GATE = Profile(34, 16, 255, 10)
+# The smallest count of a profile that signs orders.
+LEAST_COUNT = 256
 ZERO = bytes(16)
 
 
@@ -113,8 +124,16 @@ def table_causes(p, work):
     return profile_causes(p) + work_cause(p.l, p.s, work)
 
 
+def count_of(p):
+    return ways(p.w, p.l, p.s)
+
+
 def number_cause(p, number):
-    return 7 if number >= ways(p.w, p.l, p.s) else 0
+    return 7 if number >= count_of(p) else 0
+
+
+def count_cause(p):
+    return 19 if count_of(p) < LEAST_COUNT else 0
 
 
 def with_table(p, work):
@@ -166,8 +185,18 @@ def signature_length(p):
     return 20 + 16 * p.l + 16 * p.h
 
 
-def message_number(r, seed, root, text):
-    return int.from_bytes(hashlib.sha256(r + seed + root + text).digest()[:16], "big")
+def order_digest(r, seed, root, text):
+    return hashlib.sha256(r + seed + root + text).digest()
+
+
+def message_number(p, r, seed, root, text):
+    """The digest's first b bits: below 2^b, so below the count."""
+    return first_bits(order_digest(r, seed, root, text), number_bits(count_of(p)))
+
+
+def signature_of(p, seed, secret, leaf, r, number):
+    values = revealed(p, seed, secret, leaf, number)
+    return leaf.to_bytes(4, "big") + r + values + b"".join(path(p, seed, secret, leaf))
 
 
 SigningKey = namedtuple("SigningKey", "profile seed secret next")
@@ -188,16 +217,11 @@ def issue(key, r, text, work, out):
     )
     if refused:
         return refused, key, out, work
-    number = message_number(r, seed, root_of(p, seed, secret), text)
-    refused = number_cause(p, number)
+    refused = count_cause(p)
     if refused:
         return refused, key, out, with_table(p, work)
-    signature = (
-        leaf.to_bytes(4, "big")
-        + r
-        + revealed(p, seed, secret, leaf, number)
-        + b"".join(path(p, seed, secret, leaf))
-    )
+    number = message_number(p, r, seed, root_of(p, seed, secret), text)
+    signature = signature_of(p, seed, secret, leaf, r, number)
     written = signature + out[len(signature) :]
     return 0, key._replace(next=leaf + 1), written, with_table(p, work)
 
@@ -217,10 +241,10 @@ def check(verifier, text, signature, work):
     )
     if refused:
         return refused, verifier, 0, work
-    number = message_number(signature[4:20], seed, root, text)
-    refused = number_cause(p, number)
+    refused = count_cause(p)
     if refused:
         return refused, verifier, 0, with_table(p, work)
+    number = message_number(p, signature[4:20], seed, root, text)
     end = 20 + 16 * p.l
     key, steps = recovered(p, seed, leaf, number, signature[20:end])
     if climb_path(seed, leaf, key, pieces(signature[end:])) != root:

@@ -1,5 +1,5 @@
-"""Count, Spread, Gather and Compare on whole numbers: an implementation of the scope document that
-is independent of the library.
+"""Count, Spread, Gather and Compare on whole numbers, and the bits of a digest that make a number: an
+implementation of the scope document that is independent of the library.
 
 Work slices are lists of 32-bit words, rows are bytes. No slice is changed: every function answers
 with the number of its refusal, or 0, its value, and the slices as the call leaves them.
@@ -9,6 +9,8 @@ import itertools
 from functools import cache, lru_cache
 
 WORDS = 5
+# An order's number has at most so many bits.
+MOST_BITS = 128
 # How the first of two numbers stands to the second.
 LESS, EQUAL, GREATER = range(3)
 
@@ -142,6 +144,47 @@ def wrong_comparison():
     for first, second in itertools.product(numbers, repeat=2):
         if compare(first, second) != compared_by_words(first, second):
             return first, second
+    return None
+
+
+def number_bits(count):
+    """b: the largest value up to 128 with 2^b not above the count. A count of 0, which no shape has,
+    would leave none; it is given 0 here."""
+    return max((b for b in range(MOST_BITS + 1) if 2**b <= count), default=0)
+
+
+def first_bits(digest, bits):
+    """The first bits of a digest as a number: the digest as one number, without the other bits."""
+    return int.from_bytes(digest, "big") >> 8 * len(digest) - bits
+
+
+def number_bits_by_digits(count):
+    """The same by the count's binary digits: all but the first, and no more than 128."""
+    return len(f"{count:b}"[1:][:MOST_BITS])
+
+
+def first_bits_by_digits(digest, bits):
+    """The same by the digest's binary digits, eight a byte, cut off behind the last one taken."""
+    digits = "".join(format(byte, "08b") for byte in digest)
+    return int("0" + digits[:bits], 2)
+
+
+def powers_and_neighbours(last):
+    """2^k - 1, 2^k and 2^k + 1 for each k up to the last."""
+    return [(1 << k) + by for k in range(last + 1) for by in (-1, 0, 1)]
+
+
+def wrong_bits():
+    """A count, or a digest and bits, for which these two differ, or None. The digests have every bit
+    set, bits of both kinds, and each bit alone."""
+    for count in [*range(2000), *powers_and_neighbours(159), (1 << 160) - 1]:
+        if number_bits(count) != number_bits_by_digits(count):
+            return count
+    digests = [b"\xff" * 32, bytes(range(0x51, 0x71))]
+    digests += [(1 << at).to_bytes(32, "big") for at in range(256)]
+    for digest, bits in itertools.product(digests, range(MOST_BITS + 1)):
+        if first_bits(digest, bits) != first_bits_by_digits(digest, bits):
+            return digest, bits
     return None
 
 

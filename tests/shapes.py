@@ -1,0 +1,84 @@
+"""Shapes (l, w, s) within the limits, by their counts: those at which orders must be signed and checked,
+and draws by the bits that an order's number has.
+
+From 2^8 on no count is a power of two, and none but 255 is next to one. So what must come up on both
+sides of each power is the nearest count there is: the nearest above 2^b has b bits, the nearest below
+one bit less, and 255, the nearest below 2^8, is refused by 19.
+"""
+
+import itertools
+from bisect import bisect_left
+from collections import defaultdict
+from functools import cache
+
+from signatures import LEAST_COUNT
+from zarosnik import MOST_BITS, number_bits, ways
+
+LEAST_BITS = number_bits(LEAST_COUNT)
+
+
+@cache
+def by_count():
+    """The shapes of each count, the counts rising."""
+    found = defaultdict(list)
+    for l, w in itertools.product(range(1, 41), range(2, 17)):
+        for s in range(l * (w - 1) + 1):
+            found[ways(w, l, s)].append((l, w, s))
+    return dict(sorted(found.items()))
+
+
+@cache
+def by_bits():
+    """The shapes that sign, by the bits of an order's number."""
+    found = defaultdict(list)
+    for count, shapes in by_count().items():
+        if count >= LEAST_COUNT:
+            found[number_bits(count)] += shapes
+    return dict(found)
+
+
+@cache
+def scant():
+    """The shapes that sign nothing."""
+    counted = by_count().items()
+    return [shape for count, shapes in counted if count < LEAST_COUNT for shape in shapes]
+
+
+def nearly_signing():
+    """Those of them with the largest count, which is 255."""
+    return by_count()[neighbours(LEAST_BITS)[0]]
+
+
+def neighbours(power):
+    """The nearest count below 2^power, and the nearest that is not below."""
+    counts = list(by_count())
+    at = bisect_left(counts, 1 << power)
+    return counts[at - 1], counts[at]
+
+
+def shortest(count):
+    """Of the shapes with this count the one that takes the fewest hashes, then the least table."""
+    return min(by_count()[count], key=lambda shape: (shape[0] * shape[1], shape))
+
+
+@cache
+def edges():
+    """On both sides of each power of two from 2^8 to 2^128 a shape of the nearest count; of 255 every
+    shape."""
+    powers = range(LEAST_BITS, MOST_BITS + 1)
+    counts = [count for power in powers for count in neighbours(power)]
+    return nearly_signing() + [shortest(count) for count in counts[1:]]
+
+
+def answer_at(shape):
+    """What an order is answered with where nothing but the count may refuse it."""
+    l, w, s = shape
+    return 0 if ways(w, l, s) >= LEAST_COUNT else 19
+
+
+def missing_edges(met):
+    """In words, for each of these shapes that is not among those met with its answer."""
+    for shape in edges():
+        if (shape, answer_at(shape)) not in met:
+            l, w, s = shape
+            yield f"{answer_at(shape)} at l = {l}, w = {w}, s = {s}, count {ways(w, l, s)}"
