@@ -4,10 +4,10 @@
     python3 tests/expected_trial.py --check DIR    succeeds where these files are exactly those
 
 The cases are the document's trial values, the published SHA-256 examples, some values for each
-operation, and what the C interface cannot be given: states of the running hash. tests/interface.py
-has the breadth. Nothing here is taken from the program or from the library under test: digests of
+operation, and what the C interface cannot be given: states of the running hash, counts that no profile
+has, and digests. tests/interface.py has the breadth. Nothing here is taken from the program or from the library under test: digests of
 messages come from hashlib, and all else from the implementations in this folder, which are first held
-to hashlib and to lists of all rows.
+to hashlib, to lists of all rows and to binary digits.
 """
 
 import hashlib
@@ -20,8 +20,8 @@ from typing import NamedTuple
 import signatures
 import zarosnik
 from sheets import read_sheet, right_sheet
-from signatures import GATE, Profile, SigningKey, Verifier, signature_length
-from zarosnik import number_words, table_length
+from signatures import GATE, LEAST_COUNT, Profile, SigningKey, Verifier, signature_length
+from zarosnik import MOST_BITS, first_bits, number_bits, number_words, table_length
 
 MASK = 0xFFFFFFFF
 MOST = 65535
@@ -52,7 +52,7 @@ def stale_bytes(count):
 
 OPERATIONS = [
     *["sha256", "count", "spread", "gather", "leaf key", "root", "reveal", "recover"],
-    *["issue", "check", "sheet"],
+    *["issue", "check", "sheet", "bits", "first bits"],
 ]
 
 
@@ -257,6 +257,11 @@ def hash_cases():
 SMALL = Profile(3, 3, 3, 2)
 WIDE = Profile(40, 16, 0, 1)
 FLAT = GATE._replace(h=0)
+# Orders with numbers of 8 and of 127 bits; the count of the first is 266, the least that signs.
+FEWEST_BITS = Profile(7, 3, 5, 0)
+NEARLY_ALL_BITS = Profile(34, 15, 238, 0)
+# Its count is 255.
+NEARLY_SIGNING = Profile(5, 5, 7, 1)
 # Outside the limits, by numbers that the C interface does not take.
 OUTSIDE = [
     Profile(41, 3, 3, 2),
@@ -374,11 +379,32 @@ def check_case(cabinet, signature, text, change=""):
     return case("check", label, taken, ": ".join(told), before, Slices(table, signature, text))
 
 
+def flat_cases(p):
+    """h = 0: one order, then 12; the order accepted, then passed; and another text."""
+    key, size = SigningKey(p, SEED, SECRET, 0), signature_length(p)
+    yield issue_case(key, size + 3)
+    signature = signatures.issue(key, R, TEXT, table_of(p), stale_bytes(size))[2]
+    cabinet = Verifier(p, SEED, signatures.root_of(p, SEED, SECRET), 0)
+    yield check_case(cabinet, signature, TEXT)
+    yield check_case(cabinet, signature, TEXT[:-1], ", another text")
+
+
+def scant_cases(p, leaf):
+    """19, for an order that would be accepted if its count were taken."""
+    yield issue_case(SigningKey(p, SEED, SECRET, leaf), signature_length(p) + 3)
+    root = signatures.root_of(p, SEED, SECRET)
+    number = signatures.message_number(p, R, SEED, root, TEXT)
+    signature = signatures.signature_of(p, SEED, SECRET, leaf, R, number)
+    yield check_case(Verifier(p, SEED, root, leaf), signature, TEXT)
+
+
 def order_cases():
     """Issue and Check; h = 0: one order, then 12."""
     tall = GATE._replace(h=3)
     size = signature_length(tall)
-    yield issue_case(SigningKey(FLAT, SEED, SECRET, 0), signature_length(FLAT) + 3)
+    for p in [FLAT, FEWEST_BITS, NEARLY_ALL_BITS]:
+        yield from flat_cases(p)
+    yield from scant_cases(NEARLY_SIGNING, 1)
     yield issue_case(SigningKey(tall, SEED, SECRET, 5), size)
     for p in [SMALL, *OUTSIDE, *OUTSIDE_HEIGHT]:
         yield issue_case(SigningKey(p, SEED, SECRET, 0), 100)
@@ -417,9 +443,43 @@ def sheet_cases():
         yield sheet_case(other, right, size, 200)
 
 
+def bits_case(label, counts):
+    """For each count the bits of an order's number, and whether it is too small for one."""
+    told = [f"{number_bits(n)}{' small' if n < LEAST_COUNT else ''}" for n in counts]
+    taken = words([len(counts), *(word for n in counts for word in number_words(n))])
+    return case("bits", label, taken, " ".join(told))
+
+
+# Every bit set, in the second half alone, and of both kinds.
+DIGESTS = [b"\xff" * 32, bytes(16) + b"\xff" * 16, hashlib.sha256(b"abc").digest()]
+# So many powers, and so many of the 129 numbers of bits, in a line.
+POWERS_TOLD = 8
+BITS_TOLD = 43
+
+
+def bits_cases():
+    """Counts up to the ends of five words, most of which no profile has, and numbers of 0 to 128
+    bits. No shape has a count of 0, which has no power of two below it; it is told as 0 bits."""
+    wrong = zarosnik.wrong_bits()
+    if wrong is not None:
+        sys.exit(f"the bits of zarosnik.py are wrong for {wrong}")
+    yield bits_case("of 0", [0])
+    yield bits_case("of 1, 255, 256, 257, 2^160 - 1", [1, 255, 256, 257, (1 << 160) - 1])
+    for low in range(0, 160, POWERS_TOLD):
+        powers = range(low, low + POWERS_TOLD)
+        counts = [(1 << k) + by for k in powers for by in (-1, 0, 1)]
+        yield bits_case(f"of 2^k - 1, 2^k, 2^k + 1, k {low} to {powers[-1]}", counts)
+    for digest, low in itertools.product(DIGESTS, range(0, MOST_BITS + 1, BITS_TOLD)):
+        numbers = [first_bits(digest, bits) for bits in range(low, low + BITS_TOLD)]
+        told = ", ".join([f"from {low}", *map(number_told, numbers)])
+        taken = digest + words([low, BITS_TOLD])
+        yield case("first bits", f"of {digest.hex()}", taken, told)
+
+
 def cases():
     hold_to_hashlib()
-    for group in [hash_cases, code_cases, key_cases, value_cases, order_cases, sheet_cases]:
+    groups = [hash_cases, code_cases, key_cases, value_cases, order_cases, sheet_cases, bits_cases]
+    for group in groups:
         yield from group()
 
 

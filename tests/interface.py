@@ -98,8 +98,8 @@ class Met:
             if (operation, h) not in self.heights:
                 yield f"{operation} has never been granted at height {h}"
         for operation, met in self.shapes.items():
-            for edge in shapes.missing_edges(met):
-                yield f"{operation} has never answered {edge}"
+            for answer in shapes.missing_answers(shapes.edges(), met):
+                yield f"{operation} has never answered {answer}"
         for outcome in {0, 15} - self.earlier:
             yield f"verify has never answered {outcome} to an order of earlier days"
 

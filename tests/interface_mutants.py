@@ -18,6 +18,7 @@ import random
 import sys
 import tempfile
 
+import shapes
 from archived import archive_of, archive_parser, shared_object
 from comparisons import KINDS
 from interface_calls import BY_VALUE, LENT, PROTOTYPES, STATES, load
@@ -282,6 +283,8 @@ def seen_apart(library, operation, wrong, cases):
 def main():
     archive = archive_of(archive_parser("Tries tests/interface.py on wrong functions.").parse_args())
     unseen, tried = [], 0
+    # what shapes are drawn from is worked out once, and not in each process again
+    shapes.by_bits(), shapes.scant()
     with tempfile.TemporaryDirectory() as folder:
         library = load(shared_object(archive, folder))
         for operation in PROTOTYPES:

@@ -215,6 +215,9 @@ def main():
     wrong_pair = zarosnik.wrong_comparison()
     if wrong_pair:
         sys.exit(f"tests/make_vectors.py: the comparison is wrong of {wrong_pair}")
+    wrong_bits = zarosnik.wrong_bits()
+    if wrong_bits is not None:
+        sys.exit(f"tests/make_vectors.py: the bits are wrong of {wrong_bits}")
     texts = {f"{family}.json": file_text(family) for family in FAMILIES}
     if not check:
         for name, text in texts.items():

@@ -58,12 +58,20 @@ sub counts {
     };
 }
 
-# The row of an order, or nothing where its message number is not below the count.
+# The count, below 256 where no order is signed or accepted.
+sub count {
+    my ($l, $w, $s) = @_;
+    return counts($l, $w, $s)->[$l][$s];
+}
+
+# The row of an order, whose message number is the first b bits of its digest.
 sub row_of_order {
     my ($l, $w, $s, $r, $seed, $root, $text) = @_;
-    my $number = Math::BigInt->from_hex(unpack('H32', sha256($r . $seed . $root . $text)));
+    my $bits = 0;
+    $bits++ while $bits < 128 && Math::BigInt->new(2)->bpow($bits + 1) <= count($l, $w, $s);
+    my $digest = unpack('B*', sha256($r . $seed . $root . $text));
+    my $number = Math::BigInt->from_bin(substr($digest, 0, $bits));
     my $d = counts($l, $w, $s);
-    return if $number >= $d->[$l][$s];
     my ($left, @row) = ($s);
     for my $c (0 .. $l - 1) {
         my $v = 0;
@@ -83,8 +91,9 @@ sub sign {
     my $refused = sub { (outcome => $_[0], next_leaf => $leaf, signature => 'untouched') };
     return $refused->(16) if length $text < 1 || length $text > 200;
     return $refused->(12) if $leaf >= 2**$h;
+    return $refused->(19) if count($l, $w, $s) < 256;
     my @tree = ($l, $w, $seed, $secret);
-    my @row = row_of_order($l, $w, $s, $r, $seed, node(@tree, $h, 0), $text) or return $refused->(7);
+    my @row = row_of_order($l, $w, $s, $r, $seed, node(@tree, $h, 0), $text);
     my @values = map { chain_value($seed, $secret, $leaf, $_, $row[$_]) } 0 .. $l - 1;
     my @siblings = map { node(@tree, $_, ($leaf >> $_) ^ 1) } 0 .. $h - 1;
     my $signature = join('', pack('N', $leaf), $r, @values, @siblings);
@@ -102,7 +111,8 @@ sub verify {
     my @siblings = splice @values, $l;
     return $refused->(11) if $leaf >= 2**$h;
     return $refused->(14) if $leaf < $lowest;
-    my @row = row_of_order($l, $w, $s, $r, $seed, $root, $text) or return $refused->(7);
+    return $refused->(19) if count($l, $w, $s) < 256;
+    my @row = row_of_order($l, $w, $s, $r, $seed, $root, $text);
     for my $c (0 .. $l - 1) {
         for my $k ($row[$c] .. $w - 2) {
             $values[$c] = tweaked_hash($seed, 0, $leaf, $c, $k, $values[$c]);

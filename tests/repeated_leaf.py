@@ -17,10 +17,11 @@ import sys
 from pathlib import Path
 
 import signatures
-from signatures import GATE, Profile, Verifier
-from zarosnik import row_of, table_length, ways
+from signatures import GATE, Profile, Verifier, count_of
+from zarosnik import first_bits, number_bits, row_of, table_length, ways
 
-NUMBERS = 2**128
+BITS = number_bits(count_of(GATE))
+NUMBERS = 2**BITS
 SAMPLES = 200
 SIGNED = (1, 2, 3, 4)
 # What a forger's try takes, in seconds: about one compression.
@@ -77,7 +78,7 @@ def hold_to_list():
 
 def message_number(sample, order):
     digest = hashlib.sha256(b"sample %d, order %d" % (sample, order)).digest()
-    return int.from_bytes(digest[:16], "big")
+    return first_bits(digest, BITS)
 
 
 def sample_bits(orders):
@@ -85,7 +86,7 @@ def sample_bits(orders):
     for sample in range(SAMPLES):
         numbers = [message_number(sample, order) for order in range(orders)]
         floor = floor_of([row_of(*GATE[:3], number) for number in numbers])
-        yield 128 - math.log2(signable(GATE, floor, NUMBERS))
+        yield BITS - math.log2(signable(GATE, floor, NUMBERS))
 
 
 def gate_lines():
@@ -122,7 +123,7 @@ def forgery():
     shown = {}
     for order in range(4):
         r, text = bytes([order] * 16), b"sill level %d.4 m" % order
-        number = signatures.message_number(r, seed, root, text)
+        number = signatures.message_number(p, r, seed, root, text)
         values = signatures.pieces(signatures.revealed(p, seed, secret, 0, number))
         for chain, height in enumerate(row_of(*p[:3], number)):
             if chain not in shown or height < shown[chain][0]:
@@ -131,7 +132,7 @@ def forgery():
     text = b"sill level 9.4 m"
     for tried in range(1, 2**20):
         r = tried.to_bytes(16, "big")
-        row = row_of(*p[:3], signatures.message_number(r, seed, root, text))
+        row = row_of(*p[:3], signatures.message_number(p, r, seed, root, text))
         if all(height >= shown[chain][0] for chain, height in enumerate(row)):
             break
     values = [
@@ -152,8 +153,8 @@ def lines():
     yield f"2^{math.log2(count):.2f} rows"
     yield f"{values:,} values"
     yield f"2^{128 - math.log2(values):.0f} calls"
-    yield f"2^{128 - GATE.h} with all {leaves:,}"
-    yield f"2^{64 + math.log2(math.pi / 2) / 2:.2f} digests"
+    yield f"2^{BITS - GATE.h} with all {leaves:,}"
+    yield f"2^{BITS / 2 + math.log2(math.pi / 2) / 2:.2f} digests"
     yield small_line()
     yield from gate_lines()
     yield f"{forgery():,} digests"

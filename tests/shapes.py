@@ -76,9 +76,9 @@ def answer_at(shape):
     return 0 if ways(w, l, s) >= LEAST_COUNT else 19
 
 
-def missing_edges(met):
+def missing_answers(wanted, met):
     """In words, for each of these shapes that is not among those met with its answer."""
-    for shape in edges():
+    for shape in wanted:
         if (shape, answer_at(shape)) not in met:
             l, w, s = shape
             yield f"{answer_at(shape)} at l = {l}, w = {w}, s = {s}, count {ways(w, l, s)}"

@@ -19,13 +19,14 @@ from collections import Counter
 from archived import ROOT, archive_of, archive_parser, shared_object
 from interface_calls import BY_VALUE, PROTOTYPES
 from sheets import right_sheet
-from signatures import GATE, Profile, signature_length
-from zarosnik import number_words, table_length, ways
+from signatures import GATE, LEAST_COUNT, Profile, count_of, signature_length
+from zarosnik import number_words, table_length
 
 PAINTS = (0xA5, 0x5A)
 ARGUMENTS = 14
-# The most steps; the most where every order has a row; the largest count; the largest table.
-SUMS = (0, 133, 300, 600)
+# The most steps; the most of an order; the most of one with a number of 128 bits; the largest count;
+# the largest table of an order; the largest table.
+SUMS = (0, 2, 133, 300, 598, 600)
 PROFILES = [GATE, *(Profile(40, 16, s, 10) for s in SUMS)]
 PAGE = ROOT / "docs" / "INTERFACE.md"
 
@@ -106,9 +107,9 @@ class Caller:
             self.taken[operation] = max(self.taken[operation], taken)
 
     def granted(self):
-        """Every function; where the count is small, an order has no row."""
-        count = ways(self.p.w, self.p.l, self.p.s)
-        order = 0 if count >= 1 << 128 else 7
+        """Every function; where the count is too small, an order is refused by 19."""
+        count = count_of(self.p)
+        order = 0 if count >= LEAST_COUNT else 19
         self.call("hash", 0)
         self.call("count", 0)
         self.memory["number"][:] = number_words(count // 2)

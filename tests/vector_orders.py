@@ -1,11 +1,28 @@
 """Test vectors of whole orders: a key signs and a cabinet checks, and what a call hands back goes
-to the next. Orders that are taken; replays; changed texts, signatures, seeds and roots; spent keys.
+to the next. Orders that are taken; replays; changed texts, signatures, seeds and roots; spent keys;
+numbers of few bits, of many and of 128; counts that are too small; orders of earlier days.
 
 Each call is said to have an outcome, to which what the implementation answers is held.
 """
 
+import itertools
+
+import shapes
 import signatures
-from signatures import GATE, Profile, SigningKey, Verifier, pieces, root_of, signature_length
+from sheets import right_sheet
+from signatures import (
+    GATE,
+    Profile,
+    SigningKey,
+    Verifier,
+    count_of,
+    message_number,
+    order_digest,
+    pieces,
+    root_of,
+    signature_length,
+    signature_of,
+)
 from vector_calls import (
     GATE_SHAPE,
     LONG_ORDER,
@@ -17,14 +34,19 @@ from vector_calls import (
     derived,
     flipped,
     root_vector,
+    sheet_vector,
     sign_vector,
     verify_vector,
 )
 from worked_order import LEAF, WORKED
-from zarosnik import row_of, table_length, ways
+from zarosnik import MOST_BITS, first_bits, number_bits, row_of, table_length
 
-# Some orders are refused by 7: the count is about half of 2^128.
-HALF = Profile(34, 15, 238, 1)
+# Powers of two: the nearest counts on both sides have numbers of one bit less, and of so many. Around
+# the ends of the five words a number has, and at both ends of what an order's number may have.
+POWERS = (8, 9, 16, 31, 32, 33, 64, 96, 127, 128)
+# Profiles under which some orders of earlier days were signed: of two numbers about one was below the
+# count, and of 2^16 about one.
+EARLIER = [Profile(34, 15, 238, 1), Profile(*shapes.shortest(shapes.neighbours(113)[0]), 0)]
 
 
 class Story:
@@ -94,7 +116,7 @@ class Story:
     def onward(self, order):
         """The value of chain 0 one step higher than it is shown, as a forger could make it."""
         text, signature = order
-        number = signatures.message_number(signature[4:20], SEED, self.root, text)
+        number = message_number(self.p, signature[4:20], SEED, self.root, text)
         height = row_of(*self.p[:3], number)[0]
         leaf = int.from_bytes(signature[:4], "big")
         return signatures.climb(SEED, leaf, 0, height, height + 1, signature[20:36])
@@ -132,26 +154,87 @@ def worked_story():
     return story.vectors
 
 
-def r_for(story, text, has_row):
-    """The first R with which the text has a row, or has none."""
-    p, tries = story.p, 0
-    while True:
-        r = derived(f"half {tries}")
-        number = signatures.message_number(r, SEED, story.root, text)
-        if (number < ways(p.w, p.l, p.s)) == has_row:
-            return r
-        tries += 1
+def order_shapes():
+    """Of each count the shape that takes the fewest hashes."""
+    counts = [count for power in POWERS for count in shapes.neighbours(power)]
+    return [shapes.shortest(count) for count in counts if count >= signatures.LEAST_COUNT]
 
 
-def half_story():
-    """A count below 2^128: 7, then the same order with another R."""
-    story = Story(HALF)
-    without, with_row = r_for(story, ORDER, False), r_for(story, ORDER, True)
-    story.sign("the message number is not below the count", ORDER, without, 7)
-    order = story.sign("the same leaf and text with another R", ORDER, with_row)
-    no_row = bytes(4) + without + order[1][20:]
-    story.verify("an order that has no row", (ORDER, no_row), 7)
-    story.verify("the order with another R", order)
+def bits_story(shape):
+    """One order at h = 0, with a number of few bits or of many, then 12."""
+    p = Profile(*shape, 0)
+    count = count_of(p)
+    story = Story(p)
+    note = f"the count is {count}, the number has {number_bits(count)} bits"
+    order = story.sign(note, ORDER, R)
+    story.sign("one order, then 12", OTHER_ORDER, derived("bits"), 12)
+    story.verify("a text with another number", (OTHER_ORDER, order[1]), 15)
+    story.verify(note, order)
+    story.verify("the order again: a replay", order, 14)
+    return story.vectors
+
+
+def same_number_story():
+    """Where numbers have 8 bits, a text soon has the number of another, and is taken with its
+    signature: such a profile is for trials."""
+    p = Profile(*shapes.edges()[2], 0)
+    story = Story(p)
+    order = story.sign("an order whose number has 8 bits", ORDER, R)
+    number = message_number(p, R, SEED, story.root, ORDER)
+    texts = (b"sill level %d.4 m until 18:00" % level for level in itertools.count(3))
+    other = next(t for t in texts if message_number(p, R, SEED, story.root, t) == number)
+    story.verify("another text that has the same number", (other, order[1]))
+    return story.vectors
+
+
+def scant_story(shape):
+    """A count of 255: what 7 bits would sign is refused."""
+    p = Profile(*shape, 1)
+    story = Story(p)
+    story.key = story.key._replace(next=1)
+    story.sign("19: the count is 255", ORDER, R, 19)
+    story.sign("19, whatever the text and R are", OTHER_ORDER, derived("scant"), 19)
+    number = message_number(p, R, SEED, story.root, ORDER)
+    signature = signature_of(p, SEED, SECRET, 1, R, number)
+    story.verify("19: a number of 7 bits leads to the root", (ORDER, signature), 19)
+    story.verify("19: it does not lead to the root", (ORDER, flipped(signature, -1)), 19)
+    story.cabinet = story.cabinet._replace(lowest=2)
+    story.verify("the leaf is passed", (ORDER, signature), 14)
+    return story.vectors
+
+
+def earlier_number(story, r):
+    return first_bits(order_digest(r, SEED, story.root, ORDER), MOST_BITS)
+
+
+def earlier_order(story):
+    """The text and its signature, with the first R whose number of earlier days is below the count."""
+    tried = (derived(f"earlier {tries}") for tries in itertools.count())
+    r = next(r for r in tried if earlier_number(story, r) < count_of(story.p))
+    return ORDER, signature_of(story.p, SEED, SECRET, 0, r, earlier_number(story, r))
+
+
+def earlier_story(p):
+    """An order of earlier days, when every number had the digest's first 16 bytes, from its sheet to
+    the verdict; the same text and R today; and an R that was refused by 7 then."""
+    story = Story(p)
+    text, signature = earlier_order(story)
+    r, bits = signature[4:20], number_bits(count_of(p))
+    sheet = right_sheet(p, signature, text)
+    note = "the sheet of an order of earlier days"
+    story.add(sheet_vector(note, p, sheet, signature_length(p), len(text)), 0)
+    if bits == MOST_BITS:
+        story.verify("the order of earlier days: its number has 128 bits today too", (text, signature))
+        return story.vectors
+    note = f"the order of earlier days: its number has {bits} bits today, and another row"
+    story.verify(note, (text, signature), 15)
+    order = story.sign("the same text and R today", text, r)
+    story.verify("the order of today", order)
+    tried = (derived(f"refused earlier {tries}") for tries in itertools.count())
+    refused = next(r for r in tried if earlier_number(story, r) >= count_of(p))
+    story.key, story.cabinet = story.key._replace(next=0), story.cabinet._replace(lowest=0)
+    order = story.sign("an R whose number of earlier days is not below the count", text, refused)
+    story.verify("the order with this R", order)
     return story.vectors
 
 
@@ -174,7 +257,13 @@ def full_story(p, name):
 def orders_family():
     yield from gate_story()
     yield from worked_story()
-    yield from half_story()
+    for shape in order_shapes():
+        yield from bits_story(shape)
+    yield from same_number_story()
+    for shape in shapes.nearly_signing():
+        yield from scant_story(shape)
+    for p in [*EARLIER, WORKED]:
+        yield from earlier_story(p)
     yield from full_story(Profile(*GATE_SHAPE, 0), "one leaf")
     yield from full_story(Profile(40, 11, 200, 1), "narrow")
     yield from full_story(Profile(40, 16, 300, 2), "longest")

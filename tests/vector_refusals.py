@@ -7,7 +7,16 @@ answers is held to the first of them.
 
 from interface_inputs import CAUSES as DRAWN
 from sheets import right_sheet
-from signatures import GATE, Profile, SigningKey, Verifier, issue, root_of, signature_length
+from signatures import (
+    GATE,
+    Profile,
+    SigningKey,
+    Verifier,
+    message_number,
+    root_of,
+    signature_length,
+    signature_of,
+)
 from vector_calls import (
     MOST_HASHED,
     ORDER,
@@ -17,7 +26,6 @@ from vector_calls import (
     R,
     count_vector,
     derived,
-    filled,
     flipped,
     hash_vector,
     leaf_key_vector,
@@ -34,7 +42,7 @@ from zarosnik import row_of, table_length, ways
 
 PAST_WORD = 1 << 32
 PAST_NUMBER = 1 << 160
-# The gate's shape under a low tree: every text has a row.
+# The gate's shape under a low tree: it signs, which the small profile does not.
 LOW_GATE = GATE._replace(h=1)
 
 # The causes of each operation in the order tested. In the list drawn from, the two slices for which
@@ -128,15 +136,15 @@ class Refused:
         return sign_vector(self.note, key, R, self.text(), self.words, size)[0]
 
     def verify(self):
-        p, leaf = self.good, self.leaf(11)
-        key = SigningKey(p, SEED, SECRET, 2**p.h - 1)
-        room = [0] * table_length(p.l, p.s), filled(signature_length(p))
-        signature = leaf.to_bytes(4, "big") + issue(key, R, ORDER, *room)[2][4:]
+        p, leaf, root = self.good, self.leaf(11), root_of(self.good, SEED, SECRET)
+        # where the count is too small, what the rule would sign if it were not
+        number = message_number(p, R, SEED, root, ORDER)
+        signed = signature_of(p, SEED, SECRET, 2**p.h - 1, R, number)
         size = self.signature_size - (13 in self.causes)
-        signature = (signature + bytes(self.signature_size))[:size]
+        signature = (leaf.to_bytes(4, "big") + signed[4:] + bytes(self.signature_size))[:size]
         if 15 in self.causes:
             signature = flipped(signature, -1)
-        cabinet = Verifier(self.p, SEED, root_of(p, SEED, SECRET), leaf + (14 in self.causes))
+        cabinet = Verifier(self.p, SEED, root, leaf + (14 in self.causes))
         return verify_vector(self.note, cabinet, self.text(), signature, self.words)[0]
 
     def read_sheet(self):
@@ -147,8 +155,8 @@ class Refused:
 
 
 def refused(operation, note, causes, good=None, given=None):
-    """A text has no row under the small profile, and always has one under the gate's shape."""
-    signs = operation in ("sign", "verify") and 7 not in causes
+    """The small profile's count is too small for an order, the gate's is not."""
+    signs = operation in ("sign", "verify") and 19 not in causes
     good = good or (LOW_GATE if signs else SMALL)
     return getattr(Refused(note, good, causes, given), operation)()
 

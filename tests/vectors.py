@@ -5,8 +5,8 @@ programs link, and compares the answer, the states and all memory lent.
     python3 tests/vectors.py --archive PATH   takes this archive
 
 Fails where a call differs, and where something has no vector: a family, an operation granted, a
-refusal that docs/INTERFACE.md lists for an operation, a kind of numbers compared, or a number of a
-profile that would be the gate's if it were cut. The vectors themselves are held to the independent
+refusal that docs/INTERFACE.md lists for an operation, a kind of numbers compared, a count at which
+orders must be signed and checked, or a number of a profile that would be the gate's if it were cut. The vectors themselves are held to the independent
 implementation by tests/make_vectors.py, the page's worked values by tests/worked_order.py.
 """
 
@@ -17,12 +17,14 @@ import tempfile
 from collections import Counter
 
 import comparisons
+import shapes
 from archived import archive_of, archive_parser, shared_object
 from header import NO_REFUSALS
-from interface_calls import PROTOTYPES, Call, load
+from interface_calls import PROTOTYPES, STATES, Call, load
 from interface_memory import Memory, words_memory
 from make_vectors import FAMILIES, FOLDER
 from vector_calls import FILL, FILL_WORD
+from vector_orders import order_shapes
 from vector_refusals import CUT
 from zarosnik import filled, number_words
 
@@ -141,6 +143,13 @@ def missing(vectors):
         for name, number in CUT.items():
             if name in parameters.split() and all(given[name] != number for given in calls):
                 yield f"no vector: {operation} with {name} = {number}"
+    for operation in STATES:
+        calls = [vector for vector in vectors if vector["operation"] == operation]
+        met = {
+            (tuple(call["in"][name] for name in "lws"), call["out"]["outcome"]) for call in calls
+        }
+        for answer in shapes.missing_answers(order_shapes() + shapes.nearly_signing(), met):
+            yield f"no vector: {operation} answers {answer}"
     compared = [vector["in"] for vector in vectors if vector["operation"] == "compare"]
     numbers = [(int(given["first"], 16), int(given["second"], 16)) for given in compared]
     for kind in comparisons.missing_kinds({comparisons.kind(*pair) for pair in numbers}):

@@ -1,5 +1,5 @@
-"""The worked values of docs/INTERFACE.md: the small table of counts and the worked order, from the
-implementation in this folder that is independent of the library.
+"""The worked values of docs/INTERFACE.md: the small table of counts, numbers by the bits of a count and
+the worked order, from the implementation in this folder that is independent of the library.
 
     python3 tests/worked_order.py           compares the page's blocks with these values
     python3 tests/worked_order.py --print   prints the blocks, as they must stand in the page
@@ -13,6 +13,7 @@ from pathlib import Path
 
 from sheets import right_sheet
 from signatures import (
+    LEAST_COUNT,
     Profile,
     SigningKey,
     Verifier,
@@ -23,21 +24,25 @@ from signatures import (
     issue,
     message_number,
     node,
+    order_digest,
     root_of,
     signature_length,
 )
 from vector_calls import GATE_SHAPE, ORDER, SECRET, SEED, R, hexed, number_hex
-from zarosnik import row_of, table_length, ways
+from zarosnik import first_bits, number_bits, row_of, table_length, ways
 
 PAGE = Path(__file__).resolve().parent.parent / "docs" / "INTERFACE.md"
-# The gate's shape, so that every text has a row, under the lowest tree that shows a node with an
-# index other than 0. The path of leaf 2 has a right sibling, then a left one.
+# The gate's shape, whose numbers have 128 bits, under the lowest tree that shows a node with an index
+# other than 0. The path of leaf 2 has a right sibling, then a left one.
 WORKED = Profile(*GATE_SHAPE, 2)
 LEAF = 2
 CHAIN = 5
 # The search for a length is shown at so many places.
 PLACES = 3
 COUNTS = (3, 3, 3)
+# The number that the worked order's digest gives at small counts and at the gate's: the largest count
+# that is refused, the least that is not, the next bit, one bit less than the most, and the most.
+BITS = [(5, 5, 7), (7, 3, 5), (6, 4, 9), (34, 16, 204), GATE_SHAPE]
 # Bytes of a long value that stand in one line.
 LINE_BYTES = 32
 
@@ -73,13 +78,23 @@ def tree_block():
             yield f"node at height {height}, index {index} = {value}"
 
 
+def bits_block(root):
+    digest = order_digest(R, SEED, root, ORDER)
+    yield from long("digest", digest)
+    for l, w, s in BITS:
+        count = ways(w, l, s)
+        bits, shape = number_bits(count), f"l = {l}, w = {w}, s = {s}: count {count}"
+        number = f"b = {bits}, message number {first_bits(digest, bits):X}"
+        yield f"{shape}, {number if count >= LEAST_COUNT else 'refused by 19'}"
+
+
 def digest_block(root):
     message = R + SEED + root + ORDER
     yield f"R = {hexed(R)}"
     yield f"order text = {ORDER.decode()}"
     yield from long("R, public seed, root, order text", message)
     yield from long("digest", hashlib.sha256(message).digest())
-    yield f"message number = {number_hex(message_number(R, SEED, root, ORDER))}"
+    yield f"message number = {number_hex(message_number(WORKED, R, SEED, root, ORDER))}"
 
 
 def row_block(number):
@@ -130,11 +145,12 @@ def verdict_block(root, signature):
 def blocks():
     """The page's blocks in order: a section's heading and the lines."""
     root = root_of(WORKED, SEED, SECRET)
-    number = message_number(R, SEED, root, ORDER)
+    number = message_number(WORKED, R, SEED, root, ORDER)
     work, out = [0] * table_length(WORKED.l, WORKED.s), bytes(signature_length(WORKED))
     signature = issue(SigningKey(WORKED, SEED, SECRET, LEAF), R, ORDER, work, out)[2]
     sheet = right_sheet(WORKED, signature, ORDER).decode().splitlines()
     yield "Counts and rows", list(counts_block())
+    yield "Digest and message number", list(bits_block(root))
     for block in [
         key_block(),
         tree_block(),
