@@ -268,7 +268,18 @@ static void baseline_count(struct profile p, uint32_t *table, uint32_t number[5]
     memcpy(number, table + (p.l + 1) * row - 5, 5 * sizeof *number);
 }
 
-/* The codeword of the order's number, by the table, which is filled first: 0 if the number isn't below the count. */
+/* The bits of an order's number: the most, up to 128, with a power of two not above the count. */
+static int number_bits(const uint32_t count[5])
+{
+    int bits = 0;
+    if (count[4])
+        return 128;
+    for (u128 rest = low(count) >> 1; rest; rest >>= 1)
+        bits++;
+    return bits;
+}
+
+/* The codeword of the order's number, by the table, which is filled first: 0 if the count is below 256. */
 static int codeword(struct profile p, const uint8_t r[16], const uint8_t seed[16], const uint8_t root[16],
                     const uint8_t *message, size_t message_len, uint32_t *table, uint8_t *lengths)
 {
@@ -284,8 +295,10 @@ static int codeword(struct profile p, const uint8_t r[16], const uint8_t seed[16
         n = n << 32 | get32(digest + i);
 
     baseline_count(p, table, count);
-    if (!count[4] && n >= low(count))
+    int bits = number_bits(count);
+    if (bits < 8)
         return 0;
+    n >>= 128 - bits;
     size_t sum = p.s;
     for (uint32_t i = p.l; i-- > 0;) {
         const uint32_t *share = table + 5 * (i * ((size_t)p.s + 1) + sum);

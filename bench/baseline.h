@@ -16,7 +16,7 @@ struct baseline {
     void (*hash)(const uint8_t *data, size_t len, uint8_t digest[32]);
     void (*count)(struct profile p, uint32_t *table, uint32_t number[5]);
     void (*root)(struct profile p, const uint8_t public_seed[16], const uint8_t secret_seed[16], uint8_t root[16]);
-    /* Whether the order is signed: its number may be no codeword's. */
+    /* Whether the order is signed: the profile may have too few codewords. */
     int (*sign)(struct profile p, const uint8_t public_seed[16], const uint8_t secret_seed[16], uint32_t leaf,
                 const uint8_t r[16], const uint8_t *message, size_t message_len, uint32_t *table, uint8_t *signature);
     /* Whether the signature is accepted. */

@@ -1,6 +1,6 @@
-/* Times the library against the baseline at the gate profile, and verify at the profile where it takes longest, after
- * checking that both give the same bytes; with --check, only checks; with --growth, times the library alone as one
- * number of the profile varies.
+/* Times the library against the baseline at the gate profile, and verify at the profile where it takes longest with
+ * numbers of 128 bits, after checking that both give the same bytes, there and where an order's number has fewer bits;
+ * with --check, only checks; with --growth, times the library alone as one number of the profile varies.
  *
  *   bench [--check] [--growth] [--lines FILE] [--repeats N]
  *
@@ -103,7 +103,7 @@ static void fail(const char *operation, const char *what)
     exit(1);
 }
 
-/* Makes the order that is checked; 0 where its number isn't below the profile's count. */
+/* Makes the order that is checked; 0 where the profile's count is below 256. */
 static int make_order(struct profile p)
 {
     in.p = p;
@@ -190,9 +190,12 @@ static const struct comparison {
 enum { COMPARISONS = sizeof comparisons / sizeof *comparisons };
 static const struct comparison dearest_verify = {"verify, dearest", NULL, {our_verify, plain_verify}, 0};
 
-/* The profile whose checks take longest among those under which every order has a number: at the largest l, w and h the
- * least s with a count of 2^128. One more of s would save a chain step and cost l + 1 cells of the table, which take
- * less. */
+/* Numbers of 69 bits, to be checked alone. */
+static const struct profile few_bits = {ZAROSNIK_GATE_L, ZAROSNIK_GATE_W, 40, 2};
+
+/* The profile whose checks take longest among those whose orders have numbers of 128 bits; the others are for trials. At
+ * the largest l, w and h it has the least s with a count of 2^128. One more of s would save a chain step and cost l + 1
+ * cells of the table, which take less. */
 static struct profile dearest(void)
 {
     in.p = (struct profile){ZAROSNIK_L_MAX, ZAROSNIK_W_MAX, 0, ZAROSNIK_H_MAX};
@@ -225,15 +228,24 @@ static void check_at(struct profile p, size_t message_len)
     }
 }
 
-static void check(struct profile gate)
+static void check_all(struct profile gate, struct profile other)
 {
-    struct profile other = dearest();
     check_at(gate, GATE_MESSAGE);
     check_at(other, ZAROSNIK_MESSAGE_MAX);
+    check_at(few_bits, GATE_MESSAGE);
+}
+
+static void check(struct profile gate)
+{
+    const struct profile other = dearest(), others[] = {other, few_bits};
+    check_all(gate, other);
     printf("bench: the same bytes as plain C of");
     for (int b = 0; b < BASELINES; b++)
         printf("%s %s", b ? " and" : "", baselines[b]->name);
-    printf(", at the gate profile and at l = %u, w = %u, s = %u, h = %u\n", other.l, other.w, other.s, other.h);
+    printf(", at the gate profile");
+    for (int i = 0; i < 2; i++)
+        printf(" and at l = %u, w = %u, s = %u, h = %u", others[i].l, others[i].w, others[i].s, others[i].h);
+    printf("\n");
 }
 
 /* A row of the table: medians of the times, and of the ratios of each turn, with their quartiles. */
@@ -274,8 +286,7 @@ static void compare_rows(const struct comparison *k)
 static void compare(struct profile gate)
 {
     struct profile other = dearest();
-    check_at(gate, GATE_MESSAGE);
-    check_at(other, ZAROSNIK_MESSAGE_MAX);
+    check_all(gate, other);
     printf("| Operation | zarosnik | against | | ratio | quartiles | limit | |\n|---|--:|---|--:|--:|--:|--:|---|\n");
     take_order(gate, GATE_MESSAGE);
     for (int i = 0; i < COMPARISONS; i++)
@@ -295,7 +306,7 @@ static void compare(struct profile gate)
 }
 
 /* A row of a growth table: least times, steadier than medians where nothing is compared. Recover is a check without
- * digest and path, here of the middle number; it stands for verify where the order's number is refused. */
+ * digest and path, here of the middle number; it stands for verify where the count is below 256. */
 static void grow(struct profile p, char parameter, unsigned value)
 {
     static const char *const names[] = {"count", "recover", "verify", "root", "sign"};

@@ -24,7 +24,7 @@ from comparisons import KINDS
 from interface_calls import BY_VALUE, LENT, PROTOTYPES, STATES, load
 from interface_cases import beginning, edge, plan
 from interface_inputs import CAUSES, FAR
-from wrong_orders import wrong_orders
+from wrong_orders import right_orders, wrong_orders
 from zarosnik import EQUAL, GREATER, LESS, WORDS
 
 # Bytes of what has no length of its own; all else has 16.
@@ -230,6 +230,12 @@ def mutants():
         yield what, operation, wrong, cases if shape else cases_of(operation) + cases
 
 
+def nothing_wrong():
+    """Each operation as it is; and those that are made again below, by the right rule."""
+    yield from ((operation, None) for operation in PROTOTYPES)
+    yield from right_orders().items()
+
+
 class Wrong:
     """The library with one function wrong, or with none."""
 
@@ -287,8 +293,8 @@ def main():
     shapes.by_bits(), shapes.scant()
     with tempfile.TemporaryDirectory() as folder:
         library = load(shared_object(archive, folder))
-        for operation in PROTOTYPES:
-            if seen_apart(library, operation, None, cases_of(operation) + edges_of(operation)):
+        for operation, right in nothing_wrong():
+            if seen_apart(library, operation, right, cases_of(operation) + edges_of(operation)):
                 sys.exit(f"tests/interface_mutants.py: {operation} differs with nothing wrong")
         for what, operation, wrong, cases in mutants():
             tried += 1

@@ -20,6 +20,8 @@
 #define HEIGHT 2u
 #define LEAF 1u
 #define PROFILE ZAROSNIK_GATE_L, ZAROSNIK_GATE_W, ZAROSNIK_GATE_S, HEIGHT
+/* With this sum in the gate's place an order's number has 69 bits. */
+#define FEW_BITS_SUM 40u
 #define SIGNATURE_BYTES ZAROSNIK_SIGNATURE_BYTES(ZAROSNIK_GATE_L, HEIGHT)
 
 static const uint8_t public_seed[ZAROSNIK_HASH_BYTES] = {0x10, 0x11, 0x12, 0x13, 0x14, 0x15, 0x16, 0x17,
@@ -125,12 +127,13 @@ void *I_WRAP_SONAME_FNNAME_ZZ(NONE, sha256ZcZcrunningZcZcHashZcZcfinish)(void *f
     return answer;
 }
 
-static void sign_undisclosed(void)
+static void sign_at(uint32_t sum)
 {
     uint8_t signature[SIGNATURE_BYTES];
     uint32_t next_leaf = LEAF;
-    granted(zarosnik_sign(PROFILE, public_seed, secret_seed, &next_leaf, r, (const uint8_t *)order, strlen(order),
-                          table, ZAROSNIK_GATE_TABLE_WORDS, signature, sizeof signature));
+    granted(zarosnik_sign(ZAROSNIK_GATE_L, ZAROSNIK_GATE_W, sum, HEIGHT, public_seed, secret_seed, &next_leaf, r,
+                          (const uint8_t *)order, strlen(order), table, ZAROSNIK_GATE_TABLE_WORDS, signature,
+                          sizeof signature));
     if (finish_calls != DIGEST_CALL) {
         fail("the digest was not met: Hash::finish is no function of its own in this archive, or called otherwise");
     }
@@ -140,10 +143,22 @@ static void sign_undisclosed(void)
     printf("%" PRIu32 "\n", next_leaf);
 }
 
+static void sign_undisclosed(void)
+{
+    sign_at(ZAROSNIK_GATE_S);
+}
+
 static void sign(void)
 {
     disclosed_call = DIGEST_CALL;
-    sign_undisclosed();
+    sign_at(ZAROSNIK_GATE_S);
+}
+
+/* The number is shifted, which one of 128 bits is not. */
+static void sign_few_bits(void)
+{
+    disclosed_call = DIGEST_CALL;
+    sign_at(FEW_BITS_SUM);
 }
 
 /* Controls: what memcheck must report. */
@@ -181,6 +196,7 @@ static const struct {
     {"root", root},
     {"one_time_sign", one_time_sign},
     {"sign", sign},
+    {"sign_few_bits", sign_few_bits},
     {"sign_undisclosed", sign_undisclosed},
     {"branch", branch},
     {"address", address},

@@ -38,6 +38,8 @@ TEXT = b"sill level 2.4 m until 18:00"
 NUMBER = 0xFEDCBA98765432100123456789ABCDEF
 LEAF = 1
 P = GATE._replace(h=2)
+# An order's number has 69 bits, not 128.
+FEW_BITS = P._replace(s=40)
 
 BRANCH = "Conditional jump or move depends on uninitialised value(s)"
 ADDRESS = "Use of uninitialised value of size"
@@ -48,10 +50,10 @@ def say(line):
     print(f"tests/secret_seed.py: {line}", flush=True)
 
 
-def issued():
+def issued(p):
     """The signature and the next leaf, as the program prints them."""
-    key = SigningKey(P, SEED, SECRET, LEAF)
-    work, out = [0] * table_length(P.l, P.s), bytes(signatures.signature_length(P))
+    key = SigningKey(p, SEED, SECRET, LEAF)
+    work, out = [0] * table_length(p.l, p.s), bytes(signatures.signature_length(p))
     outcome, after, signature, _ = signatures.issue(key, R, TEXT, work, out)
     assert outcome == 0
     return f"{signature.hex()}\n{after.next}\n"
@@ -66,8 +68,9 @@ def expected():
         "leaf_key": (f"{key.hex()}\n", None),
         "root": (f"{root.hex()}\n", None),
         "one_time_sign": (f"{values.hex()}\n", None),
-        "sign": (issued(), None),
-        "sign_undisclosed": (issued(), BRANCH),
+        "sign": (issued(P), None),
+        "sign_few_bits": (issued(FEW_BITS), None),
+        "sign_undisclosed": (issued(P), BRANCH),
         "branch": ("", BRANCH),
         "address": ("", ADDRESS),
         "system_call": ("", SYSTEM_CALL),

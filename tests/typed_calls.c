@@ -143,6 +143,30 @@ static void verify(struct zarosnik_cabinet *cabinet)
     expect("lowest leaf", cabinet->lowest_leaf, EXPECTED_NEXT + 1);
 }
 
+/* A profile whose count is too small for orders: key and cabinet come back as they were. */
+static void few_rows(struct zarosnik_public_seed public_seed, struct zarosnik_secret_seed secret_seed,
+                     struct zarosnik_tree_root root)
+{
+    const struct zarosnik_profile few = {EXPECTED_FEW_L, EXPECTED_FEW_W, EXPECTED_FEW_S, EXPECTED_FEW_H};
+    struct zarosnik_key key = zarosnik_fresh_key(few, public_seed, secret_seed);
+    struct zarosnik_cabinet cabinet = zarosnik_fresh_cabinet(few, public_seed, root);
+    struct zarosnik_randomizer r;
+    uint8_t signature[ZAROSNIK_SIGNATURE_BYTES(EXPECTED_FEW_L, EXPECTED_FEW_H)] = {0};
+    uint32_t steps;
+    memcpy(r.bytes, expected_r, sizeof expected_r);
+    expect("sign with few rows",
+           zarosnik_key_sign(&key, r, expected_text, sizeof expected_text, table, TABLE_WORDS, signature,
+                             sizeof signature),
+           ZAROSNIK_REFUSED_COUNT_TOO_SMALL);
+    expect("next leaf with few rows", key.next_leaf, 0);
+    expect("verify with few rows",
+           zarosnik_cabinet_verify(&cabinet, expected_text, sizeof expected_text, signature, sizeof signature, table,
+                                   TABLE_WORDS, &steps),
+           ZAROSNIK_REFUSED_COUNT_TOO_SMALL);
+    expect("lowest leaf with few rows", cabinet.lowest_leaf, 0);
+    expect("steps with few rows", steps, 0);
+}
+
 int main(void)
 {
     struct zarosnik_public_seed public_seed;
@@ -163,6 +187,7 @@ int main(void)
     leaves(&key);
     sign(&key);
     verify(&cabinet);
+    few_rows(public_seed, secret_seed, root);
 
     /* The gate profile, and one outside the limits that a narrower type would cut to it. */
     struct zarosnik_profile gate = ZAROSNIK_GATE_PROFILE;

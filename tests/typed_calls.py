@@ -22,6 +22,8 @@ from zarosnik import compare, number_words, row_of, table_length, ways
 
 # The gate's profile over a low tree.
 P = Profile(34, 16, 255, 2)
+# Its count is 255.
+FEW = Profile(5, 5, 7, 1)
 SEED = bytes(range(0x30, 0x40))
 SECRET = bytes(range(0x50, 0x60))
 R = bytes(range(0x90, 0xA0))
@@ -62,6 +64,7 @@ def expected():
     numbers = {"count": ways(P.w, P.l, P.s), "number": NUMBER, "below": BELOW}
     steps = P.l * (P.w - 1) - P.s
     singles = {**P._asdict(), "leaf": LEAF, "next": NEXT, "steps": steps}
+    singles |= {f"few_{name}": number for name, number in FEW._asdict().items()}
     _, singles["order"], singles["looked"] = compare(NUMBER, BELOW)
     return byte_arrays, numbers, singles
 

@@ -258,6 +258,11 @@ def wrong_refusals(operation):
         yield "either rule", verify_by(by_number(right_number), by_number(earlier_number))
 
 
+def right_orders():
+    """Each operation by the right rule, made in the way of the wrong ones: nothing is to be seen."""
+    return {operation: BY_RULE[operation](by_number(right_number)) for operation in STATES}
+
+
 def wrong_orders():
     """What is wrong, with which operation, the wrong function, and the shape at which alone it is
     wrong, or None."""
