@@ -4,10 +4,11 @@
     python3 tests/expected_trial.py --check DIR    succeeds where these files are exactly those
 
 The cases are the document's trial values, the published SHA-256 examples, some values for each
-operation, and what the C interface cannot be given: states of the running hash, counts that no profile
-has, and digests. tests/interface.py has the breadth. Nothing here is taken from the program or from the library under test: digests of
-messages come from hashlib, and all else from the implementations in this folder, which are first held
-to hashlib, to lists of all rows and to binary digits.
+operation, and what the C interface cannot be given: states of the running hash, counts that no
+profile has, and digests. tests/interface.py has the breadth. Nothing here is taken from the program
+or from the library under test: digests of messages come from hashlib, and all else from the
+implementations in this folder, which are first held to hashlib, to lists of all rows and to binary
+digits.
 """
 
 import hashlib
@@ -257,10 +258,10 @@ def hash_cases():
 SMALL = Profile(3, 3, 3, 2)
 WIDE = Profile(40, 16, 0, 1)
 FLAT = GATE._replace(h=0)
-# Orders with numbers of 8 and of 127 bits; the count of the first is 266, the least that signs.
+# Orders have numbers of 8 bits, and of 127. The first has the least count that signs, which is 266.
 FEWEST_BITS = Profile(7, 3, 5, 0)
-NEARLY_ALL_BITS = Profile(34, 15, 238, 0)
-# Its count is 255.
+NEARLY_ALL_BITS = FLAT._replace(s=204)
+# The largest count that does not sign, which is 255.
 NEARLY_SIGNING = Profile(5, 5, 7, 1)
 # Outside the limits, by numbers that the C interface does not take.
 OUTSIDE = [

@@ -11,9 +11,10 @@ that is not as the scope document says, and where something has not come up that
 operation granted, each cause of its refusals and each two, each set of numbers of the profile that
 narrower parameters would cut to right ones or that are 2^31 or 2^32 - 1, with each answer something
 past the named length of each slice, numbers compared in each order after each count of pairs, the
-words below being alike or in either order, orders signed and taken at every height of the tree, and
-at every number of bits from 8 to 128, at the nearest counts on both sides of each power of two, the
-two shapes of 255 refused by 19; and orders of earlier days, taken where 128 bits are and else refused.
+words below being alike or in either order, orders signed and taken at every height of the tree and,
+by tests/shapes.py, with every number of bits from 8 to 128, at the nearest counts on both sides of
+each power of two, both shapes of 255 being refused; and orders of earlier days, taken where numbers
+have 128 bits as then, and refused where they have fewer.
 """
 
 import itertools
@@ -45,8 +46,8 @@ def say(line, stream=sys.stdout):
 class Met:
     """What has come up: the answers of each operation, the causes told and those behind them, wide
     numbers of the profile, slices longer than they must be and states other than 0 with each
-    answer, the kinds of numbers compared, and, of orders, the heights of trees under which they were
-    signed and taken, the shapes with the answers there, and the answers to those of earlier days."""
+    answer, the kinds of numbers compared, and, of orders, the heights of trees under which they
+    were signed and taken, the shapes with the answers there, and the answers to earlier ones."""
 
     def __init__(self):
         self.outcomes = Counter()
@@ -100,7 +101,7 @@ class Met:
         for operation, met in self.shapes.items():
             for answer in shapes.missing_answers(shapes.edges(), met):
                 yield f"{operation} has never answered {answer}"
-        for outcome in {0, 15} - self.earlier:
+        for outcome in sorted({0, 15} - self.earlier):
             yield f"verify has never answered {outcome} to an order of earlier days"
 
     def missing_kept(self, operation, causes):

@@ -5,8 +5,8 @@ A run begins with the tallest trees, once for each height, and with an order sig
 at each of the counts on both sides of the powers of two. Every round of cases has, for each
 operation, granted calls, each cause of refusal alone, each two together, and several; numbers to
 compare of many kinds; numbers of the profile that narrower parameters would cut to right ones, or
-that are the ends of what wide ones hold; slices whose length passes 32 bits; orders of earlier days;
-and sequences in which a fresh key signs and a fresh verifier checks.
+that are the ends of what wide ones hold; slices whose length passes 32 bits; orders of earlier
+days; and sequences in which a fresh key signs and a fresh verifier checks.
 """
 
 import itertools
@@ -25,10 +25,9 @@ from zarosnik import MOST_BITS
 SEQUENCES = 8
 # Causes that come in many ways, and numbers that are compared in more.
 MANIFOLD = [("rank", [10]), ("verify", [15]), ("read_sheet", [17]), *[("compare", [])] * 3]
-# Orders of earlier days have numbers of 128 bits. At so many bits and more some of these are below the
-# count, so that R need not be drawn long.
+# Orders of earlier days have numbers of 128 bits. Where numbers have so many today, an R that gave
+# one below the count is soon found.
 EARLIER_BITS = range(120, MOST_BITS + 1)
-EARLIER = 6
 # Sequences sign with every leaf of trees that are no higher than this.
 MOST_HEIGHT = 3
 
@@ -71,18 +70,17 @@ def single(operation, causes, pick, far=None, wide=None):
 
 
 def edge(operation, shape, pick):
-    """An order at a count next to a power of two, which alone may refuse it. The tree has no part in
-    the number: it is low."""
+    """An order at a count near a power of two, and nothing but the count may refuse it. The tree is
+    low: it has no part in the bits."""
     answer = shapes.answer_at(shape)
     causes = [answer] if answer else []
     inputs = Inputs(pick, operation, causes, profile=Profile(*shape, pick.randrange(2)))
     yield caused(operation, causes, getattr(inputs, operation)())
 
 
-def earlier(operation, pick):
-    """Checks an order of earlier days. Where the number has fewer bits today it is refused, though it
-    was taken then; with 128 bits it is the same order."""
-    bits = pick.choice(EARLIER_BITS)
+def earlier(operation, bits, pick):
+    """Checks an order of earlier days. Where its number has fewer bits today it is refused, though
+    it was taken then; with 128 bits it is the same order."""
     p = Profile(*pick.choice(shapes.by_bits()[bits]), pick.randrange(11))
     order, causes = Order(pick, p), [] if bits == MOST_BITS else [15]
     order.sign_as_earlier()
@@ -129,8 +127,8 @@ class Sequence:
         return call
 
     def refused_check(self, taken):
-        """A check that is refused. A text or R that was changed may have the number that it had, most
-        often where there are few, and is then taken: another check is drawn."""
+        """A check that is refused. Where numbers are few, a changed text or R may have the number
+        of the order and is then taken: another check is drawn."""
         verifier = self.verifier
         while True:
             call = self.wrong_check(taken)
@@ -235,7 +233,7 @@ def plan():
         cases += [partial(several, operation)] * len(causes)
         cases += [partial(single, operation, c, wide=w) for c, w in wide_numbers(operation)]
     cases += [partial(single, operation, causes) for operation, causes in MANIFOLD * 20]
-    cases += [partial(earlier, "verify")] * EARLIER
+    cases += [partial(earlier, "verify", bits) for bits in EARLIER_BITS]
     return cases + [sequence] * SEQUENCES
 
 

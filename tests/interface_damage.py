@@ -33,9 +33,9 @@ def swapped(pick, parts):
 
 
 class Order:
-    """A signed order that a verifier with its profile, seed and root takes, if the profile signs: where
-    its count is below 256, nothing but 19 refuses it. The siblings are any, and the root is climbed
-    from them: no tree is walked, whatever its height."""
+    """A signed order that a verifier with its profile, seed and root takes; with a count below 256
+    nothing but 19 refuses it. The siblings are any, and the root is climbed from them: no tree is
+    walked, whatever its height."""
 
     def __init__(self, pick, p):
         self.pick, self.p = pick, p
@@ -55,8 +55,8 @@ class Order:
         self.values = pieces(revealed(self.p, self.seed, self.secret, self.leaf, number))
 
     def sign_as_earlier(self):
-        """By the number of earlier days, the digest's first 16 bytes, with an R for which it is below
-        the count."""
+        """By the number of earlier days, the digest's first 128 bits, with an R for which it is
+        below the count."""
         while True:
             digest = order_digest(self.r, self.seed, self.root, self.text)
             number = first_bits(digest, MOST_BITS)
@@ -73,8 +73,8 @@ class Order:
         return head + b"".join(self.values) + b"".join(self.siblings)
 
     def damage(self):
-        """One thing is other than it was signed; more where that does no harm, since another text or R
-        may have the same number where there are few."""
+        """One thing is other than it was signed. Where numbers are few, another text or R may have
+        the same one and do no harm: then one more thing is."""
         changes = [self.flip_bit, self.other_text, self.other_root]
         changes += [self.flip_value, self.swap_values, self.step_on]
         if self.p.h >= 1:

@@ -7,8 +7,8 @@ the C interface at a time, and fails where the comparison finds no difference th
 A wrong function cuts a number or a length; reads just before or behind memory that it is lent;
 writes what it is to read only; changes a slice or a state where it refuses, for each cause, or a
 slice past its named length where it grants; leaves an old answer where it refuses; compares two
-numbers by another rule, or wrongly for one order and one count of pairs alone; or numbers orders, or
-refuses them by 19, by another rule, or wrongly at one of the shapes alone that must come up.
+numbers by another rule, or wrongly for one order and one count of pairs alone; or has another rule
+for an order's number or for 19, or a wrong number at just one of the shapes that must come up.
 """
 
 import ctypes
@@ -260,24 +260,24 @@ def edges_of(operation, shape=None):
     return [case for case in cases if shape in (None, case.args[1])]
 
 
-def seen(library, operation, cases):
+def seen(library, operation, cases, rounds):
     """Whether a difference is found in the cases, which are of the operation."""
     pick = random.Random(operation)
-    for _ in range(ROUNDS):
+    for _ in range(rounds):
         pick.shuffle(cases)
         if any(call.make(library) for case in cases for call in case(pick)):
             return True
     return False
 
 
-def seen_apart(library, operation, wrong, cases):
+def seen_apart(library, operation, wrong, cases, rounds=ROUNDS):
     """The same with the function made wrong, in a process of its own, which a call may end."""
     child = os.fork()
     if child == 0:
         status = 1
         try:
             made = Wrong(library, operation, wrong)
-            status = SEEN if seen(made, operation, cases) else UNSEEN
+            status = SEEN if seen(made, operation, cases, rounds) else UNSEEN
         finally:
             os._exit(status)
     status = os.waitpid(child, 0)[1]
@@ -289,12 +289,14 @@ def seen_apart(library, operation, wrong, cases):
 def main():
     archive = archive_of(archive_parser("Tries tests/interface.py on wrong functions.").parse_args())
     unseen, tried = [], 0
-    # what shapes are drawn from is worked out once, and not in each process again
-    shapes.by_bits(), shapes.scant()
+    # what shapes are drawn from, worked out once and not in each process again
+    for drawn_from in (shapes.by_bits, shapes.scant):
+        drawn_from()
     with tempfile.TemporaryDirectory() as folder:
         library = load(shared_object(archive, folder))
         for operation, right in nothing_wrong():
-            if seen_apart(library, operation, right, cases_of(operation) + edges_of(operation)):
+            cases = cases_of(operation) + edges_of(operation)
+            if seen_apart(library, operation, right, cases, rounds=1):
                 sys.exit(f"tests/interface_mutants.py: {operation} differs with nothing wrong")
         for what, operation, wrong, cases in mutants():
             tried += 1

@@ -1,9 +1,9 @@
-"""Shapes (l, w, s) within the limits, by their counts: those at which orders must be signed and checked,
-and draws by the bits that an order's number has.
+"""Shapes (l, w, s) within the limits by their counts: what orders are drawn from, by the bits of an
+order's number, and the shapes at which orders must be signed and checked.
 
-From 2^8 on no count is a power of two, and none but 255 is next to one. So what must come up on both
-sides of each power is the nearest count there is: the nearest above 2^b has b bits, the nearest below
-one bit less, and 255, the nearest below 2^8, is refused by 19.
+From 2^8 on no count is a power of two, and none but 255 is next to one. So what must come up on
+both sides of each power is the nearest count there is: the nearest above 2^b gives b bits, the
+nearest below one bit less, and 255, the nearest below 2^8, is refused by 19.
 """
 
 import itertools
@@ -63,8 +63,8 @@ def shortest(count):
 
 @cache
 def edges():
-    """On both sides of each power of two from 2^8 to 2^128 a shape of the nearest count; of 255 every
-    shape."""
+    """On both sides of each power of two from 2^8 to 2^128 a shape of the nearest count; of 255
+    every shape."""
     powers = range(LEAST_BITS, MOST_BITS + 1)
     counts = [count for power in powers for count in neighbours(power)]
     return nearly_signing() + [shortest(count) for count in counts[1:]]

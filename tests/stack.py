@@ -24,8 +24,8 @@ from zarosnik import number_words, table_length
 
 PAINTS = (0xA5, 0x5A)
 ARGUMENTS = 14
-# The most steps; the most of an order; the most of one with a number of 128 bits; the largest count;
-# the largest table of an order; the largest table.
+# The most steps; the most of an order, and of one with a number of 128 bits; the largest count; the
+# largest table of an order; the largest table.
 SUMS = (0, 2, 133, 300, 598, 600)
 PROFILES = [GATE, *(Profile(40, 16, s, 10) for s in SUMS)]
 PAGE = ROOT / "docs" / "INTERFACE.md"

@@ -41,12 +41,12 @@ from vector_calls import (
 from worked_order import LEAF, WORKED
 from zarosnik import MOST_BITS, first_bits, number_bits, row_of, table_length
 
-# Powers of two: the nearest counts on both sides have numbers of one bit less, and of so many. Around
-# the ends of the five words a number has, and at both ends of what an order's number may have.
+# The nearest count above 2^power gives numbers of so many bits, the nearest below one bit less: the
+# fewest and the most, and at the ends of words.
 POWERS = (8, 9, 16, 31, 32, 33, 64, 96, 127, 128)
-# Profiles under which some orders of earlier days were signed: of two numbers about one was below the
-# count, and of 2^16 about one.
-EARLIER = [Profile(34, 15, 238, 1), Profile(*shapes.shortest(shapes.neighbours(113)[0]), 0)]
+# Profiles at which orders of earlier days could be signed, numbers having 127 and 112 bits today: in
+# eight numbers about five were below the count, and in 2^15 one.
+EARLIER = [Profile(34, 16, 204, 1), Profile(*shapes.shortest(shapes.neighbours(113)[0]), 0)]
 
 
 class Story:
@@ -208,15 +208,15 @@ def earlier_number(story, r):
 
 
 def earlier_order(story):
-    """The text and its signature, with the first R whose number of earlier days is below the count."""
+    """The text and its signature, with the first R whose earlier number is below the count."""
     tried = (derived(f"earlier {tries}") for tries in itertools.count())
     r = next(r for r in tried if earlier_number(story, r) < count_of(story.p))
     return ORDER, signature_of(story.p, SEED, SECRET, 0, r, earlier_number(story, r))
 
 
 def earlier_story(p):
-    """An order of earlier days, when every number had the digest's first 16 bytes, from its sheet to
-    the verdict; the same text and R today; and an R that was refused by 7 then."""
+    """An order of earlier days, when every number had 128 bits, from its sheet to the verdict; the
+    same text and R today; and an R whose number was not below the count then."""
     story = Story(p)
     text, signature = earlier_order(story)
     r, bits = signature[4:20], number_bits(count_of(p))
@@ -262,7 +262,7 @@ def orders_family():
     yield from same_number_story()
     for shape in shapes.nearly_signing():
         yield from scant_story(shape)
-    for p in [*EARLIER, WORKED]:
+    for p in [*EARLIER, GATE]:
         yield from earlier_story(p)
     yield from full_story(Profile(*GATE_SHAPE, 0), "one leaf")
     yield from full_story(Profile(40, 11, 200, 1), "narrow")

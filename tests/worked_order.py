@@ -1,5 +1,6 @@
-"""The worked values of docs/INTERFACE.md: the small table of counts, numbers by the bits of a count and
-the worked order, from the implementation in this folder that is independent of the library.
+"""The worked values of docs/INTERFACE.md: the small table of counts, a digest's number at several
+counts, and the worked order, from the implementation in this folder that is independent of the
+library.
 
     python3 tests/worked_order.py           compares the page's blocks with these values
     python3 tests/worked_order.py --print   prints the blocks, as they must stand in the page
@@ -32,16 +33,16 @@ from vector_calls import GATE_SHAPE, ORDER, SECRET, SEED, R, hexed, number_hex
 from zarosnik import first_bits, number_bits, row_of, table_length, ways
 
 PAGE = Path(__file__).resolve().parent.parent / "docs" / "INTERFACE.md"
-# The gate's shape, whose numbers have 128 bits, under the lowest tree that shows a node with an index
-# other than 0. The path of leaf 2 has a right sibling, then a left one.
+# The gate's shape, at which numbers have 128 bits, under the lowest tree that shows a node with an
+# index other than 0. The path of leaf 2 has a right sibling, then a left one.
 WORKED = Profile(*GATE_SHAPE, 2)
 LEAF = 2
 CHAIN = 5
 # The search for a length is shown at so many places.
 PLACES = 3
 COUNTS = (3, 3, 3)
-# The number that the worked order's digest gives at small counts and at the gate's: the largest count
-# that is refused, the least that is not, the next bit, one bit less than the most, and the most.
+# The worked order's digest gives a number at each of these: the largest count that is refused, the
+# least that is not, one with a bit more, one with a bit less than 128, and the gate's.
 BITS = [(5, 5, 7), (7, 3, 5), (6, 4, 9), (34, 16, 204), GATE_SHAPE]
 # Bytes of a long value that stand in one line.
 LINE_BYTES = 32

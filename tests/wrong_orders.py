@@ -1,6 +1,7 @@
-"""Issue and Check made wrong in the number of an order and in refusal 19, for tests/interface_mutants.py,
-which must see each of them: by another rule for the bits, for 19, or for both; with 19 told before or
-after another cause; and with something changed that 19 must leave, or not left that it must leave.
+"""Issue and Check made wrong in the number of an order and in refusal 19, for
+tests/interface_mutants.py: by another rule for the bits or for 19, with 19 told before a cause that
+comes first or behind one that comes later, and with something changed that 19 must leave as it was,
+or left that it must change.
 """
 
 import ctypes
@@ -49,7 +50,7 @@ def is_scant(given):
 
 
 def sign_by(rule):
-    """Issue by a rule, which gives the refusal, or 0, and the number from the count and the digest."""
+    """Issue by a rule, which gives a refusal or 0, and the number, from the count and the digest."""
 
     def wrong(right, given):
         leaf, before = given.words("next_leaf")[0], content(given, "signature")
@@ -69,8 +70,9 @@ def sign_by(rule):
 
 def judge(given, rule):
     """The refusal of a signature by a rule, or 0, and the steps."""
-    p, signature, seed = profile_of(given), content(given, "signature"), content(given, "public_seed")
-    root, leaf, end = content(given, "root"), int.from_bytes(signature[:4], "big"), 20 + 16 * p.l
+    p, signature = profile_of(given), content(given, "signature")
+    seed, root = content(given, "public_seed"), content(given, "root")
+    leaf, end = int.from_bytes(signature[:4], "big"), 20 + 16 * p.l
     digest = order_digest(signature[4:20], seed, root, content(given, "message"))
     refused, number = rule(count_of(p), digest)
     if refused:
@@ -148,9 +150,9 @@ def rules():
     smallest, least_signing = (shapes.neighbours(shapes.LEAST_BITS)[side] for side in (0, 1))
     yield "a bit too many", by_bits(lambda count: number_bits(count) + 1)
     yield "a bit too many, up to 128", by_bits(lambda count: min(number_bits(count) + 1, MOST_BITS))
-    yield "a bit too many where the number is below the count", by_number(one_more_if_below)
+    yield "a bit too many if below the count", by_number(one_more_if_below)
     yield "a bit too few", by_bits(lambda count: number_bits(count) - 1)
-    yield "at most 127 bits", by_bits(lambda count: min(number_bits(count), MOST_BITS - 1))
+    yield "127 bits at most", by_bits(lambda count: min(number_bits(count), MOST_BITS - 1))
     yield "more than 128 bits", by_bits(lambda count: count.bit_length() - 1)
     yield "whole bytes", by_bits(lambda count: number_bits(count) // 8 * 8)
     yield "whole words", by_bits(lambda count: number_bits(count) // 32 * 32)
