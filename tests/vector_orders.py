@@ -46,7 +46,7 @@ from zarosnik import MOST_BITS, first_bits, number_bits, row_of, table_length
 POWERS = (8, 9, 16, 31, 32, 33, 64, 96, 127, 128)
 # Profiles at which orders of earlier days could be signed, numbers having 127 and 112 bits today: in
 # eight numbers about five were below the count, and in 2^15 one.
-EARLIER = [Profile(34, 16, 204, 1), Profile(*shapes.shortest(shapes.neighbours(113)[0]), 0)]
+EARLIER = [Profile(34, 16, 204, 2), Profile(*shapes.shortest(shapes.neighbours(113)[0]), 2)]
 
 
 class Story:
@@ -177,7 +177,7 @@ def bits_story(shape):
 def same_number_story():
     """Where numbers have 8 bits, a text soon has the number of another, and is taken with its
     signature: such a profile is for trials."""
-    p = Profile(*shapes.edges()[2], 0)
+    p = Profile(*order_shapes()[0], 0)
     story = Story(p)
     order = story.sign("an order whose number has 8 bits", ORDER, R)
     number = message_number(p, R, SEED, story.root, ORDER)
@@ -223,16 +223,16 @@ def earlier_story(p):
     sheet = right_sheet(p, signature, text)
     note = "the sheet of an order of earlier days"
     story.add(sheet_vector(note, p, sheet, signature_length(p), len(text)), 0)
+    note = f"the order of earlier days: its number has {bits} bits today"
+    story.verify(note, (text, signature), 0 if bits == MOST_BITS else 15)
     if bits == MOST_BITS:
-        story.verify("the order of earlier days: its number has 128 bits today too", (text, signature))
         return story.vectors
-    note = f"the order of earlier days: its number has {bits} bits today, and another row"
-    story.verify(note, (text, signature), 15)
-    order = story.sign("the same text and R today", text, r)
+    # its leaf is used up
+    story.key = story.key._replace(next=1)
+    order = story.sign("the same text and R today, with the next leaf", text, r)
     story.verify("the order of today", order)
     tried = (derived(f"refused earlier {tries}") for tries in itertools.count())
     refused = next(r for r in tried if earlier_number(story, r) >= count_of(p))
-    story.key, story.cabinet = story.key._replace(next=0), story.cabinet._replace(lowest=0)
     order = story.sign("an R whose number of earlier days is not below the count", text, refused)
     story.verify("the order with this R", order)
     return story.vectors
