@@ -44,8 +44,8 @@ from zarosnik import MOST_BITS, first_bits, number_bits, row_of, table_length
 # The nearest count above 2^power gives numbers of so many bits, the nearest below one bit less: the
 # fewest and the most, and at the ends of words.
 POWERS = (8, 9, 16, 31, 32, 33, 64, 96, 127, 128)
-# Profiles at which orders of earlier days could be signed, numbers having 127 and 112 bits today: in
-# eight numbers about five were below the count, and in 2^15 one.
+# Profiles at which orders of earlier days could be signed, and numbers have 127 and 112 bits today:
+# in eight numbers about five were below the count, and in 2^15 one.
 EARLIER = [Profile(34, 16, 204, 2), Profile(*shapes.shortest(shapes.neighbours(113)[0]), 2)]
 
 

@@ -6,8 +6,9 @@ programs link, and compares the answer, the states and all memory lent.
 
 Fails where a call differs, and where something has no vector: a family, an operation granted, a
 refusal that docs/INTERFACE.md lists for an operation, a kind of numbers compared, a count at which
-orders must be signed and checked, or a number of a profile that would be the gate's if it were cut. The vectors themselves are held to the independent
-implementation by tests/make_vectors.py, the page's worked values by tests/worked_order.py.
+orders must be signed and checked, or a number of a profile that would be the gate's if it were cut.
+The vectors themselves are held to the independent implementation by tests/make_vectors.py, the
+page's worked values by tests/worked_order.py.
 """
 
 import json

@@ -50,7 +50,7 @@ def is_scant(given):
 
 
 def sign_by(rule):
-    """Issue by a rule, which gives a refusal or 0, and the number, from the count and the digest."""
+    """Issue by a rule, which gives a refusal or 0, and a number, from the count and the digest."""
 
     def wrong(right, given):
         leaf, before = given.words("next_leaf")[0], content(given, "signature")
@@ -261,7 +261,7 @@ def wrong_refusals(operation):
 
 
 def right_orders():
-    """Each operation by the right rule, made in the way of the wrong ones: nothing is to be seen."""
+    """Both by the right rule, made in the way of the wrong ones: nothing is to be seen."""
     return {operation: BY_RULE[operation](by_number(right_number)) for operation in STATES}
 
 

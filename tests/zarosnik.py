@@ -1,5 +1,5 @@
-"""Count, Spread, Gather and Compare on whole numbers, and the bits of a digest that make a number: an
-implementation of the scope document that is independent of the library.
+"""Count, Spread, Gather and Compare on whole numbers, and the bits of a digest that make an order's
+number: an implementation of the scope document that is independent of the library.
 
 Work slices are lists of 32-bit words, rows are bytes. No slice is changed: every function answers
 with the number of its refusal, or 0, its value, and the slices as the call leaves them.
@@ -148,8 +148,8 @@ def wrong_comparison():
 
 
 def number_bits(count):
-    """b: the largest value up to 128 with 2^b not above the count. A count of 0, which no shape has,
-    would leave none; it is given 0 here."""
+    """b: the largest value up to 128 with 2^b not above the count. Of a count of 0, which no shape
+    has, there is none, and it is 0 here."""
     return max((b for b in range(MOST_BITS + 1) if 2**b <= count), default=0)
 
 
@@ -175,8 +175,8 @@ def powers_and_neighbours(last):
 
 
 def wrong_bits():
-    """A count, or a digest and bits, for which these two differ, or None. The digests have every bit
-    set, bits of both kinds, and each bit alone."""
+    """A count, or a digest and bits, for which these two differ, or None. The digests have every
+    bit set, bits of both kinds, and each bit alone."""
     for count in [*range(2000), *powers_and_neighbours(159), (1 << 160) - 1]:
         if number_bits(count) != number_bits_by_digits(count):
             return count
