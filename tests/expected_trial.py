@@ -22,7 +22,14 @@ import signatures
 import zarosnik
 from sheets import read_sheet, right_sheet
 from signatures import GATE, LEAST_COUNT, Profile, SigningKey, Verifier, signature_length
-from zarosnik import MOST_BITS, first_bits, number_bits, number_words, table_length
+from zarosnik import (
+    MOST_BITS,
+    around_powers,
+    first_bits,
+    number_bits,
+    number_words,
+    table_length,
+)
 
 MASK = 0xFFFFFFFF
 MOST = 65535
@@ -468,8 +475,8 @@ def bits_cases():
     yield bits_case("of 1, 255, 256, 257, 2^160 - 1", [1, 255, 256, 257, (1 << 160) - 1])
     for low in range(0, 160, POWERS_TOLD):
         powers = range(low, low + POWERS_TOLD)
-        counts = [(1 << k) + by for k in powers for by in (-1, 0, 1)]
-        yield bits_case(f"of 2^k - 1, 2^k, 2^k + 1, k {low} to {powers[-1]}", counts)
+        label = f"of 2^k - 1, 2^k, 2^k + 1, k {low} to {powers[-1]}"
+        yield bits_case(label, around_powers(powers))
     for digest, low in itertools.product(DIGESTS, range(0, MOST_BITS + 1, BITS_TOLD)):
         numbers = [first_bits(digest, bits) for bits in range(low, low + BITS_TOLD)]
         told = ", ".join([f"from {low}", *map(number_told, numbers)])

@@ -169,15 +169,15 @@ def first_bits_by_digits(digest, bits):
     return int("0" + digits[:bits], 2)
 
 
-def powers_and_neighbours(last):
-    """2^k - 1, 2^k and 2^k + 1 for each k up to the last."""
-    return [(1 << k) + by for k in range(last + 1) for by in (-1, 0, 1)]
+def around_powers(exponents):
+    """2^k - 1, 2^k and 2^k + 1 for each k of these."""
+    return [2**k + by for k in exponents for by in (-1, 0, 1)]
 
 
 def wrong_bits():
     """A count, or a digest and bits, for which these two differ, or None. The digests have every
     bit set, bits of both kinds, and each bit alone."""
-    for count in [*range(2000), *powers_and_neighbours(159), (1 << 160) - 1]:
+    for count in [*range(2000), *around_powers(range(160)), 2**160 - 1]:
         if number_bits(count) != number_bits_by_digits(count):
             return count
     digests = [b"\xff" * 32, bytes(range(0x51, 0x71))]
