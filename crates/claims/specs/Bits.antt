@@ -17,7 +17,7 @@ use Rattle.signer.specs.declared.SigningKey.{SigningKey}
 use Rattle.verifier.specs.Verifying as verifying
 use Rattle.verifier.specs.declared.Verifier.{Verifier}
 
--- "b is the largest value up to 128 with 2^b not above the count", for the count of every shape
+-- "b is the largest value up to 128 with 2^b not above the count", for the count of every shape within its limits
 abbrev pub LargestBits : Type 0
 LargestBits =
     (p : Shape) → InLimits p
