@@ -2,10 +2,13 @@
 pub mod Accepted
 pub mod Bits
 pub mod Climb
+pub mod GateCount
 pub mod InOrder
 pub mod Judged
+pub mod Largest
 pub mod LeafLaws
 pub mod Made
 pub mod OrdersProved
 pub mod ReadBack
 pub mod Source
+pub mod SymmetricChains

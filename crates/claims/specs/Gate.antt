@@ -1,10 +1,15 @@
--- The gate profile and its figures in the price list.
+-- The gate profile, its figures in the price list, and its count.
 use mathlib.Core.Path.{_≡_}
-use Prim.Native.Nat.{ℕ, _<_}
+use mathlib.Core.List.{List}
+use Prim.Native.Nat.{ℕ, _^_, _≤_, _<_}
 use Rattle.profile.specs.declared.Profile.{Profile}
 use Rattle.counts.specs.Counts.{count}
 use Rattle.one_time.specs.Operations.{stepsOf}
-use Rattle.message.specs.Message.{signatureLength}
+use Rattle.message.specs.Message.{signatureLength, numberBits}
+use Rattle.signer.specs.Signing.{signCode}
+use Rattle.signer.specs.declared.SigningKey.{SigningKey}
+use Rattle.verifier.specs.Verifying.{verifyCode}
+use Rattle.verifier.specs.declared.Verifier.{Verifier}
 
 -- "The gate profile is l = 34, w = 16, s = 255, h = 10"
 abbrev pub gate : Profile
@@ -14,3 +19,12 @@ gate = record { shape = record { chains = 34; width = 16; sum = 255 }; height = 
 pub record GateFigures : Type 0 where
   pub bytes : signatureLength gate ≡ 724
   pub steps : (n : ℕ) → n < count (gate .shape) → stepsOf (gate .shape) n ≡ 255
+
+-- document 02, point 13: "For the gate profile the count is at least 2^128, so b is 128 and 19 never occurs there"
+pub record GateCount : Type 0 where
+  pub counted : count (gate .shape) ≡ 1287155674008337910149577743336952677632
+  pub large : 2 ^ 128 ≤ count (gate .shape)
+  pub bits : numberBits (count (gate .shape)) ≡ 128
+  -- of Issue and Check, whatever else they are handed
+  pub sign-nineteen : (key : SigningKey) (r message work out : List ℕ) → key .profile ≡ gate → signCode key r message work out ≡ 19 → ⊥
+  pub verify-nineteen : (v : Verifier) (message signature work : List ℕ) → v .profile ≡ gate → verifyCode v message signature work ≡ 19 → ⊥

@@ -5,6 +5,7 @@ pub mod Demand3
 pub mod Gate
 pub mod Hashing
 pub mod Judged
+pub mod Largest
 pub mod OneTime
 pub mod Orders
 pub mod Rows

@@ -2,9 +2,10 @@
 use mathlib.Core.Path.{_≡_}
 use mathlib.Core.Bool.{cond}
 use mathlib.Core.List.{List, [], _∷_, _++_, map}
-use Prim.Native.Nat.{ℕ, _-_, _*_, _≤_, _<_}
+use Prim.Native.Nat.{ℕ, _-_, _*_, _≤_}
 use lib.Dec.{eqb}
-use lib.ListN.{length, getD, take}
+use lib.ListN.{length, take}
+use Rattle.words.specs.Distinct.{Distinct}
 use Rattle.profile.specs.declared.Shape.{Shape}
 use Rattle.profile.specs.declared.Profile.{Profile}
 use Rattle.counts.specs.Table.{tableLength}
@@ -61,9 +62,7 @@ leafOf one = leafIn (one .signature)
 
 -- "no two of the signatures issued carry the same leaf"
 abbrev pub NoLeafTwice : List Issued → Type 0
-NoLeafTwice signatures =
-    let leaves = map leafOf signatures in
-    (i j : ℕ) → i < j → j < length leaves → getD leaves i 0 ≡ getD leaves j 0 → ⊥
+NoLeafTwice signatures = Distinct 0 (map leafOf signatures)
 
 -- a call of Check: of the next signature issued, with its own text and a work slice, or any other
 pub data Check : Type 0 where

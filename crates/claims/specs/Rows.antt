@@ -2,12 +2,11 @@
 use mathlib.Core.Path.{_≡_}
 use mathlib.Core.Logic.{_↔_}
 use mathlib.Core.List.{List}
-use Prim.Native.Nat.{ℕ, _<_, _≤_}
-use lib.ListN.{getD}
+use Prim.Native.Nat.{ℕ, _<_}
 use Rattle.profile.specs.declared.Shape.{Shape}
 use Rattle.counts.specs.Counts.{count}
 use Rattle.counts.specs.Table.{countCode}
-use Rattle.codewords.specs.Codeword.{IsCodeword, Before}
+use Rattle.codewords.specs.Codeword.{IsCodeword, AtMost, Before}
 use Rattle.codewords.specs.Operations.{rowOf, rankCode}
 
 -- "Under one profile, two message numbers below the count are equal exactly when no chain in the first one's signature stands
@@ -15,7 +14,7 @@ use Rattle.codewords.specs.Operations.{rowOf, rankCode}
 abbrev pub Incomparable : Type 0
 Incomparable =
     (p : Shape) (m n : ℕ) → m < count p → n < count p
-    → (m ≡ n) ↔ ((c : ℕ) → c < p .chains → getD (rowOf p m) c 0 ≤ getD (rowOf p n) c 0)
+    → (m ≡ n) ↔ AtMost (p .chains) (rowOf p m) (rowOf p n)
 
 -- "Every row of l lengths from 0 to w − 1 with sum s belongs to exactly one number below the count"
 abbrev pub Complete : Type 0

@@ -9,9 +9,10 @@ ghost use Rattle.listing.specs.Listing.{FirstEleven, Example};
 ghost use Rattle.sheet.specs.Sheet.{Exact};
 ghost use Rattle.claims.specs.Bits.{LargestBits, NumbersFit, SmallCounts};
 ghost use Rattle.claims.specs.Demand3.{Demand3};
-ghost use Rattle.claims.specs.Gate.{GateFigures};
+ghost use Rattle.claims.specs.Gate.{GateFigures, GateCount};
 ghost use Rattle.claims.specs.Hashing.{AbcDigest};
 ghost use Rattle.claims.specs.Judged.{JudgedByRoot};
+ghost use Rattle.claims.specs.Largest.{LargestCode};
 ghost use Rattle.claims.specs.OneTime.{RecoversRevealed, ClimbsToRoot};
 ghost use Rattle.claims.specs.Rows.{Ordered, RankExact};
 ghost use Rattle.claims.specs.Trial.{TrialValues};
@@ -54,6 +55,15 @@ pub fn numbers_fit()
 
 pub fn small_counts()
     ensures { λ _. ⌜ SmallCounts ⌝ }
+{}
+
+// The largest code of its length, and the gate's count.
+pub fn largest_code()
+    ensures { λ _. ⌜ LargestCode ⌝ }
+{}
+
+pub fn gate_count()
+    ensures { λ _. ⌜ GateCount ⌝ }
 {}
 
 // Signing and checking.

@@ -83,16 +83,16 @@ none-left w (suc t) n h = absurd (omega arith)
 -- a length in front of a codeword
 prepend : {w i t a : ℕ} {row : List ℕ} → a < w → a ≤ t → IsCodeword w i (t - a) row → IsCodeword w (suc i) t (a ∷ row)
 unfolding total
-prepend {w} {i} {t} {a} {row} below within is = record { chains = ap suc (is .chains); digits = digits; sum = omega arith }
+prepend {w} {i} {t} {a} {row} below within is = record { lengths = record { chains = ap suc (is .lengths .chains); digits = digits }; sum = omega arith }
   where
     digits : (c : ℕ) → c < suc i → getD (a ∷ row) c 0 < w
     digits zero h = below
-    digits (suc c) h = is .digits c (le-of-suc-le-suc h)
+    digits (suc c) h = is .lengths .digits c (le-of-suc-le-suc h)
 
 -- the number n names a codeword
 pub codeword-valid : (w i t n : ℕ) → n < D w i t → IsCodeword w i t (codeword w i t n)
 unfolding codeword total
-codeword-valid w zero t n h = record { chains = refl; digits = λ c none. absurd (not-suc-le-zero none); sum = sym (none-left w t n h .0) }
+codeword-valid w zero t n h = record { lengths = record { chains = refl; digits = λ c none. absurd (not-suc-le-zero none) }; sum = sym (none-left w t n h .0) }
 codeword-valid w (suc i) t n h =
     let head = first w i t n h in
     prepend (head .below) (head .within) (codeword-valid w i _ _ (head .rest))
@@ -103,7 +103,7 @@ unfolding codeword rank
 rank-codeword w zero t n h = omega (arith, none-left w t n h .1)
 rank-codeword w (suc i) t n h =
     let head = first w i t n h in
-    rw (codeword-valid w i _ _ (head .rest) .chains, rank-codeword w i _ _ (head .rest)) (sym (head .split))
+    rw (codeword-valid w i _ _ (head .rest) .lengths .chains, rank-codeword w i _ _ (head .rest)) (sym (head .split))
 
 -- the first length of a codeword, and the others
 pub record Front (w t a : ℕ) (row : List ℕ) : Type 0 where
@@ -115,9 +115,9 @@ pub front : {w i t a : ℕ} {row : List ℕ} → IsCodeword w i t (a ∷ row) �
 unfolding total
 front is =
     record {
-      below = is .digits 0 (omega arith);
+      below = is .lengths .digits 0 (omega arith);
       within = omega arith;
-      rest = record { chains = refl; digits = λ c h. is .digits (suc c) (omega arith); sum = omega arith };
+      rest = record { lengths = record { chains = refl; digits = λ c h. is .lengths .digits (suc c) (omega arith) }; sum = omega arith };
     }
 
 -- the number of a row whose first length is below b is below the shares before b
@@ -130,7 +130,7 @@ rank-below {w} {t} {a} {row} b part own less =
 -- the number of a codeword is below the count
 pub rank-lt : (w i t : ℕ) (row : List ℕ) → IsCodeword w i t row → rank w t row < D w i t
 unfolding rank D total
-rank-lt w i t [] is = rw (← is .chains, ← is .sum) (omega arith)
+rank-lt w i t [] is = rw (← is .lengths .chains, ← is .sum) (omega arith)
 rank-lt w i t (a ∷ row) is =
     let part = front is in
-    rw (← is .chains) (rank-below w part (rank-lt w (length row) (t - a) row (part .rest)) (part .below))
+    rw (← is .lengths .chains) (rank-below w part (rank-lt w (length row) (t - a) row (part .rest)) (part .below))

@@ -5,10 +5,10 @@ use mathlib.Core.List.{List, [], _∷_}
 use Prim.Native.Nat.{ℕ, suc, _-_, _<_, _≤_}
 use native.Mathlib.Nat.{eq-or-lt-of-le, le-refl}
 use native.Mathlib.Omega.{arith}
-use lib.ListN.{length, getD}
+use lib.ListN.{length}
 use Rattle.words.proofs.Numbers.{lt-or-le}
 use Rattle.counts.specs.Counts.{sumTo, share, D, count}
-use Rattle.codewords.specs.Codeword.{Before, codeword, rank, total, IsCodeword}
+use Rattle.codewords.specs.Codeword.{Before, codeword, rank, total, IsCodeword, AtMost}
 use Rattle.codewords.specs.Operations.{RankUnrank}
 use Rattle.codewords.proofs.CodewordLaws.{codeword-valid, rank-codeword, front, rank-below, rank-lt}
 
@@ -49,7 +49,7 @@ before-rank w i t (a ∷ xs) (b ∷ ys) is-x is-y (inr later) =
     rw (later .0, long) (omega (arith, before-rank w (length xs) (t - b) xs ys rest-x rest-y (later .1)))
 
 -- two codewords with one number are the same
-rank-injective : (w i t : ℕ) (xs ys : List ℕ) → IsCodeword w i t xs → IsCodeword w i t ys → rank w t xs ≡ rank w t ys → xs ≡ ys
+pub rank-injective : (w i t : ℕ) (xs ys : List ℕ) → IsCodeword w i t xs → IsCodeword w i t ys → rank w t xs ≡ rank w t ys → xs ≡ ys
 rank-injective w i t xs ys is-x is-y same =
     ⊎-elim (λ before. absurd (omega (arith, before-rank w i t xs ys is-x is-y before)))
     (⊎-elim (λ e. e) (λ after. absurd (omega (arith, before-rank w i t ys xs is-y is-x after))))
@@ -70,21 +70,21 @@ rank-unrank =
     }
 
 -- the sum of a row that is at most another at each place
-total-le : (xs ys : List ℕ) → length xs ≡ length ys → ((c : ℕ) → c < length xs → getD xs c 0 ≤ getD ys c 0) → total xs ≤ total ys
+total-le : (xs ys : List ℕ) → length xs ≡ length ys → AtMost (length xs) xs ys → total xs ≤ total ys
 unfolding total
 total-le [] ys long most = omega arith
 total-le (a ∷ xs) [] long most = absurd (omega arith)
 total-le (a ∷ xs) (b ∷ ys) long most = omega (arith, most 0 (omega arith), total-le xs ys (omega arith) (λ c h. most (suc c) (omega arith)))
 
 -- it is the same, where the sums are
-same-total : (xs ys : List ℕ) → length xs ≡ length ys → ((c : ℕ) → c < length xs → getD xs c 0 ≤ getD ys c 0) → total xs ≡ total ys → xs ≡ ys
+same-total : (xs ys : List ℕ) → length xs ≡ length ys → AtMost (length xs) xs ys → total xs ≡ total ys → xs ≡ ys
 unfolding total
 same-total [] [] long most same = refl
 same-total [] (b ∷ ys) long most same = absurd (omega arith)
 same-total (a ∷ xs) [] long most same = absurd (omega arith)
 same-total (a ∷ xs) (b ∷ ys) long most same =
     let head : a ≤ b = most 0 (omega arith) in
-    let others : (c : ℕ) → c < length xs → getD xs c 0 ≤ getD ys c 0 = λ c h. most (suc c) (omega arith) in
+    let others : AtMost (length xs) xs ys = λ c h. most (suc c) (omega arith) in
     let below : total xs ≤ total ys = total-le xs ys (omega arith) others in
     let first : a ≡ b = omega arith in
     rw (first, same-total xs ys (omega arith) others (omega arith))
@@ -96,12 +96,12 @@ module _ (w i t m n : ℕ) (m-below : m < D w i t) (n-below : n < D w i t) where
   codeword-injective same = sym (rank-codeword w i t m m-below) ∙ ap (rank w t) same ∙ rank-codeword w i t n n-below
 
   -- Claim 1: a codeword is at most another at each place only where the two are one
-  pub incomparable : (m ≡ n) ↔ ((c : ℕ) → c < i → getD (codeword w i t m) c 0 ≤ getD (codeword w i t n) c 0)
+  pub incomparable : (m ≡ n) ↔ AtMost i (codeword w i t m) (codeword w i t n)
   incomparable =
       let is-m = codeword-valid w i t m m-below in
       let is-n = codeword-valid w i t n n-below in
-      let one : ((c : ℕ) → c < i → getD (codeword w i t m) c 0 ≤ getD (codeword w i t n) c 0) → codeword w i t m ≡ codeword w i t n =
-      λ most. same-total (codeword w i t m) (codeword w i t n) (omega arith) (λ c h. most c (omega (arith, is-m .chains))) (omega arith) in
+      let one : AtMost i (codeword w i t m) (codeword w i t n) → codeword w i t m ≡ codeword w i t n =
+      λ most. same-total (codeword w i t m) (codeword w i t n) (omega arith) (λ c h. most c (omega (arith, is-m .lengths .chains))) (omega arith) in
       (λ same. rw same (λ c h. le-refl _), λ most. codeword-injective (one most))
 
   before-number : Before (codeword w i t m) (codeword w i t n) → m < n
@@ -112,7 +112,7 @@ module _ (w i t m n : ℕ) (m-below : m < D w i t) (n-below : n < D w i t) where
 -- the numbers' order is that of the codewords
 pub order : (w i t m n : ℕ) → m < D w i t → n < D w i t → (m < n) ↔ Before (codeword w i t m) (codeword w i t n)
 order w i t m n m-below n-below =
-    let long = codeword-valid w i t m m-below .chains ∙ sym (codeword-valid w i t n n-below .chains) in
+    let long = codeword-valid w i t m m-below .lengths .chains ∙ sym (codeword-valid w i t n n-below .lengths .chains) in
     (λ less. by less (compared (codeword w i t m) (codeword w i t n) long), before-number w i t m n m-below n-below)
   where
     by : m < n → Compared (codeword w i t m) (codeword w i t n) → Before (codeword w i t m) (codeword w i t n)

@@ -200,16 +200,15 @@ module _ (p : Shape) (row : List ℕ) where
       let summed = none-here (not (eqb (total row) (p .sum))) 10 [] refl (above .1) in
       let chains : length row ≡ p .chains = eqb-true (length row) (p .chains) (not-false _ (long .0)) in
       record {
-        chains = chains;
-        digits = λ c h. none-above (p .width) row (above .0) c (omega arith);
+        lengths = record { chains = chains; digits = λ c h. none-above (p .width) row (above .0) c (omega arith) };
         sum = eqb-true (total row) (p .sum) (not-false _ (summed .0));
       }
 
   -- a codeword meets none of them
   pub codeword-passes : IsCodeword (p .width) (p .chains) (p .sum) row → firstCause (rowCauses p row) ≡ 0
   codeword-passes h =
-      let below = all-below (p .width) row (λ c l. h .digits c (rw (h .chains) at l)) in
-      rw (eq-eqb (length row) (p .chains) (h .chains), below, eq-eqb (total row) (p .sum) (h .sum))
+      let below = all-below (p .width) row (λ c l. h .lengths .digits c (rw (h .lengths .chains) at l)) in
+      rw (eq-eqb (length row) (p .chains) (h .lengths .chains), below, eq-eqb (total row) (p .sum) (h .sum))
 
 -- what Gather answers: the causes of Count, then those of the row, and the table past both
 module _ (p : Shape) (row work : List ℕ) {n m : ℕ} (counted : n ≡ firstCause (countCauses p (length work))) (e : m ≡ thenFirst n (rowCauses p row)) where

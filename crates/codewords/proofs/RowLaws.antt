@@ -18,7 +18,7 @@ module _ (p : Shape) (n : ℕ) (below : n < count p) where
 
   module _ (more : List ℕ) where
     pub row-at : (c : ℕ) → c < p .chains → getD (rowOf p n ++ more) c 0 ≡ getD (rowOf p n) c 0
-    row-at c h = List·getD-append (rowOf p n) more 0 c (omega (arith, row-valid .chains))
+    row-at c h = List·getD-append (rowOf p n) more 0 c (omega (arith, row-valid .lengths .chains))
 
     pub row-front : take (p .chains) (rowOf p n ++ more) ≡ rowOf p n
-    row-front = take-at (rowOf p n) more (p .chains) (row-valid .chains)
+    row-front = take-at (rowOf p n) more (p .chains) (row-valid .lengths .chains)

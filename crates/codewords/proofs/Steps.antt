@@ -28,4 +28,4 @@ steps-total w l s (a ∷ row) is =
     omega (arith, part .below, steps-total w (length row) (s - a) row (part .rest), suc-mul (length row) (w - 1))
 
 pub steps-codeword : (w l s : ℕ) (row : List ℕ) → IsCodeword w l s row → stepsLeft w row ≡ l * (w - 1) - s
-steps-codeword w l s row is = let all = rw (is .chains) at (steps-total w l s row is) in omega (arith, is .sum)
+steps-codeword w l s row is = let all = rw (is .lengths .chains) at (steps-total w l s row is) in omega (arith, is .sum)

@@ -3,7 +3,7 @@ use mathlib.Core.Path.{_≡_}
 use mathlib.Core.Bool.{cond}
 use mathlib.Core.Logic.{_⊎_}
 use mathlib.Core.List.{List, [], _∷_}
-use Prim.Native.Nat.{ℕ, zero, suc, _+_, _-_, _<_}
+use Prim.Native.Nat.{ℕ, zero, suc, _+_, _-_, _<_, _≤_}
 use lib.Dec.{ltb}
 use lib.ListN.{length, getD}
 use Rattle.counts.specs.Counts.{sumTo, share, D}
@@ -35,11 +35,19 @@ unfoldable pub total : List ℕ → ℕ
 total [] = 0
 total (a ∷ row) = a + total row
 
--- "Every row of l lengths from 0 to w − 1 with sum s"
-pub record IsCodeword (w l s : ℕ) (row : List ℕ) : Type 0 where
+-- "l lengths from 0 to w − 1"
+pub record IsRow (w l : ℕ) (row : List ℕ) : Type 0 where
   pub chains : length row ≡ l
   pub digits : (c : ℕ) → c < l → getD row c 0 < w
+
+-- "Every row of l lengths from 0 to w − 1 with sum s"
+pub record IsCodeword (w l s : ℕ) (row : List ℕ) : Type 0 where
+  pub lengths : IsRow w l row
   pub sum : total row ≡ s
+
+-- "no chain in the first one's signature stands higher than the same chain in the second's", and document 02, point 13: "at most another at each place"
+abbrev pub AtMost : (l : ℕ) (xs ys : List ℕ) → Type 0
+AtMost l xs ys = (c : ℕ) → c < l → getD xs c 0 ≤ getD ys c 0
 
 -- "in dictionary order, first length most significant"
 abbrev pub Before : List ℕ → List ℕ → Type 0

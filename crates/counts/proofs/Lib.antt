@@ -3,4 +3,5 @@ pub mod Answer
 pub mod CountLaws
 pub mod NextCell
 pub mod Room
+pub mod RowByRow
 pub mod TableLaws

@@ -34,7 +34,7 @@ least-word (w ∷ ws) h = omega arith
 -- a number below the count has a row of l lengths
 row-long : (p : Shape) (n : ℕ) → n < count p → length (rowOf p n) ≡ p .chains
 unfolding count
-row-long p n h = codeword-valid (p .width) (p .chains) (p .sum) n h .chains
+row-long p n h = codeword-valid (p .width) (p .chains) (p .sum) n h .lengths .chains
 
 bytes-long : (p : Shape) (n : ℕ) → n < count p → length (17 ∷ toBytes 2 n ++ rowOf p n) ≡ p .chains + 3
 bytes-long p n h = omega (arith, length-append (toBytes 2 n) (rowOf p n), length-toBytes 2 n, row-long p n h)

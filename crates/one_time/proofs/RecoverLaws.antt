@@ -28,4 +28,4 @@ module _ (d : Domain) (p : Profile) (secret : List ℕ) (leaf n : ℕ) where
   unfolding recoveredBy revealedBy
   recovers-revealed below =
       recovered-revealed d secret leaf (p .shape .width) (p .shape .chains) (rowOf (p .shape) n)
-      (λ c h. omega (arith, row-valid (p .shape) n below .digits c h))
+      (λ c h. omega (arith, row-valid (p .shape) n below .lengths .digits c h))

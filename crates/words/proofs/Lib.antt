@@ -1,6 +1,7 @@
 -- What the crate proves for others to cite: laws of numbers in bytes, of numbers in words, of lists and of values joined, and the steps of arithmetic on words.
 pub mod ByteLaws
 pub mod Comparison
+pub mod DistinctLaws
 pub mod Fill
 pub mod FirstBits
 pub mod Joins

@@ -1,5 +1,6 @@
 -- What numbers written in bytes and in words mean, their order, the powers of two in them, and values joined.
 pub mod Bytes
+pub mod Distinct
 pub mod Joined
 pub mod Limbs
 pub mod Number

@@ -55,8 +55,8 @@ number-of-requires c κs =
     let h = count-passed (a .p) _ (none g .0) .0 in
     let is = row-codeword (a .p) (now (a .row)) (none g .1) in
     let table = rw (ap outcomeCode (g .enum-told2 .given .1)) at (filled g .fill-past .ensures .table) in (
-      (omega (arith, h .wide), h .narrow, omega (arith, h .few-chains, is .chains), sum-small (a .p) h),
-      (rw (is .chains) is, rw (is .chains) (table-held (a .p) (now (a .table)) table)),
+      (omega (arith, h .wide), h .narrow, omega (arith, h .few-chains, is .lengths .chains), sum-small (a .p) h),
+      (rw (is .lengths .chains) is, rw (is .lengths .chains) (table-held (a .p) (now (a .table)) table)),
     )
 
 returns-2 : tie.Need-returns-2
