@@ -1,5 +1,5 @@
-"""Holds to a search what the scope document says in point 13 of profiles whose s is the whole part
-of l (w - 1) / 2: no list of distinct rows of l lengths from 0 to w - 1, in which no row is at most
+"""Holds to a search what document 02 says in point 13 of profiles whose s is the whole part of
+l (w - 1) / 2: no list of distinct rows of l lengths from 0 to w - 1, in which no row is at most
 another at each place, has more members than the count. For the gate profile the count is at least
 2^128, so an order's number has 128 bits there and 19 never occurs.
 
