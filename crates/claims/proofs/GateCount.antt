@@ -1,5 +1,5 @@
 -- The gate profile's count, its bits, and that 19 never comes there.
-use mathlib.Core.Path.{_≡_}
+use mathlib.Core.Path.{_≡_, refl}
 use Prim.Native.Nat.{_^_, _≤_, _<_}
 use native.Mathlib.Nat.{le-refl, le-trans, le-antisymm, lt-irrefl, lt-of-lt-of-le}
 use lib.Dec.{lit≤}
@@ -23,9 +23,10 @@ not-small p e small = lt-irrefl _ (lt-of-lt-of-le (rw e at small) (le-trans (lit
 pub gate-counted : GateCount
 gate-counted =
     record {
+      middle = refl;
       counted = counted;
       large = large;
       bits = le-antisymm (bits-few (count (gate .shape))) (bits-largest (count (gate .shape)) 128 (le-refl _) large);
-      sign-nineteen = λ key r message work out e nineteen. not-small (key .profile) e (small-counts .sign-nineteen key r message work out .0 nineteen .1);
-      verify-nineteen = λ v message signature work e nineteen. not-small (v .profile) e (small-counts .verify-nineteen v message signature work .0 nineteen .1);
+      sign-never-nineteen = λ key r message work out e nineteen. not-small (key .profile) e (small-counts .sign-nineteen key r message work out .0 nineteen .1);
+      verify-never-nineteen = λ v message signature work e nineteen. not-small (v .profile) e (small-counts .verify-nineteen v message signature work .0 nineteen .1);
     }

@@ -40,7 +40,7 @@ module _ (p : Shape) (rows : List (List ℕ)) (half : p .sum ≡ p .chains * (p 
   unfolding count number
   number-below i h = rank-lt w l s _ (middle-codeword w l s half (getD rows i []) (code .lengths i h))
 
-  -- two rows with the same number are on one chain
+  -- no two rows have the same number: they would be on one chain, and one of them at most the other
   number-apart : (i j : ℕ) → i < j → j < length rows → number (getD rows i []) ≡ number (getD rows j []) → ⊥
   unfolding number
   number-apart i j less h-j same =
@@ -56,8 +56,7 @@ module _ (p : Shape) (rows : List (List ℕ)) (half : p .sum ≡ p .chains * (p 
   bound : length rows ≤ count p
   bound =
       let long = length-map rows number in
-      let differ = distinct-map number [] rows apart (λ i j less h same. absurd (number-apart i j less h same)) in
-      rw long at (pigeonhole (count p) (number []) (map number rows) differ (λ i h. rw (List·getD-map number rows i []) (number-below i (rw long at h))))
+      rw long at (pigeonhole (count p) (number []) (map number rows) (distinct-map number [] rows number-apart) (λ i h. rw (List·getD-map number rows i []) (number-below i (rw long at h))))
 
 length-rows : (p : Shape) (n : ℕ) → length (rowsBelow p n) ≡ n
 unfolding rowsBelow

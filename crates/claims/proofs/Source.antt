@@ -1,10 +1,10 @@
 -- A source of leaves: calls that hand a state on and may issue something with a leaf. Where each call's leaves are above those issued before, no leaf comes twice.
-use mathlib.Core.Path.{_≡_}
 use mathlib.Core.List.{List, [], _∷_, _++_, map}
 use Prim.Native.Nat.{ℕ, zero, suc, _+_, _<_, _≤_}
 use native.Mathlib.Nat.{le-refl, le-of-suc-le-suc}
 use native.Mathlib.Omega.{arith}
 use lib.ListN.{length, getD}
+use Rattle.words.specs.Distinct.{Distinct}
 use Rattle.claims.specs.Orders.{issuedAlong}
 
 module _ {Item : Type 0} (leafOf : Item → ℕ) (Good : Item → Type 0) where
@@ -26,8 +26,7 @@ module _ {Item : Type 0} (leafOf : Item → ℕ) (Good : Item → Type 0) where
   rises-least n m (x ∷ xs) r zero h = r .0
   rises-least n m (x ∷ xs) r (suc i) h = omega (arith, r .0, rises-least (leafOf x + 1) m xs (r .2) i (le-of-suc-le-suc h))
 
-  pub none-twice : (n m : ℕ) (xs : List Item) → Rises n xs m → (i j : ℕ) → i < j → j < length (map leafOf xs)
-      → getD (map leafOf xs) i 0 ≡ getD (map leafOf xs) j 0 → ⊥
+  pub none-twice : (n m : ℕ) (xs : List Item) → Rises n xs m → Distinct 0 (map leafOf xs)
   none-twice n m [] r i j less within same = omega arith
   none-twice n m (x ∷ xs) r zero zero less within same = omega arith
   none-twice n m (x ∷ xs) r zero (suc j) less within same = omega (arith, rises-least (leafOf x + 1) m xs (r .2) j (le-of-suc-le-suc within))

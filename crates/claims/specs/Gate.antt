@@ -1,7 +1,7 @@
 -- The gate profile, its figures in the price list, and its count.
 use mathlib.Core.Path.{_≡_}
 use mathlib.Core.List.{List}
-use Prim.Native.Nat.{ℕ, _^_, _≤_, _<_}
+use Prim.Native.Nat.{ℕ, _-_, _*_, _/_, _^_, _≤_, _<_}
 use Rattle.profile.specs.declared.Profile.{Profile}
 use Rattle.counts.specs.Counts.{count}
 use Rattle.one_time.specs.Operations.{stepsOf}
@@ -22,9 +22,11 @@ pub record GateFigures : Type 0 where
 
 -- document 02, point 13: "For the gate profile the count is at least 2^128, so b is 128 and 19 never occurs there"
 pub record GateCount : Type 0 where
+  -- its s is the whole part of l × (w − 1) / 2
+  pub middle : gate .shape .sum ≡ gate .shape .chains * (gate .shape .width - 1) / 2
   pub counted : count (gate .shape) ≡ 1287155674008337910149577743336952677632
   pub large : 2 ^ 128 ≤ count (gate .shape)
   pub bits : numberBits (count (gate .shape)) ≡ 128
   -- of Issue and Check, whatever else they are handed
-  pub sign-nineteen : (key : SigningKey) (r message work out : List ℕ) → key .profile ≡ gate → signCode key r message work out ≡ 19 → ⊥
-  pub verify-nineteen : (v : Verifier) (message signature work : List ℕ) → v .profile ≡ gate → verifyCode v message signature work ≡ 19 → ⊥
+  pub sign-never-nineteen : (key : SigningKey) (r message work out : List ℕ) → key .profile ≡ gate → signCode key r message work out ≡ 19 → ⊥
+  pub verify-never-nineteen : (v : Verifier) (message signature work : List ℕ) → v .profile ≡ gate → verifyCode v message signature work ≡ 19 → ⊥

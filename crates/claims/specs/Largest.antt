@@ -25,5 +25,5 @@ rowsBelow p (suc n) = rowsBelow p n ++ (rowOf p n ∷ [])
 pub record LargestCode : Type 0 where
   -- "For s the whole part of l × (w − 1) / 2, every list … has at most count members": for every l and w, also outside the limits
   pub bound : (p : Shape) (rows : List (List ℕ)) → p .sum ≡ p .chains * (p .width - 1) / 2 → Antichain (p .width) (p .chains) rows → length rows ≤ count p
-  -- the rows of a shape, whatever its sum, are such a list with count members: so the bound is reached
+  -- the rows of a shape, whatever its sum, are such a list with count members: those of the sum above reach the bound
   pub reached : (p : Shape) → Antichain (p .width) (p .chains) (rowsBelow p (count p)) × (length (rowsBelow p (count p)) ≡ count p)

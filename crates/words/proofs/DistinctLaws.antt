@@ -44,10 +44,6 @@ numbers-below (suc n) (suc k) f below apart = suc-le-suc (numbers-below n k g g-
 pub pigeonhole : (n d : ℕ) (l : List ℕ) → Distinct d l → ((i : ℕ) → i < length l → getD l i d < n) → length l ≤ n
 pigeonhole n d l apart below = numbers-below n (length l) (λ i. getD l i d) below apart
 
--- the image of a list without repetition is one too, under a function that takes no two of its members to the same
-pub distinct-map : {A B : Type 0} (f : A → B) (d : A) (l : List A) → Distinct d l
-    → ((i j : ℕ) → i < j → j < length l → f (getD l i d) ≡ f (getD l j d) → getD l i d ≡ getD l j d)
-    → Distinct (f d) (map f l)
-distinct-map f d l apart injective i j less h same =
-    let within : j < length l = rw (length-map l f) at h in
-    apart i j less within (injective i j less within (sym (List·getD-map f l i d) ∙ same ∙ List·getD-map f l j d))
+-- a list's image has no repetition, where the function takes no two of its places to the same
+pub distinct-map : {A B : Type 0} (f : A → B) (d : A) (l : List A) → ((i j : ℕ) → i < j → j < length l → f (getD l i d) ≡ f (getD l j d) → ⊥) → Distinct (f d) (map f l)
+distinct-map f d l injective i j less h same = injective i j less (rw (length-map l f) at h) (sym (List·getD-map f l i d) ∙ same ∙ List·getD-map f l j d)

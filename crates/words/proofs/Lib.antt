@@ -1,4 +1,4 @@
--- What the crate proves for others to cite: laws of numbers in bytes, of numbers in words, of lists and of values joined, and the steps of arithmetic on words.
+-- What the crate proves for others to cite: laws of numbers in bytes, of numbers in words, of lists, also those without repetition, and of values joined, and the steps of arithmetic on words.
 pub mod ByteLaws
 pub mod Comparison
 pub mod DistinctLaws

@@ -1,4 +1,4 @@
--- What numbers written in bytes and in words mean, their order, the powers of two in them, and values joined.
+-- What numbers written in bytes and in words mean, their order, the powers of two in them, values joined, and lists without repetition.
 pub mod Bytes
 pub mod Distinct
 pub mod Joined
