@@ -3,7 +3,7 @@ use mathlib.Core.Path.{_≡_, refl, sym, ap, _∙_}
 use mathlib.Core.Logic.{⊎-elim}
 use mathlib.Core.List.{List, [], _∷_, map}
 use Prim.Native.Nat.{ℕ, zero, suc, _-_, _*_, _/_, _≤_, _<_}
-use native.Mathlib.Nat.{eq-or-lt-of-le, le-of-suc-le-suc, lt-trans}
+use native.Mathlib.Nat.{eq-or-lt-of-le, le-of-suc-le-suc, le-refl, lt-trans}
 use native.Mathlib.Omega.{arith}
 use lib.ListN.{length, getD, length-append, length-map, List·getD-map, List·getD-append}
 use lib.Seq.{getD-at}
@@ -11,10 +11,10 @@ use Rattle.words.specs.Distinct.{Distinct}
 use Rattle.words.proofs.DistinctLaws.{pigeonhole, distinct-map}
 use Rattle.profile.specs.declared.Shape.{Shape}
 use Rattle.counts.specs.Counts.{count}
-use Rattle.codewords.specs.Codeword.{rank}
+use Rattle.codewords.specs.Codeword.{rank, AtMost}
 use Rattle.codewords.specs.Operations.{rowOf}
 use Rattle.codewords.proofs.CodewordLaws.{rank-lt}
-use Rattle.codewords.proofs.OrderLaws.{rank-injective, codeword-injective, incomparable}
+use Rattle.codewords.proofs.OrderLaws.{rank-injective, incomparable}
 use Rattle.codewords.proofs.RowLaws.{row-valid}
 use Rattle.claims.specs.Largest.{Antichain, rowsBelow, LargestCode}
 use Rattle.claims.proofs.SymmetricChains.{middle, middle-codeword, same-middle}
@@ -83,19 +83,16 @@ module _ (p : Shape) where
   there : (i : ℕ) → i < length all → getD all i [] ≡ rowOf p i
   there i h = row-there p (count p) i (below i h)
 
-  one-number : (i j : ℕ) (h-i : i < length all) (h-j : j < length all) → getD all i [] ≡ getD all j [] → i ≡ j
+  one-place : (i j : ℕ) → i < length all → j < length all → AtMost (p .chains) (getD all i []) (getD all j []) → i ≡ j
   unfolding count
-  one-number i j h-i h-j same = codeword-injective (p .width) (p .chains) (p .sum) i j (below i h-i) (below j h-j) (sym (there i h-i) ∙ same ∙ there j h-j)
+  one-place i j h-i h-j most = incomparable (p .width) (p .chains) (p .sum) i j (below i h-i) (below j h-j) .1 (rw (there i h-i, there j h-j) at most)
 
   rows-code : Antichain (p .width) (p .chains) all
-  unfolding count
   rows-code =
       record {
         lengths = λ i h. rw (there i h) (row-valid p i (below i h) .lengths);
-        distinct = λ i j less h same. absurd (omega (arith, one-number i j (lt-trans less h) h same));
-        incomparable = λ i j h-i h-j other most.
-            let same = incomparable (p .width) (p .chains) (p .sum) i j (below i h-i) (below j h-j) .1 (rw (there i h-i, there j h-j) at most) in
-            other (ap (λ n. getD all n []) same);
+        distinct = λ i j less h same. absurd (omega (arith, one-place i j (lt-trans less h) h (rw same (λ c within. le-refl _))));
+        incomparable = λ i j h-i h-j other most. other (ap (λ n. getD all n []) (one-place i j h-i h-j most));
       }
 
 pub largest-code : LargestCode
