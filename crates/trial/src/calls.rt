@@ -13,6 +13,7 @@ use super::output::number_is;
 use super::output::outcome_is;
 use signer::SigningKey;
 use verifier::Verifier;
+use window::Window;
 
 pub fn call(operation: u32, table: &mut [u32], bytes: &mut [u8], text: &mut [u8]) {
     match operation {
@@ -129,7 +130,10 @@ fn check(table: &mut [u32], text: &[u8], signature: &[u8]) {
         profile: profile(),
         seed: value(),
         root: value(),
-        lowest: word(),
+        window: Window {
+            highest: word(),
+            marks: word(),
+        },
     };
     let after = check_by(cabinet, table, text, signature);
     check_by(after, table, text, signature);
@@ -140,7 +144,9 @@ fn check_by(v: Verifier, table: &mut [u32], text: &[u8], signature: &[u8]) -> Ve
     let outcome = a.outcome;
     let after = a.verifier;
     outcome_is(outcome);
-    decimal(b", lowest ", after.lowest);
+    let kept = after.window;
+    decimal(b", highest ", kept.highest);
+    decimal(b", marks ", kept.marks);
     decimal(b", steps ", a.steps);
     after
 }

@@ -2,13 +2,11 @@
 use mathlib.Core.Path.{_≡_, refl, _∙_, ap, sym}
 use mathlib.Core.Bool.{Bool, true, false, not, cond}
 use mathlib.Core.List.{List, [], _∷_, _++_, append-assoc}
-use Prim.Native.Nat.{ℕ, _^_, _<_, _≤_}
-use native.Mathlib.Nat.{lt-of-lt-of-le}
+use Prim.Native.Nat.{ℕ, _<_, _≤_}
 use native.Mathlib.Omega.{arith}
 use borrow.Author.Tests.{eqb-true, not-false}
 use lib.Dec.{eqb}
 use lib.ListN.{length, take}
-use lib.Pow.{pow-mono}
 use Rattle.refusal.specs.Code.{outcomeCode, firstCause, thenFirst}
 use Rattle.refusal.specs.declared.Refusal.{Refusal}
 use Rattle.refusal.specs.declared.Refusal.the-variants.{RootDiffers, CountTooSmall}
@@ -17,7 +15,6 @@ use Rattle.refusal.specs.declared.Outcome.the-variants.{Granted, Refused}
 use Rattle.refusal.proofs.Causes.{Avoids, none-here, refused-number, code-kept}
 use Rattle.profile.specs.Checks.{InLimits, leafBeyond}
 use Rattle.profile.specs.declared.Shape.{Shape}
-use Rattle.profile.proofs.Limits.{leaf-within}
 use Rattle.counts.specs.Counts.{count}
 use Rattle.counts.specs.Table.{withTable, tableCauses, leavesTable, tableAfter}
 use Rattle.counts.proofs.Room.{TablePassed, table-early, table-passed}
@@ -32,17 +29,18 @@ use Rattle.tree.specs.Tree.{climbed}
 use Rattle.message.specs.Message.{countTooSmall, outsideText, signatureLength}
 use Rattle.message.proofs.Fits.{short-text}
 use Rattle.message.proofs.NumberLaws.{number-fits}
-use Rattle.verifier.specs.Verifying.{passed, taken, leafIn, randomIn, valuesIn, siblingsIn, numberIn, recoveredRoot, rootIn, same, orderCauses, causesBeforeRoot, verifyCode, verifierAfter, stepsMade, Verifies}
+use Rattle.window.specs.Window.{passed}
+use Rattle.verifier.specs.Verifying.{taken, leafIn, randomIn, valuesIn, siblingsIn, numberIn, recoveredRoot, rootIn, same, orderCauses, causesBeforeRoot, verifyCode, verifierAfter, stepsMade, Verifies}
 use Rattle.verifier.specs.declared.Verifier.{Verifier}
 
--- past the causes before 19: everything is within its limits, the signature has its length, and the leaf that it names is small
+-- past the causes before 19: everything is within its limits, the signature has its length, and the leaf that it names is not passed
 pub record VerifyFits (v : Verifier) (text : ℕ) (signature : List ℕ) : Type 0 where
   pub limits : InLimits (v .profile .shape)
   pub low : v .profile .height ≤ 10
   pub short : text ≤ 200
   pub long : length signature ≡ signatureLength (v .profile)
   pub front : 20 ≤ length signature
-  pub small : leafIn signature < 2 ^ 10
+  pub free : passed (v .window) (leafIn signature) ≡ false
 
 -- what the comparison of the roots decides: 15 or granted
 pub record Judged (v : Verifier) (message signature work left : List ℕ) (b : Bool) (leaf steps : ℕ) : Type 0 where
@@ -93,7 +91,7 @@ module _ (v : Verifier) (message signature work : List ℕ) {n m : ℕ} (checked
   verify-fits q =
       let none = none-before first own early between before q in
       let within = table-passed (v .profile) (length work) (none .0) in
-      let last : List (Bool × ℕ) = (passed v (leafIn signature), 14) ∷ [] in
+      let last : List (Bool × ℕ) = (passed (v .window) (leafIn signature), 14) ∷ [] in
       let beyond = leafBeyond (v .profile .height) (leafIn signature) in
       let exact = eqb (length signature) (signatureLength (v .profile)) in
       let text = none-here (outsideText (length message)) 16 ((not exact, 13) ∷ (beyond, 11) ∷ last) refl (none .1) in
@@ -106,7 +104,7 @@ module _ (v : Verifier) (message signature work : List ℕ) {n m : ℕ} (checked
         short = short-text (length message) (text .0);
         long = exactly;
         front = omega (arith, exactly);
-        small = lt-of-lt-of-le (leaf-within (v .profile .height) (leafIn signature) (leaf .0)) (pow-mono {j = 10} (within .low));
+        free = none-here (passed (v .window) (leafIn signature)) 14 [] refl (leaf .1) .0;
       }
 
   -- the causes behind the table

@@ -1,9 +1,9 @@
--- Document 01, "Check", with document 02, point 3: how a signature is read and judged, and what the cabinet is afterwards.
+-- Document 01, "Check", with document 02, points 3 and 4: how a signature is read and judged, and what the cabinet is afterwards.
 use mathlib.Core.Path.{_≡_}
 use mathlib.Core.Bool.{Bool, true, false, not, _&&_, _||_, cond}
 use mathlib.Core.List.{List, [], _∷_, _++_}
 use Prim.Native.Nat.{ℕ, _+_, _*_}
-use lib.Dec.{ltb, eqb}
+use lib.Dec.{eqb}
 use lib.ListN.{length, take, drop}
 use Rattle.refusal.specs.Code.{outcomeCode, firstCause}
 use Rattle.words.specs.Bytes.{fromBytes}
@@ -16,20 +16,17 @@ use Rattle.tweak.specs.declared.Domain.{Domain}
 use Rattle.one_time.specs.Operations.{recoveredBy, stepsOf}
 use Rattle.tree.specs.Tree.{climbed}
 use Rattle.message.specs.Message.{messageNumber, countTooSmall, outsideText, signatureLength}
+use Rattle.window.specs.Window.{freshWindow, passed, taken as takenBy}
 use Rattle.verifier.specs.declared.Verifier.{Verifier}
 use Rattle.verifier.specs.declared.Verdict.{Verdict}
 
--- "Fresh means 0 in that field": the lowest leaf that the cabinet will still take
+-- document 02, point 4: "Fresh now means no mark set, with highest 0"
 abbrev pub freshVerifier : Profile → (seed root : List ℕ) → Verifier
-freshVerifier p seed root = record { profile = p; seed = seed; root = root; lowest = 0 }
+freshVerifier p seed root = record { profile = p; seed = seed; root = root; window = freshWindow }
 
--- "14 leaf below the lowest still taken"
-unfoldable pub passed : Verifier → (leaf : ℕ) → Bool
-passed v leaf = ltb leaf (v .lowest)
-
--- "Success sets the lowest to leaf + 1"
+-- the cabinet that has accepted a leaf: its window has taken it
 unfoldable pub taken : Verifier → (leaf : ℕ) → Verifier
-taken v leaf = record { profile = v .profile; seed = v .seed; root = v .root; lowest = leaf + 1 }
+taken v leaf = record { profile = v .profile; seed = v .seed; root = v .root; window = takenBy (v .window) leaf }
 
 -- "Signature: leaf (4 bytes, most significant first), R, l values, h siblings from the bottom"
 unfoldable pub leafIn : (signature : List ℕ) → ℕ
@@ -66,11 +63,11 @@ same [] (y ∷ ys) = false
 same (x ∷ xs) [] = false
 same (x ∷ xs) (y ∷ ys) = eqb x y && same xs ys
 
--- "16; 13 signature not 20 + 16 × l + 16 × h bytes; 11; 14 leaf below the lowest still taken"
+-- "16; 13 signature not 20 + 16 × l + 16 × h bytes; 11; 14 …", where 14 now means that the cabinet's window passes the leaf
 abbrev pub orderCauses : Verifier → (text : ℕ) (signature : List ℕ) → List (Bool × ℕ)
 orderCauses v text signature =
     (outsideText text, 16) ∷ (not (eqb (length signature) (signatureLength (v .profile))), 13)
-    ∷ (leafBeyond (v .profile .height) (leafIn signature), 11) ∷ (passed v (leafIn signature), 14) ∷ []
+    ∷ (leafBeyond (v .profile .height) (leafIn signature), 11) ∷ (passed (v .window) (leafIn signature), 14) ∷ []
 
 -- "Check: profile checks, 5, 16; 13 …; 11; 14 …; 7; …", with 19 "in 7's place"
 unfoldable pub causesBeforeRoot : Verifier → (message signature work : List ℕ) → List (Bool × ℕ)

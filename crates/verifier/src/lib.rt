@@ -1,5 +1,6 @@
 // The checking cabinet: Check.
 ghost use mathlib.Core.Path.{_≡_};
+ghost use mathlib.Core.Bool.{false};
 ghost use Prim.Native.Nat.{_+_, _^_, _≤_, _<_};
 ghost use lib.ListN.{length, take};
 ghost use Rattle.refusal.specs.Code.{outcomeCode, thenFirst};
@@ -11,6 +12,7 @@ ghost use Rattle.tweak.specs.Tweak.{firstDomain};
 ghost use Rattle.chains.specs.Leaves.{recovered};
 ghost use Rattle.tree.specs.Tree.{climbed};
 ghost use Rattle.message.specs.Message.{signatureLength};
+ghost use Rattle.window.specs.Window as window;
 ghost use Rattle.verifier.specs.Verifying as spec;
 use chains::leaves::recover_key;
 use codewords::unranking::write_codeword;
@@ -28,15 +30,18 @@ use refusal::then;
 use tree::climb_path;
 use tweak::Leaf;
 use tweak::first_hasher;
+use window::Window;
+use window::passed;
+use window::take;
 use words::bytes::front_word;
 use words::bytes::read_16;
 
-// A cabinet (document 01): its profile, the public seed, the root, and the lowest leaf that it will still take.
+// A cabinet (document 01): its profile, the public seed, the root, and the window over the leaves that it has accepted.
 pub struct Verifier {
     pub profile: Profile,
     pub seed: [u8; 16],
     pub root: [u8; 16],
-    pub lowest: u32,
+    pub window: Window,
 }
 
 // What Check answers, with the cabinet that it hands back and the chain steps made.
@@ -46,26 +51,21 @@ pub struct Verdict {
     pub steps: u32,
 }
 
-// Whether a leaf is below the lowest that the cabinet will still take.
-fn passed(v: Verifier, leaf: u32) -> bool
-    ensures { λ r. ⌜ r ≡ spec.passed v leaf ⌝ }
-{
-    leaf < v.lowest
-}
-
-// The cabinet that has taken a leaf.
+// The cabinet that has accepted a leaf which its window does not pass.
 fn take_leaf(v: Verifier, leaf: u32) -> Verifier
-    requires { ⌜ leaf + 1 < 2 ^ 32 ⌝ }
+    requires { ⌜ window.passed (v .window) leaf ≡ false ⌝ }
     ensures { λ r. ⌜ r ≡ spec.taken v leaf ⌝ }
 {
     let profile = v.profile;
     let seed = v.seed;
     let root = v.root;
+    let before = v.window;
+    let after = take(before, leaf);
     Verifier {
         profile: profile,
         seed: seed,
         root: root,
-        lowest: leaf + 1,
+        window: after,
     }
 }
 
@@ -114,7 +114,8 @@ fn verify_outcome(checked: Outcome, v: Verifier, text: usize, signature: &[u8]) 
     let outside = outside_text(text);
     let other = signature.len() != signature_length(p);
     let beyond = leaf_beyond(height, leaf);
-    let low = passed(v, leaf);
+    let kept = v.window;
+    let low = passed(kept, leaf);
     let worded = then(checked, outside, Refusal::MessageLength);
     let whole = then(worded, other, Refusal::SignatureLength);
     let inside = then(whole, beyond, Refusal::LeafOutOfRange);

@@ -49,12 +49,14 @@ unfolding advanced
 only-next key after true e = subst (λ (k : SigningKey). k ≡ signingKeyOf (key .profile) (key .seed) (key .secret) (k .next)) (sym e) refl
 only-next key after false e = subst (λ (k : SigningKey). k ≡ signingKeyOf (key .profile) (key .seed) (key .secret) (k .next)) (sym e) refl
 
--- of the cabinet that comes back only the lowest leaf can differ
-only-lowest : (v after : Verifier) (leaf : ℕ) (granted : Bool) → after ≡ cond granted (taken v leaf) v
-    → after ≡ verifierOf (v .profile) (v .seed) (v .root) (after .lowest)
+-- of the cabinet that comes back only the highest leaf and the marks can differ
+only-window : (v after : Verifier) (leaf : ℕ) (granted : Bool) → after ≡ cond granted (taken v leaf) v
+    → after ≡ verifierOf (v .profile) (v .seed) (v .root) (after .window .highest) (after .window .marks)
 unfolding taken
-only-lowest v after leaf true e = subst (λ (x : Verifier). x ≡ verifierOf (v .profile) (v .seed) (v .root) (x .lowest)) (sym e) refl
-only-lowest v after leaf false e = subst (λ (x : Verifier). x ≡ verifierOf (v .profile) (v .seed) (v .root) (x .lowest)) (sym e) refl
+only-window v after leaf true e =
+    subst (λ (x : Verifier). x ≡ verifierOf (v .profile) (v .seed) (v .root) (x .window .highest) (x .window .marks)) (sym e) refl
+only-window v after leaf false e =
+    subst (λ (x : Verifier). x ≡ verifierOf (v .profile) (v .seed) (v .root) (x .window .highest) (x .window .marks)) (sym e) refl
 
 -- of a profile
 module _ {p q : Profile} (e : p ≡ q) {r : ℕ} where
@@ -103,17 +105,18 @@ module _ {p q : Profile} (e : p ≡ q) {r : ℕ} where
         key-kept = only-next key (a .key) (eqb (signCode key random message work out) 0) (h .key′);
       })
 
-  pub verify-call : {seed root : List ℕ} {lowest : ℕ} {message signature work work′ : List ℕ} {a : Verdict}
-      → Verifies (verifierOf p seed root lowest) message signature work work′ a → r ≡ outcomeCode (a .outcome)
-      → VerifyCall (verifierOf q seed root lowest) message signature work work′ (a .verifier .lowest) (a .steps) r
+  pub verify-call : {seed root : List ℕ} {highest marks : ℕ} {message signature work work′ : List ℕ} {a : Verdict}
+      → Verifies (verifierOf p seed root highest marks) message signature work work′ a → r ≡ outcomeCode (a .outcome)
+      → VerifyCall (verifierOf q seed root highest marks) message signature work work′ (a .verifier .window .highest) (a .verifier .window .marks) (a .steps) r
   unfolding verifierAfter
-  verify-call {seed} {root} {lowest} {message} {signature} {work} {work′} {a} h n =
-      let v : Verifier = verifierOf p seed root lowest in
-      subst (λ (s : Profile). VerifyCall (verifierOf s seed root lowest) message signature work work′ (a .verifier .lowest) (a .steps) r) e
+  verify-call {seed} {root} {highest} {marks} {message} {signature} {work} {work′} {a} h n =
+      let v : Verifier = verifierOf p seed root highest marks in
+      let after = a .verifier .window in
+      subst (λ (s : Profile). VerifyCall (verifierOf s seed root highest marks) message signature work work′ (after .highest) (after .marks) (a .steps) r) e
       (record {
         answer = a;
         verifies = h;
         returned = n;
-        verifier-kept = only-lowest v (a .verifier) (leafIn signature) (eqb (verifyCode v message signature work) 0) (h .verifier);
+        verifier-kept = only-window v (a .verifier) (leafIn signature) (eqb (verifyCode v message signature work) 0) (h .verifier);
         steps-written = refl;
       })

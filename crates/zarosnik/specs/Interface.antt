@@ -45,8 +45,8 @@ profileOf l w s h = record { shape = shapeOf l w s; height = h }
 abbrev pub signingKeyOf : Profile → (seed secret : List ℕ) (next : ℕ) → SigningKey
 signingKeyOf p seed secret next = record { profile = p; seed = seed; secret = secret; next = next }
 
-abbrev pub verifierOf : Profile → (seed root : List ℕ) (lowest : ℕ) → Verifier
-verifierOf p seed root lowest = record { profile = p; seed = seed; root = root; lowest = lowest }
+abbrev pub verifierOf : Profile → (seed root : List ℕ) (highest marks : ℕ) → Verifier
+verifierOf p seed root highest marks = record { profile = p; seed = seed; root = root; window = record { highest = highest; marks = marks } }
 
 -- "Hash, as start, add and finish", in one call: add's code on a started hash; granted, the digest, else 32 zero bytes
 pub record HashCall (bytes digest′ : List ℕ) (r : ℕ) : Type 0 where
@@ -116,12 +116,12 @@ pub record SignCall (key : SigningKey) (r message work out work′ out′ : List
   pub returned : code ≡ outcomeCode (answer .outcome)
   pub key-kept : answer .key ≡ signingKeyOf (key .profile) (key .seed) (key .secret) next′
 
--- Check: the lowest leaf is written back, and the rest of the cabinet that comes back is the rest of the cabinet given
-pub record VerifyCall (v : Verifier) (message signature work work′ : List ℕ) (lowest′ steps′ code : ℕ) : Type 0 where
+-- Check: the highest leaf and the marks are written back, and the rest of the cabinet that comes back is the rest of the cabinet given
+pub record VerifyCall (v : Verifier) (message signature work work′ : List ℕ) (highest′ marks′ steps′ code : ℕ) : Type 0 where
   pub answer : Verdict
   pub verifies : Verifies v message signature work work′ answer
   pub returned : code ≡ outcomeCode (answer .outcome)
-  pub verifier-kept : answer .verifier ≡ verifierOf (v .profile) (v .seed) (v .root) lowest′
+  pub verifier-kept : answer .verifier ≡ verifierOf (v .profile) (v .seed) (v .root) highest′ marks′
   pub steps-written : steps′ ≡ answer .steps
 
 -- Read sheet

@@ -1,6 +1,6 @@
 // The C interface: one exported function an operation, which returns the code of the refusal, 0 for granted.
 // Parameters stand in the header's order. Contracts would have to quote `data` and names with an underscore, so `bytes`, `seed`, `secret`,
-// `next`, `lowest` and `written` are the header's `data`, `public_seed`, `secret_seed`, `next_leaf`, `lowest_leaf` and `message_written`.
+// `next`, `highest` and `written` are the header's `data`, `public_seed`, `secret_seed`, `next_leaf`, `highest_leaf` and `message_written`.
 ghost use mathlib.Core.Path.{_≡_};
 ghost use mathlib.Core.Bool.{cond};
 ghost use lib.Dec.{eqb};
@@ -28,6 +28,7 @@ use signer::sign;
 use tree::root;
 use verifier::Verifier;
 use verifier::verify;
+use window::Window;
 use words::number::compare;
 use words::number::order_code;
 
@@ -281,23 +282,29 @@ pub extern "C" fn zarosnik_verify(
     h: u32,
     seed: &[u8; 16],
     root: &[u8; 16],
-    lowest: &mut u32,
+    highest: &mut u32,
+    marks: &mut u32,
     message: &[u8],
     signature: &[u8],
     table: &mut [u32],
     steps: &mut u32,
 ) -> u32
-    ensures { λ code. ⌜ VerifyCall (verifierOf (profileOf l w s h) (now (seed .entry)) (now (root .entry)) (now (lowest .entry))) (now (message .entry)) (now (signature .entry)) (now (table .entry)) (now (table .exit)) (now (lowest .exit)) (now (steps .exit)) code ⌝ }
+    ensures { λ code. ⌜ VerifyCall (verifierOf (profileOf l w s h) (now (seed .entry)) (now (root .entry)) (now (highest .entry)) (now (marks .entry))) (now (message .entry)) (now (signature .entry)) (now (table .entry)) (now (table .exit)) (now (highest .exit)) (now (marks .exit)) (now (steps .exit)) code ⌝ }
 {
     let verifier = Verifier {
         profile: profile(l, w, s, h),
         seed: *seed,
         root: *root,
-        lowest: *lowest,
+        window: Window {
+            highest: *highest,
+            marks: *marks,
+        },
     };
     let verdict = verify(verifier, message, signature, table);
     let after = verdict.verifier;
-    *lowest = after.lowest;
+    let kept = after.window;
+    *highest = kept.highest;
+    *marks = kept.marks;
     *steps = verdict.steps;
     let outcome = verdict.outcome;
     returned(outcome)

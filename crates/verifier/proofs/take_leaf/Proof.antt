@@ -1,4 +1,4 @@
--- `verifier::take_leaf` meets its contract: the cabinet of the definition, whose lowest leaf fits.
+-- `verifier::take_leaf` meets its contract: the cabinet of the definition, whose window has taken the leaf.
 use mathlib.Core.Path.{refl}
 use borrow.Author.Needs.{needs}
 use Rattle.verifier.specs.Verifying.{taken}
@@ -7,7 +7,7 @@ use Rattle.verifier.proofs.take_leaf.Tie as tie
 
 returns : tie.Need-returns
 unfolding taken
-returns c = refl
+returns c = rw (c .take .ensures)
 
 pub take-leaf-spec : {M : Type 1} → statement M
-take-leaf-spec = tie.close (tie.spec (λ c. search needs) returns)
+take-leaf-spec = tie.close (tie.spec (λ c κs. search needs) returns)

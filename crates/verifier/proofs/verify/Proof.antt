@@ -84,7 +84,7 @@ abbrev numbered : tie.After-write-codeword → tie.After-number-in
 numbered w = w .before .before .before
 
 take-leaf-requires : tie.Need-take-leaf-requires
-take-leaf-requires c κs = omega (arith, fits (granted (numbered (c .before .before) .before)) .small, c .leaf-in .ensures)
+take-leaf-requires c κs = rw (c .leaf-in .ensures) (fits (granted (numbered (c .before .before) .before)) .free)
 
 recover-root-requires : tie.Need-recover-root-requires
 recover-root-requires c κs = let known = fits (granted (numbered (c .before .before .before) .before)) in (known .limits, known .low, known .long)

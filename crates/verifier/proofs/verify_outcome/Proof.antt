@@ -8,7 +8,7 @@ use lib.ListN.{length}
 use Rattle.refusal.specs.Code.{outcomeCode}
 use Rattle.refusal.proofs.Causes.{chain-behind, chain-next, chain-ends}
 use Rattle.profile.specs.Checks.{leafBeyond}
-use Rattle.verifier.specs.Verifying.{passed}
+use Rattle.window.specs.Window.{passed}
 use Rattle.verifier.proofs.verify_outcome.Statement.{statement}
 use Rattle.verifier.proofs.verify_outcome.Tie as tie
 
@@ -19,16 +19,17 @@ tests c = c .before .before .before .before
 returns : tie.Need-returns
 returns c =
     let low = tests c in
-    let leafed = low .before .before .before .before in
+    let beyond = low .before .before in
+    let leafed = beyond .before .before .before in
     let a = leafed .before .before .before .args in
     let v = a .v in
     let so-far = outcomeCode (a .checked) in
-    let length-is = ap (λ n. not (eqb (length (now (a .signature))) n)) (low .before .before .signature-length .ensures) in
-    let beyond-is = low .before .leaf-beyond .ensures ∙ ap (leafBeyond (v .profile .height)) (leafed .leaf-in .ensures) in
-    let text = chain-next 16 refl (chain-behind so-far) (low .before .before .before .outside-text .ensures) (c .before .before .before .then .ensures) in
+    let length-is = ap (λ n. not (eqb (length (now (a .signature))) n)) (beyond .before .signature-length .ensures) in
+    let beyond-is = beyond .leaf-beyond .ensures ∙ ap (leafBeyond (v .profile .height)) (leafed .leaf-in .ensures) in
+    let text = chain-next 16 refl (chain-behind so-far) (beyond .before .before .outside-text .ensures) (c .before .before .before .then .ensures) in
     let whole = chain-next 13 refl text length-is (c .before .before .then2 .ensures) in
     let inside = chain-next 11 refl whole beyond-is (c .before .then3 .ensures) in
-    chain-ends so-far (chain-next 14 refl inside (low .passed .ensures ∙ ap (passed v) (leafed .leaf-in .ensures)) (c .then4 .ensures))
+    chain-ends so-far (chain-next 14 refl inside (low .passed .ensures ∙ ap (passed (v .window)) (leafed .leaf-in .ensures)) (c .then4 .ensures))
 
 pub verify-outcome-spec : {M : Type 1} → statement M
 verify-outcome-spec =

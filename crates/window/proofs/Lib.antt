@@ -1,0 +1,3 @@
+-- The laws of the window.
+pub mod MarkLaws
+pub mod WindowLaws

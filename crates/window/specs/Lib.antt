@@ -1,0 +1,2 @@
+-- The window over the leaves.
+pub mod Window
