@@ -19,7 +19,8 @@ use Rattle.tweak.specs.declared.Domain.{Domain}
 use Rattle.one_time.proofs.RecoverLaws.{steps-below, recovers-revealed}
 use Rattle.tree.specs.Tree.{rootOf}
 use Rattle.message.specs.Message.{signatureLength}
-use Rattle.verifier.specs.Verifying.{passed, taken, numberIn, recoveredRoot, rootIn, causesBeforeRoot, verifyCode, verifierAfter, stepsMade}
+use Rattle.window.specs.Window.{passed}
+use Rattle.verifier.specs.Verifying.{taken, numberIn, recoveredRoot, rootIn, causesBeforeRoot, verifyCode, verifierAfter, stepsMade}
 use Rattle.verifier.specs.declared.Verifier.{Verifier}
 use Rattle.claims.specs.Orders.{Issued}
 use Rattle.claims.proofs.Climb.{climbs}
@@ -60,7 +61,7 @@ module _ (p : Profile) (seed secret : List ℕ) (leaf : ℕ) (one : Issued) (mad
       (back .own-leaf, made-number, of .same-profile, of .same-seed, of .same-root, back .own-values, back .own-siblings, recovers-revealed d p secret leaf n below)
       (climbs d p secret leaf (made .in-tree))
 
-  module _ (work : List ℕ) (ahead : passed v leaf ≡ false) (long : tableLength (p .shape) ≤ length work) where
+  module _ (work : List ℕ) (ahead : passed (v .window) leaf ≡ false) (long : tableLength (p .shape) ≤ length work) where
     before : firstCause (causesBeforeRoot v (one .message) (one .signature) work) ≡ 0
     unfolding causesBeforeRoot
     before =

@@ -15,7 +15,7 @@ use Rattle.verifier.proofs.SameLaws.{same-refl, same-true}
 use Rattle.claims.specs.Judged.{JudgedByRoot}
 
 module _ (v : Verifier) (message signature work : List ℕ) where
-  before-numbered : Numbered (causesBeforeRoot v message signature work)
+  pub before-numbered : Numbered (causesBeforeRoot v message signature work)
   unfolding causesBeforeRoot
   before-numbered =
       without-append 0 (tableCauses (v .profile) (length work)) _ (table-numbered (v .profile) (length work)) (refl, (refl, (refl, (refl, (refl, tt)))))

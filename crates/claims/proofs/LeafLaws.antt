@@ -1,18 +1,21 @@
 -- What the list theorems know of the leaves of a tree, of those that a cabinet still takes and of the leaf that a key gives next: no other law opens `leafBeyond`,
 -- `passed`, `taken`, `spent` or `advanced`.
-use mathlib.Core.Path.{_≡_, refl}
-use mathlib.Core.Bool.{false}
+use mathlib.Core.Path.{_≡_, refl, sym, _∙_}
+use mathlib.Core.Bool.{Bool, true, false, _||_, true≢false}
 use mathlib.Core.List.{List}
 use Prim.Native.Nat.{ℕ, _+_, _^_, _<_, _≤_}
 use native.Mathlib.Nat.{le-refl}
 use native.Mathlib.Omega.{arith}
-use borrow.Author.Tests.{le-ltb, lt-leb}
+use borrow.Author.Tests.{lt-leb, eqb-false}
+use lib.Dec.{leb, eqb}
 use Rattle.profile.specs.Checks.{leafBeyond}
 use Rattle.profile.specs.declared.Profile.{Profile}
 use Rattle.profile.proofs.Limits.{leaf-within}
 use Rattle.signer.specs.Signing.{freshKey, spent, advanced}
 use Rattle.signer.specs.declared.SigningKey.{SigningKey}
-use Rattle.verifier.specs.Verifying.{freshVerifier, passed, taken}
+use Rattle.window.specs.Window.{freshWindow, passed}
+use Rattle.window.proofs.WindowLaws.{passed-none, behind, not-behind, passed-after}
+use Rattle.verifier.specs.Verifying.{freshVerifier, taken}
 use Rattle.verifier.specs.declared.Verifier.{Verifier}
 
 -- a leaf of the tree is not beyond it
@@ -20,9 +23,10 @@ pub leaf-inside : (h leaf : ℕ) → leaf < 2 ^ h → leafBeyond h leaf ≡ fals
 unfolding leafBeyond
 leaf-inside h leaf low = lt-leb (2 ^ h) leaf low
 
--- no leaf from n on is passed
-abbrev pub OpenFrom : ℕ → Verifier → Type 0
-OpenFrom n v = (leaf : ℕ) → n ≤ leaf → passed v leaf ≡ false
+-- two tests that both fail
+neither : (a b : Bool) → (a || b) ≡ false → (a ≡ false) × (b ≡ false)
+neither true b e = absurd (true≢false e)
+neither false b e = (refl, e)
 
 module _ (p : Profile) (seed root : List ℕ) where
   -- a cabinet with this profile, public seed and root
@@ -34,19 +38,30 @@ module _ (p : Profile) (seed root : List ℕ) where
   pub fresh-cabinet : CabinetOf (freshVerifier p seed root)
   fresh-cabinet = record { same-profile = refl; same-seed = refl; same-root = refl }
 
-  pub fresh-open : OpenFrom 0 (freshVerifier p seed root)
-  unfolding passed
-  fresh-open leaf h = le-ltb leaf 0 h
+  pub fresh-passes-none : (leaf : ℕ) → passed (freshVerifier p seed root .window) leaf ≡ false
+  fresh-passes-none leaf = passed-none freshWindow leaf refl
 
   module _ (v : Verifier) (leaf : ℕ) where
     pub taken-cabinet : CabinetOf v → CabinetOf (taken v leaf)
     unfolding taken
     taken-cabinet of = record { same-profile = of .same-profile; same-seed = of .same-seed; same-root = of .same-root }
 
--- where no leaf from n on was passed and one of these is taken, none above it is passed
-pub taken-open : (n : ℕ) (v : Verifier) (leaf : ℕ) → OpenFrom n v → n ≤ leaf → OpenFrom (leaf + 1) (taken v leaf)
-unfolding passed taken
-taken-open n v leaf ahead reached next above = le-ltb next (leaf + 1) above
+-- once a leaf was taken
+module _ (v : Verifier) (leaf x : ℕ) (free : passed (v .window) leaf ≡ false) where
+  now-passed : passed (taken v leaf .window) x ≡ (passed (v .window) x || behind leaf x)
+  unfolding taken
+  now-passed = passed-after (v .window) leaf x free
+
+  -- one that is not passed is another, and was not passed before
+  pub free-before : passed (taken v leaf .window) x ≡ false → (passed (v .window) x ≡ false) × (leaf ≡ x → ⊥)
+  free-before none =
+      let parts = neither (passed (v .window) x) (behind leaf x) (sym now-passed ∙ none) in
+      let other = neither (eqb x leaf) (leb (x + 32) leaf) (parts .1) .0 in
+      (parts .0, λ same. eqb-false x leaf other (sym same))
+
+  -- another that was not passed is passed only where the leaf is 32 or more above it
+  pub free-after : passed (v .window) x ≡ false → (leaf ≡ x → ⊥) → leaf < x + 32 → passed (taken v leaf .window) x ≡ false
+  free-after none other near = now-passed ∙ rw (none, not-behind leaf x (λ same. other (sym same)) near)
 
 -- a key with this profile and these seeds, whose next leaf is n or more
 pub record KeyFrom (p : Profile) (seed secret : List ℕ) (key : SigningKey) (n : ℕ) : Type 0 where

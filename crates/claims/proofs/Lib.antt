@@ -1,5 +1,6 @@
 -- The laws behind the claims.
 pub mod Accepted
+pub mod AcceptedOnce
 pub mod Bits
 pub mod Climb
 pub mod GateCount
@@ -9,6 +10,7 @@ pub mod Largest
 pub mod LeafLaws
 pub mod Made
 pub mod OrdersProved
+pub mod Pairs
 pub mod ReadBack
 pub mod Source
 pub mod SymmetricChains

@@ -1,11 +1,11 @@
 -- A source of leaves: calls that hand a state on and may issue something with a leaf. Where each call's leaves are above those issued before, no leaf comes twice.
-use mathlib.Core.List.{List, [], _∷_, _++_, map}
-use Prim.Native.Nat.{ℕ, zero, suc, _+_, _<_, _≤_}
-use native.Mathlib.Nat.{le-refl, le-of-suc-le-suc}
+use mathlib.Core.Path.{_≡_}
+use mathlib.Core.List.{List, [], _∷_, _++_}
+use Prim.Native.Nat.{ℕ, _+_, _<_, _≤_}
+use native.Mathlib.Nat.{le-refl}
 use native.Mathlib.Omega.{arith}
-use lib.ListN.{length, getD}
-use Rattle.words.specs.Distinct.{Distinct}
-use Rattle.claims.specs.Orders.{issuedAlong}
+use Rattle.claims.specs.Orders.{givenAlong}
+use Rattle.claims.proofs.Pairs.{Each, each-imply, Pairs, pairs-imply}
 
 module _ {Item : Type 0} (leafOf : Item → ℕ) (Good : Item → Type 0) where
   -- all items are good, and their leaves rise: from n on, and below m
@@ -21,26 +21,31 @@ module _ {Item : Type 0} (leafOf : Item → ℕ) (Good : Item → Type 0) where
   rises-append n m k [] ys r q = rises-from n m k ys r q
   rises-append n m k (x ∷ xs) ys r q = (r .0, r .1, rises-append (leafOf x + 1) m k xs ys (r .2) q)
 
-  rises-least : (n m : ℕ) (xs : List Item) → Rises n xs m → (i : ℕ) → i < length (map leafOf xs) → n ≤ getD (map leafOf xs) i 0
-  rises-least n m [] r i h = absurd (omega arith)
-  rises-least n m (x ∷ xs) r zero h = r .0
-  rises-least n m (x ∷ xs) r (suc i) h = omega (arith, r .0, rises-least (leafOf x + 1) m xs (r .2) i (le-of-suc-le-suc h))
+  rises-least : (n m : ℕ) (xs : List Item) → Rises n xs m → Each (λ x. n ≤ leafOf x) xs
+  rises-least n m [] r = tt
+  rises-least n m (x ∷ xs) r =
+      (r .0, each-imply (λ y. leafOf x + 1 ≤ leafOf y) (λ y. n ≤ leafOf y) (λ y h. omega (arith, r .0)) xs (rises-least (leafOf x + 1) m xs (r .2)))
 
-  pub none-twice : (n m : ℕ) (xs : List Item) → Rises n xs m → Distinct 0 (map leafOf xs)
-  none-twice n m [] r i j less within same = omega arith
-  none-twice n m (x ∷ xs) r zero zero less within same = omega arith
-  none-twice n m (x ∷ xs) r zero (suc j) less within same = omega (arith, rises-least (leafOf x + 1) m xs (r .2) j (le-of-suc-le-suc within))
-  none-twice n m (x ∷ xs) r (suc i) zero less within same = omega arith
-  none-twice n m (x ∷ xs) r (suc i) (suc j) less within same =
-      none-twice (leafOf x + 1) m xs (r .2) i j (le-of-suc-le-suc less) (le-of-suc-le-suc within) same
+  pub rises-pairs : (n m : ℕ) (xs : List Item) → Rises n xs m → Pairs (λ x y. leafOf x < leafOf y) xs
+  rises-pairs n m [] r = tt
+  rises-pairs n m (x ∷ xs) r =
+      (each-imply (λ y. leafOf x + 1 ≤ leafOf y) (λ y. leafOf x < leafOf y) (λ y h. omega arith) xs (rises-least (leafOf x + 1) m xs (r .2)), rises-pairs (leafOf x + 1) m xs (r .2))
+
+  pub rises-good : (n m : ℕ) (xs : List Item) → Rises n xs m → Each Good xs
+  rises-good n m [] r = tt
+  rises-good n m (x ∷ xs) r = (r .1, rises-good (leafOf x + 1) m xs (r .2))
+
+  -- no two have the same leaf
+  pub rises-apart : (n m : ℕ) (xs : List Item) → Rises n xs m → Pairs (λ x y. leafOf x ≡ leafOf y → ⊥) xs
+  rises-apart n m xs r = pairs-imply (λ x y. leafOf x < leafOf y) (λ x y. leafOf x ≡ leafOf y → ⊥) (λ x y h same. omega arith) xs (rises-pairs n m xs r)
 
   -- the source: a state from which leaves from n on may come, and what a call does to it
-  module _ {State Call : Type 0} (after : State → Call → State) (issues : State → Call → List Item) (From : State → ℕ → Type 0)
-      (step : (s : State) (n : ℕ) → From s n → (c : Call) → (m : ℕ) × Rises n (issues s c) m × From (after s c) m) where
-    pub issued-rises : (s : State) (n : ℕ) → From s n → (calls : List Call) → (m : ℕ) × Rises n (issuedAlong after issues s calls) m
-    unfolding issuedAlong
+  module _ {State Call : Type 0} (after : State → Call → State) (gives : State → Call → List Item) (From : State → ℕ → Type 0)
+      (step : (s : State) (n : ℕ) → From s n → (c : Call) → (m : ℕ) × Rises n (gives s c) m × From (after s c) m) where
+    pub issued-rises : (s : State) (n : ℕ) → From s n → (calls : List Call) → (m : ℕ) × Rises n (givenAlong after gives s calls) m
+    unfolding givenAlong
     issued-rises s n from [] = (n, le-refl n)
     issued-rises s n from (c ∷ calls) =
         let now = step s n from c in
         let rest = issued-rises (after s c) (now .0) (now .2) calls in
-        (rest .0, rises-append n (now .0) (rest .0) (issues s c) (issuedAlong after issues (after s c) calls) (now .1) (rest .1))
+        (rest .0, rises-append n (now .0) (rest .0) (gives s c) (givenAlong after gives (after s c) calls) (now .1) (rest .1))

@@ -43,18 +43,18 @@ signedBy key c =
 unfoldable pub issuedBy : SigningKey → IssueCall → List Issued
 issuedBy key c = cond (eqb (signCode key (c .r) (c .message) (c .work) (c .out)) 0) (signedBy key c ∷ []) []
 
--- what a list of calls issues, the first at a state and each other at the state that the one before handed back, with `after` and `issues` for what a call
--- hands back and issues
-unfoldable pub issuedAlong : {State Call Item : Type 0} → (after : State → Call → State) (issues : State → Call → List Item) → State → List Call → List Item
-issuedAlong after issues s [] = []
-issuedAlong after issues s (c ∷ calls) = issues s c ++ issuedAlong after issues (after s c) calls
+-- what the calls of a list give, the first at a state and each other at the state that the one before handed back, with `after` and `gives` for what a call
+-- hands back and gives
+unfoldable pub givenAlong : {State Call Item : Type 0} → (after : State → Call → State) (gives : State → Call → List Item) → State → List Call → List Item
+givenAlong after gives s [] = []
+givenAlong after gives s (c ∷ calls) = gives s c ++ givenAlong after gives (after s c) calls
 
 abbrev pub keyHandedBack : SigningKey → IssueCall → SigningKey
 keyHandedBack key c = keyAfter key (c .r) (c .message) (c .work) (c .out)
 
 -- "The first gets a fresh key of any profile and seeds, each other the key that the one before handed back"
 abbrev pub issued : SigningKey → List IssueCall → List Issued
-issued key calls = issuedAlong keyHandedBack issuedBy key calls
+issued key calls = givenAlong keyHandedBack issuedBy key calls
 
 -- the leaf that a signature carries, read from its bytes
 abbrev pub leafOf : Issued → ℕ
@@ -64,7 +64,7 @@ leafOf one = leafIn (one .signature)
 abbrev pub NoLeafTwice : List Issued → Type 0
 NoLeafTwice signatures = Distinct 0 (map leafOf signatures)
 
--- a call of Check: of the next signature issued, with its own text and a work slice, or any other
+-- a call of Check: of the next signature of a list, with its own text and a work slice, or any other
 pub data Check : Type 0 where
   next : (work : List ℕ) → Check
   other : (message signature work : List ℕ) → Check

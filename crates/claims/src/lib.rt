@@ -7,6 +7,7 @@ ghost use Rattle.counts.specs.Counts.{CountsFit};
 ghost use Rattle.codewords.specs.Operations.{RankUnrank};
 ghost use Rattle.listing.specs.Listing.{FirstEleven, Example};
 ghost use Rattle.sheet.specs.Sheet.{Exact};
+ghost use Rattle.claims.specs.Arrivals.{NoLeafAcceptedTwice, ArrivalsAccepted};
 ghost use Rattle.claims.specs.Bits.{LargestBits, NumbersFit, SmallCounts};
 ghost use Rattle.claims.specs.Demand3.{Demand3};
 ghost use Rattle.claims.specs.Gate.{GateFigures, GateCount};
@@ -81,6 +82,15 @@ pub fn recovers_revealed()
 
 pub fn climbs_to_root()
     ensures { λ _. ⌜ ClimbsToRoot ⌝ }
+{}
+
+// Orders by two routes.
+pub fn no_leaf_accepted_twice()
+    ensures { λ _. ⌜ NoLeafAcceptedTwice ⌝ }
+{}
+
+pub fn arrivals_accepted()
+    ensures { λ _. ⌜ ArrivalsAccepted ⌝ }
 {}
 
 // SHA-256.

@@ -1,0 +1,73 @@
+-- Of every list of checks: a leaf that is accepted was not passed, and is passed from then on. So none is accepted twice.
+use mathlib.Core.Path.{_≡_, refl}
+use mathlib.Core.Bool.{Bool, true, false, not}
+use mathlib.Core.List.{List, [], _∷_, _++_}
+use Prim.Native.Nat.{ℕ}
+use borrow.Author.Tests.{eqb-true}
+use lib.Dec.{eqb}
+use lib.ListN.{length}
+use Rattle.refusal.proofs.Causes.{none-here, none-of-append}
+use Rattle.profile.specs.Checks.{leafBeyond}
+use Rattle.profile.specs.declared.Profile.{Profile}
+use Rattle.counts.specs.Counts.{count}
+use Rattle.counts.specs.Table.{tableCauses}
+use Rattle.counts.proofs.Room.{table-numbered}
+use Rattle.message.specs.Message.{countTooSmall, outsideText, signatureLength}
+use Rattle.window.specs.Window.{passed}
+use Rattle.verifier.specs.Verifying.{freshVerifier, taken, leafIn, rootIn, same, causesBeforeRoot, verifyCode, verifierAfter}
+use Rattle.verifier.specs.declared.Verifier.{Verifier}
+use Rattle.claims.specs.Orders.{givenAlong}
+use Rattle.claims.specs.Arrivals.{CheckCall, cabinetHandedBack, acceptedBy, accepted, leafChecked, NoLeafAcceptedTwice}
+use Rattle.claims.proofs.Judged.{before-numbered}
+use Rattle.claims.proofs.LeafLaws.{free-before}
+use Rattle.claims.proofs.Pairs.{Each, each-imply, Pairs, distinct-pairs}
+
+-- none of the causes before the root holds, 14 among them
+accepted-free : (v : Verifier) (message signature work : List ℕ) → verifyCode v message signature work ≡ 0 → passed (v .window) (leafIn signature) ≡ false
+unfolding verifyCode causesBeforeRoot
+accepted-free v message signature work e =
+    let counted : List (Bool × ℕ) = (countTooSmall (count (v .profile .shape)), 19) ∷ [] in
+    let low : List (Bool × ℕ) = (passed (v .window) (leafIn signature), 14) ∷ counted in
+    let early : List (Bool × ℕ) = (outsideText (length message), 16) ∷ (not (eqb (length signature) (signatureLength (v .profile))), 13) ∷ (leafBeyond (v .profile .height) (leafIn signature), 11) ∷ [] in
+    let root : List (Bool × ℕ) = (not (same (rootIn v message signature) (v .root)), 15) ∷ [] in
+    let before = none-of-append (causesBeforeRoot v message signature work) root (before-numbered v message signature work) e .0 in
+    let order = none-of-append (tableCauses (v .profile) (length work)) (early ++ low) (table-numbered (v .profile) (length work)) before .1 in
+    none-here (passed (v .window) (leafIn signature)) 14 counted refl (none-of-append early low (refl, (refl, (refl, tt))) order .1) .0
+
+-- leaves that a cabinet does not pass, no two of them the same
+abbrev Apart : CheckCall → CheckCall → Type 0
+Apart x y = leafChecked x ≡ leafChecked y → ⊥
+
+abbrev Free : Verifier → CheckCall → Type 0
+Free v c = passed (v .window) (leafChecked c) ≡ false
+
+abbrev Once : Verifier → List CheckCall → Type 0
+Once v calls = Each (Free v) calls × Pairs Apart calls
+
+-- one call, before those that are accepted later
+module _ (v : Verifier) (c : CheckCall) (later : List CheckCall) (once : Once (cabinetHandedBack v c) later) where
+  abbrev granted : Bool
+  granted = eqb (verifyCode v (c .message) (c .signature) (c .work)) 0
+
+  with-accepted : Once v (acceptedBy v c ++ later)
+  unfolding acceptedBy verifierAfter
+  with-accepted = by granted refl
+    where
+      by : (g : Bool) → granted ≡ g → Once v (acceptedBy v c ++ later)
+      by true e =
+          let leaf = leafChecked c in
+          let free = accepted-free v (c .message) (c .signature) (c .work) (eqb-true _ 0 e) in
+          let after : Once (taken v leaf) later = rw e at once in
+          let before = each-imply (Free (taken v leaf)) (λ x. Free v x × Apart c x) (λ x none. free-before v leaf (leafChecked x) free none) later (after .0) in
+          rw e ((free, each-imply (λ x. Free v x × Apart c x) (Free v) (λ x both. both .0) later before), (each-imply (λ x. Free v x × Apart c x) (Apart c) (λ x both. both .1) later before, after .1))
+      by false e = rw e (rw e at once)
+
+all-once : (v : Verifier) (calls : List CheckCall) → Once v (accepted v calls)
+unfolding givenAlong
+all-once v [] = (tt, tt)
+all-once v (c ∷ calls) = with-accepted v c (accepted (cabinetHandedBack v c) calls) (all-once (cabinetHandedBack v c) calls)
+
+pub no-leaf-accepted-twice : NoLeafAcceptedTwice
+no-leaf-accepted-twice p seed root calls =
+    let v = freshVerifier p seed root in
+    distinct-pairs leafChecked (accepted v calls) (all-once v calls .1)

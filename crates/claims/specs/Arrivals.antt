@@ -1,0 +1,54 @@
+-- Document 02, point 4: every list of checks of one cabinet, and one key's orders in every order of arrival that the window allows.
+use mathlib.Core.Bool.{cond}
+use mathlib.Core.List.{List, [], _∷_, map, List·Permᴰ}
+use Prim.Native.Nat.{ℕ, _+_, _≤_, _<_}
+use lib.Dec.{eqb}
+use lib.ListN.{length, getD}
+use Rattle.words.specs.Distinct.{Distinct}
+use Rattle.profile.specs.declared.Profile.{Profile}
+use Rattle.tweak.specs.Tweak.{firstDomain}
+use Rattle.tree.specs.Tree.{rootOf}
+use Rattle.signer.specs.Signing.{freshKey}
+use Rattle.verifier.specs.Verifying.{freshVerifier, leafIn, verifyCode, verifierAfter}
+use Rattle.verifier.specs.declared.Verifier.{Verifier}
+use Rattle.claims.specs.Orders.{IssueCall, Issued, givenAlong, issued, leafOf, Check, AllAccepted}
+
+-- a call of Check, with any text, signature and work slice
+pub record CheckCall : Type 0 where
+  pub message : List ℕ
+  pub signature : List ℕ
+  pub work : List ℕ
+
+abbrev pub cabinetHandedBack : Verifier → CheckCall → Verifier
+cabinetHandedBack v c = verifierAfter v (c .message) (c .signature) (c .work)
+
+-- the call itself, if its signature is accepted
+unfoldable pub acceptedBy : Verifier → CheckCall → List CheckCall
+acceptedBy v c = cond (eqb (verifyCode v (c .message) (c .signature) (c .work)) 0) (c ∷ []) []
+
+-- those calls of a list that are accepted, the first at a cabinet and each other at the cabinet that the one before handed back
+abbrev pub accepted : Verifier → List CheckCall → List CheckCall
+accepted v calls = givenAlong cabinetHandedBack acceptedBy v calls
+
+-- the leaf that a call's signature carries
+abbrev pub leafChecked : CheckCall → ℕ
+leafChecked c = leafIn (c .signature)
+
+-- "For every list of checks from fresh, no leaf is accepted twice"
+abbrev pub NoLeafAcceptedTwice : Type 0
+NoLeafAcceptedTwice =
+    (p : Profile) (seed root : List ℕ) (calls : List CheckCall) → Distinct 0 (map leafChecked (accepted (freshVerifier p seed root) calls))
+
+-- "each comes before any leaf 32 or more above it": of the leaves at two places of an order of arrival
+abbrev pub InTime : (leaves : List ℕ) → Type 0
+InTime leaves = (i j : ℕ) → i < length leaves → j < length leaves → getD leaves i 0 + 32 ≤ getD leaves j 0 → i < j
+
+-- "One fresh key's issued orders, each arriving once at its fresh cabinet, are all accepted in every arrival order in which each comes before any leaf 32 or
+-- more above it": an arrival order is a permutation of the issued list; "Acceptance … is under demand 3's premises on texts and work slices", with its steps
+-- and its refused checks in between
+abbrev pub ArrivalsAccepted : Type 0
+ArrivalsAccepted =
+    (p : Profile) (seed secret : List ℕ) (calls : List IssueCall) (arrivals : List Issued)
+    → List·Permᴰ arrivals (issued (freshKey p seed secret) calls)
+    → InTime (map leafOf arrivals)
+    → (checks : List Check) → AllAccepted (p .shape) (freshVerifier p seed (rootOf (firstDomain seed) p secret)) arrivals checks
