@@ -28,13 +28,14 @@ pub fn passed(w: Window, leaf: u32) -> bool
         return false;
     }
     if highest < leaf {
-        return false;
-    }
-    let below = highest - leaf;
-    if below < 32 {
-        marked(marks, below)
+        false
     } else {
-        true
+        let below = highest - leaf;
+        if below < 32 {
+            marked(marks, below)
+        } else {
+            true
+        }
     }
 }
 
@@ -53,12 +54,11 @@ pub fn take(w: Window, leaf: u32) -> Window
     let highest = w.highest;
     let marks = w.marks;
     if marks == 0 {
-        return Window {
+        Window {
             highest: leaf,
             marks: 1,
-        };
-    }
-    if highest < leaf {
+        }
+    } else if highest < leaf {
         let up = move_up(marks, leaf - highest);
         Window {
             highest: leaf,

@@ -25,4 +25,4 @@ returns-4 c =
     sym (passed-far (a .w) (a .leaf) (split .before .if1 .left) (omega arith))
 
 pub passed-spec : {M : Type 1} → statement M
-passed-spec = tie.close (tie.spec returns returns-2 (λ c κs. search needs) returns-3 returns-4)
+passed-spec = tie.close (tie.spec returns (λ c κs. search needs) returns-2 returns-3 returns-4)

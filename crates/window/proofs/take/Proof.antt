@@ -20,10 +20,10 @@ returns : tie.Need-returns
 unfolding taken
 returns c = rw (eq-eqb (c .before .args .w .marks) 0 (c .if1 .taken))
 
-add-t9 : tie.Need-add-t9
-add-t9 c =
+add-t11 : tie.Need-add-t11
+add-t11 c =
     let a = c .before .before .before .args in
-    record { fits = rw (c .move-up .ensures) (moved-fits (a .w .marks) (a .leaf - a .w .highest) (omega arith)) }
+    record { fits = omega (arith, c .move-up .ensures, moved-fits (a .w .marks) (a .leaf - a .w .highest) (omega arith)) }
 
 -- the leaf is not above the highest, and less than 32 below it
 low : (c : tie.Else2) → c .before .before .args .w .highest - c .before .before .args .leaf < 32
@@ -35,26 +35,28 @@ low c =
 own : (j : ℕ) → j < 32 → 1 * 2 ^ j % 2 ^ 32 ≡ 2 ^ j
 own j h = shl-exact 1 j 32 (lit< tt) (omega arith) ∙ one-mul (2 ^ j)
 
-add-t10 : tie.Need-add-t10
-add-t10 c =
+add-t12 : tie.Need-add-t12
+add-t12 c =
     let s = c .before .before in
     let j = s .args .w .highest - s .args .leaf in
     let free = mark-free (s .args .w) (s .args .leaf) (c .before .if1 .left) (c .if2 .left) (s .pre) in
-    record { fits = rw (own j (low c)) (added-fits (s .args .w .marks) j free (low c) (word s)) }
+    record { fits = omega (arith, own j (low c), added-fits (s .args .w .marks) j free (low c) (word s)) }
 
 returns-2 : tie.Need-returns-2
 unfolding taken
 returns-2 c =
     let a = c .before .before .before .args in
-    rw (ne-eqb (a .w .marks) 0 (c .before .before .if1 .left), lt-ltb (a .w .highest) (a .leaf) (c .before .if2 .taken), c .move-up .ensures)
+    rw (ne-eqb (a .w .marks) 0 (c .before .before .if1 .left), lt-ltb (a .w .highest) (a .leaf) (c .before .if2 .taken))
+    (ap (λ marks. record { highest = a .leaf; marks = marks + 1 }) (c .move-up .ensures))
 
 returns-3 : tie.Need-returns-3
 unfolding taken
 returns-3 c =
     let a = c .before .before .args in
-    rw (ne-eqb (a .w .marks) 0 (c .before .if1 .left), le-ltb (a .w .highest) (a .leaf) (c .if2 .left), own (a .w .highest - a .leaf) (low c))
+    rw (ne-eqb (a .w .marks) 0 (c .before .if1 .left), le-ltb (a .w .highest) (a .leaf) (c .if2 .left))
+    (ap (λ mark. record { highest = a .w .highest; marks = a .w .marks + mark }) (own (a .w .highest - a .leaf) (low c)))
 
 pub take-spec : {M : Type 1} → statement M
 take-spec =
     tie.close
-    (tie.spec returns (λ c. search needs) (λ c κs. search needs) add-t9 low add-t10 returns-2 returns-3)
+    (tie.spec (λ c. search needs) (λ c κs. search needs) add-t11 low add-t12 returns returns-2 returns-3)
