@@ -379,11 +379,13 @@ def check_case(cabinet, signature, text, change=""):
     """Two checks, the second by the cabinet that the first handed back."""
     p, table, told = cabinet.profile, table_of(cabinet.profile), []
     before = Slices(table, signature, text)
-    label = named(p, f", lowest {cabinet.lowest}{change}")
-    taken = words(p) + cabinet.seed + cabinet.root + word(cabinet.lowest)
+    window = cabinet.highest, cabinet.marks
+    label = named(p, ", highest {}, marks {}{}".format(*window, change))
+    taken = words(p) + cabinet.seed + cabinet.root + words(window)
     for _ in range(2):
         outcome, cabinet, steps, table = signatures.check(cabinet, text, signature, table)
-        told.append(f"outcome {outcome}, lowest {cabinet.lowest}, steps {steps}")
+        window = f"highest {cabinet.highest}, marks {cabinet.marks}"
+        told.append(f"outcome {outcome}, {window}, steps {steps}")
     return case("check", label, taken, ": ".join(told), before, Slices(table, signature, text))
 
 
@@ -392,7 +394,7 @@ def flat_cases(p):
     key, size = SigningKey(p, SEED, SECRET, 0), signature_length(p)
     yield issue_case(key, size + 3)
     signature = signatures.issue(key, R, TEXT, table_of(p), stale_bytes(size))[2]
-    cabinet = Verifier(p, SEED, signatures.root_of(p, SEED, SECRET), 0)
+    cabinet = Verifier(p, SEED, signatures.root_of(p, SEED, SECRET), 0, 0)
     yield check_case(cabinet, signature, TEXT)
     yield check_case(cabinet, signature, TEXT[:-1], ", another text")
 
@@ -403,7 +405,7 @@ def scant_cases(p, leaf):
     root = signatures.root_of(p, SEED, SECRET)
     number = signatures.message_number(p, R, SEED, root, TEXT)
     signature = signatures.signature_of(p, SEED, SECRET, leaf, R, number)
-    yield check_case(Verifier(p, SEED, root, leaf), signature, TEXT)
+    yield check_case(Verifier(p, SEED, root, leaf, 2), signature, TEXT)
 
 
 def order_cases():
@@ -418,13 +420,45 @@ def order_cases():
         yield issue_case(SigningKey(p, SEED, SECRET, 0), 100)
     key = SigningKey(tall, SEED, SECRET, 5)
     signature = signatures.issue(key, R, TEXT, table_of(tall), stale_bytes(size))[2]
-    cabinet = Verifier(tall, SEED, signatures.root_of(tall, SEED, SECRET), 2)
+    # it has accepted the leaves 0 and 2
+    cabinet = Verifier(tall, SEED, signatures.root_of(tall, SEED, SECRET), 2, 5)
     yield check_case(cabinet, signature, TEXT)
     yield check_case(cabinet, signature, TEXT[:-1], ", another text")
     changed = signature[:20] + bytes([signature[20] ^ 1]) + signature[21:]
     yield check_case(cabinet, changed, TEXT, ", another value")
     for p in [SMALL, *OUTSIDE, *OUTSIDE_HEIGHT]:
-        yield check_case(Verifier(p, SEED, bytes(16), 0), bytes(100), TEXT)
+        yield check_case(Verifier(p, SEED, bytes(16), 0, 0), bytes(100), TEXT)
+    yield from window_cases()
+
+
+# The highest leaf and the marks of cabinets, by the leaf that they are given. The leaf 40: with no
+# mark set; higher than theirs by few, by 31, by 32 and by more; older, not marked, marked and too
+# old. The leaf 3: with marks that name no leaf.
+WINDOWS = {
+    40: [
+        *[(0, 0), (40, 0), (72, 0), (MASK, 0)],
+        *[(37, 0b1011), (9, 3), (9, MASK), (8, 1), (8, MASK), (0, 1), (20, 1 << 31)],
+        *[(40, 2), (40, 1), (43, 0b101), (43, 0b1001), (71, 1), (71, 1 << 31), (71, MASK >> 1)],
+        *[(72, 1), (73, MASK), (MASK, 1), (MASK, MASK)],
+    ],
+    3: [(5, 1 << 20), (5, 1 << 20 | 4), (3, 1 << 31), (2, 1 << 31), (1, MASK)],
+}
+
+
+def window_cases():
+    """Check by cabinets that have accepted leaves, at a profile with few steps. The labels are told
+    apart by the leaf, too."""
+    p = FEWEST_BITS._replace(h=6)
+    root = signatures.root_of(p, SEED, SECRET)
+    number = signatures.message_number(p, R, SEED, root, TEXT)
+    for leaf, windows in WINDOWS.items():
+        signature = signatures.signature_of(p, SEED, SECRET, leaf, R, number)
+        for window in windows:
+            cabinet = Verifier(p, SEED, root, *window)
+            yield check_case(cabinet, signature, TEXT, f", leaf {leaf}")
+        for window in windows[::4]:
+            cabinet = Verifier(p, SEED, root, *window)
+            yield check_case(cabinet, signature, TEXT[:-1], f", leaf {leaf}, another text")
 
 
 def sheet_case(p, sheet, size, room, change=""):

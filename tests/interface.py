@@ -13,8 +13,9 @@ narrower parameters would cut to right ones or that are 2^31 or 2^32 - 1, with e
 past the named length of each slice, numbers compared in each order after each count of pairs, the
 words below being alike or in either order, orders signed and taken at every height of the tree and,
 by tests/shapes.py, with every number of bits from 8 to 128, at the nearest counts on both sides of
-each power of two, both shapes of 255 being refused; and orders of earlier days, taken where numbers
-have 128 bits as then, and refused where they have fewer.
+each power of two, both shapes of 255 being refused; orders of earlier days, taken where numbers
+have 128 bits as then, and refused where they have fewer; and, by tests/windows.py, each way in which
+a leaf can stand to the highest leaf and the marks, taken or refused by 14.
 """
 
 import itertools
@@ -27,6 +28,7 @@ from collections import Counter
 import comparisons
 import shapes
 import signatures
+import windows
 from archived import archive_of, archive_parser, shared_object
 from interface_calls import LENT, STATES, load
 from interface_cases import case, subsets, wide_numbers
@@ -47,7 +49,8 @@ class Met:
     """What has come up: the answers of each operation, the causes told and those behind them, wide
     numbers of the profile, slices longer than they must be and states other than 0 with each
     answer, the kinds of numbers compared, and, of orders, the heights of trees under which they
-    were signed and taken, the shapes with the answers there, and the answers to earlier ones."""
+    were signed and taken, the shapes with the answers there, the answers to earlier ones, and how
+    the leaf stood to the verifier's where it was taken or passed."""
 
     def __init__(self):
         self.outcomes = Counter()
@@ -58,6 +61,7 @@ class Met:
         self.heights = set()
         self.shapes = {operation: set() for operation in STATES}
         self.earlier = set()
+        self.windows = set()
 
     def add(self, call):
         operation, outcome, arguments = call.operation, call.outcome, call.arguments
@@ -78,6 +82,10 @@ class Met:
                 self.heights.add((operation, arguments["h"]))
         if call.earlier:
             self.earlier.add(outcome)
+        if operation == "verify" and outcome in (0, 14):
+            window = [arguments[name].words()[0] for name in STATES["verify"]]
+            leaf = int.from_bytes(arguments["signature"].before[:4], "big")
+            self.windows |= {(kind, outcome) for kind in windows.kinds(*window, leaf)}
 
     def calls(self):
         return self.outcomes.total()
@@ -103,6 +111,8 @@ class Met:
                 yield f"{operation} has never answered {answer}"
         for outcome in sorted({0, 15} - self.earlier):
             yield f"verify has never answered {outcome} to an order of earlier days"
+        for kind in windows.missing_kinds(self.windows):
+            yield f"verify has never answered {kind}"
 
     def missing_kept(self, operation, causes):
         """What must not change is seen only where there is some: past the named length of a slice,

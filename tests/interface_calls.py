@@ -24,7 +24,8 @@ PROTOTYPES = {
     "one_time_sign": "l w s h &public_seed &secret_seed leaf &number table[] values[]",
     "one_time_recover": "l w s h &public_seed leaf &number &values[] table[] key steps",
     "sign": "l w s h &public_seed &secret_seed next_leaf &r &message[] table[] signature[]",
-    "verify": "l w s h &public_seed &root lowest_leaf &message[] &signature[] table[] steps",
+    "verify": "l w s h &public_seed &root highest_leaf marks"
+    " &message[] &signature[] table[] steps",
     "read_sheet": "l w s h &sheet[] signature[] message[] message_written line",
 }
 # Every other parameter is a pointer.
@@ -43,7 +44,7 @@ LENT = {
     "read_sheet": {"signature": 6, "message": TEXT_SLICE},
 }
 # What a call is given and hands back by pointer.
-STATES = {"sign": ["next_leaf"], "verify": ["lowest_leaf"]}
+STATES = {"sign": ["next_leaf"], "verify": ["highest_leaf", "marks"]}
 
 MOST_HASHED = 65535
 # No call has more.
@@ -271,7 +272,8 @@ class Calls:
             **verifier.profile._asdict(),
             public_seed=Memory(verifier.seed),
             root=Memory(verifier.root),
-            lowest_leaf=words_memory([verifier.lowest]).leave([after.lowest]),
+            highest_leaf=words_memory([verifier.highest]).leave([after.highest]),
+            marks=words_memory([verifier.marks]).leave([after.marks]),
             message=message,
             signature=signature,
             table=table.leave(filled),

@@ -6,7 +6,8 @@ at each of the counts on both sides of the powers of two. Every round of cases h
 operation, granted calls, each cause of refusal alone, each two together, and several; numbers to
 compare of many kinds; numbers of the profile that narrower parameters would cut to right ones, or
 that are the ends of what wide ones hold; slices whose length passes 32 bits; orders of earlier
-days; and sequences in which a fresh key signs and a fresh verifier checks.
+days; each way in which a leaf can stand to a verifier's highest leaf and marks; and sequences in
+which a fresh key signs and a fresh verifier checks, in the order signed and in any other.
 """
 
 import itertools
@@ -14,6 +15,7 @@ import random
 from functools import cache, lru_cache, partial
 
 import shapes
+import windows
 from interface_calls import STATES, Calls
 from interface_damage import Order, flipped, swapped
 from interface_inputs import CAUSES, CUTS, FAR, WIDE, Inputs, cheap_height, signable_shape
@@ -89,6 +91,19 @@ def earlier(operation, bits, pick):
     yield call
 
 
+def window(operation, kind, answer, pick):
+    """Checks an order whose leaf stands to the verifier in this way. Nothing but 14 may refuse it.
+    Not every leaf can stand so."""
+    found = None
+    while found is None:
+        p = Profile(*signable_shape(pick), pick.randrange(11))
+        order = Order(pick, p)
+        found = windows.state_of(pick, kind, answer, order.leaf)
+    causes = [answer] if answer else []
+    call = Inputs(pick, operation, causes, profile=p).verify(order, found)
+    yield caused(operation, causes, call)
+
+
 def several(operation, pick):
     causes = [cause for cause in CAUSES[operation] if pick.random() < 0.3]
     yield from single(operation, causes, pick)
@@ -104,8 +119,11 @@ class Sequence:
         self.calls = Calls(pick)
         self.key = SigningKey(p, pick.randbytes(16), pick.randbytes(16), 0)
         self.root = root_of(p, self.key.seed, self.key.secret)
-        self.verifier = Verifier(p, self.key.seed, self.root, 0)
+        self.renew_verifier()
         self.issued = []
+
+    def renew_verifier(self):
+        self.verifier = Verifier(self.p, self.key.seed, self.root, 0, 0)
 
     def sign(self):
         """The next order, granted or refused."""
@@ -154,7 +172,7 @@ class Sequence:
         ]
         if len(siblings) > 1:
             checks.append((head + b"".join(values + swapped(pick, siblings)), text))
-        checks += [self.issued[pick.randrange(taken)] for _ in range(4) if taken]
+        checks += [pick.choice(taken) for _ in range(4) if taken]
         return self.check(*pick.choice(checks))
 
     def run(self):
@@ -162,26 +180,24 @@ class Sequence:
         while self.key.next < 1 << self.p.h:
             yield self.sign()
         yield from (self.sign() for _ in range(2))
-        yield from self.checks_in_order()
-        yield from self.checks_in_any_order()
+        leaves = [int.from_bytes(signature[:4], "big") for signature, _ in self.issued]
+        if leaves != list(range(1 << self.p.h)):
+            raise Unsound(f"the leaves signed with are {leaves}")
+        yield from self.checks(self.issued)
+        self.renew_verifier()
+        yield from self.checks(self.pick.sample(self.issued, len(self.issued)))
         yield self.sheet()
 
-    def checks_in_order(self):
-        """Whatever is refused in between, each order issued is taken, reports the same steps and
-        carries another leaf."""
-        for taken, (signature, text) in enumerate(self.issued):
+    def checks(self, arriving):
+        """Whatever is refused in between, each order issued is taken and reports the same steps:
+        the tree has no two leaves 32 apart."""
+        for place, order in enumerate(arriving):
             for _ in range(self.pick.randrange(3)):
-                yield self.refused_check(taken)
-            call = self.check(signature, text)
+                yield self.refused_check(arriving[:place])
+            call = self.check(*order)
             steps = self.p.l * (self.p.w - 1) - self.p.s
             demand(call.outcome == 0 and call.arguments["steps"].after_words() == [steps], call)
-            demand(int.from_bytes(signature[:4], "big") == taken, call)
             yield call
-
-    def checks_in_any_order(self):
-        self.verifier = self.verifier._replace(lowest=0)
-        for _ in range(3):
-            yield self.check(*self.pick.choice(self.issued))
 
     def sheet(self):
         signature, text = self.pick.choice(self.issued)
@@ -209,6 +225,9 @@ def tall(p, pick):
     for signature, text in orders.issued:
         yield orders.check(signature, flipped(pick, text))
         yield orders.check(signature, text)
+    orders.renew_verifier()
+    for signature, text in reversed(orders.issued):
+        yield orders.check(signature, text)
 
 
 # The gate profile, and every height that a sequence has not, at the shape of the shortest chains at
@@ -234,6 +253,7 @@ def plan():
         cases += [partial(single, operation, c, wide=w) for c, w in wide_numbers(operation)]
     cases += [partial(single, operation, causes) for operation, causes in MANIFOLD * 20]
     cases += [partial(earlier, "verify", bits) for bits in EARLIER_BITS]
+    cases += [partial(window, "verify", *kind) for kind in windows.KINDS]
     return cases + [sequence] * SEQUENCES
 
 

@@ -4,6 +4,7 @@ for: none, one, or several at once, of which the first in the document's order m
 
 import comparisons
 import shapes
+import windows
 from interface_calls import LENT, MOST_HASHED, TEXT_SLICE, Calls
 from interface_damage import Order, flipped, wrong_sheet
 from interface_memory import Filling, Memory
@@ -287,19 +288,18 @@ class Inputs:
         r = self.pick.randbytes(16)
         return self.calls.sign(key, r, self.message(), self.table(), signature)[0]
 
-    def verify(self, order=None):
-        """Of an order that is drawn, unless one is given as it is to be."""
+    def verify(self, order=None, window=None):
+        """Of an order and by a window, the highest leaf and the marks, that are drawn unless they
+        are given as they are to be."""
         if order is None:
             order = Order(self.pick, self.good)
             if 15 in self.causes:
                 order.damage()
-        lowest = self.pick.choice([0, order.leaf, self.pick.randrange(order.leaf + 1)])
         if 11 in self.causes:
             order.leaf = self.leaf(11)
-        if 14 in self.causes:
-            above = min(order.leaf + 1, PAST_WORD - 1)
-            lowest = self.pick.choice([above, PAST_WORD - 1, self.pick.randrange(above, PAST_WORD)])
-        verifier = Verifier(self.p, order.seed, order.root, lowest)
+        if window is None:
+            window = windows.drawn(self.pick, order.leaf, 14 if 14 in self.causes else 0)
+        verifier = Verifier(self.p, order.seed, order.root, *window)
         signature = self.padded(order.signature(), signature_length(self.sized))
         signature = self.exact("signature", signature, 13)
         message = self.message() if 16 in self.causes else Memory(order.text)

@@ -7,8 +7,10 @@ the C interface at a time, and fails where the comparison finds no difference th
 A wrong function cuts a number or a length; reads just before or behind memory that it is lent;
 writes what it is to read only; changes a slice or a state where it refuses, for each cause, or a
 slice past its named length where it grants; leaves an old answer where it refuses; compares two
-numbers by another rule, or wrongly for one order and one count of pairs alone; or has another rule
-for an order's number or for 19, or a wrong number at just one of the shapes that must come up.
+numbers by another rule, or wrongly for one order and one count of pairs alone; has another rule for
+an order's number or for 19, or a wrong number at just one of the shapes that must come up; or has
+another rule for 14 or for the highest leaf and the marks, or is wrong for just one of the ways in
+which a leaf can stand to them.
 """
 
 import ctypes
@@ -22,15 +24,16 @@ import shapes
 from archived import archive_of, archive_parser, shared_object
 from comparisons import KINDS
 from interface_calls import BY_VALUE, LENT, PROTOTYPES, STATES, load
-from interface_cases import beginning, edge, plan
+from interface_cases import beginning, edge, plan, window
 from interface_inputs import CAUSES, FAR
 from wrong_orders import right_orders, wrong_orders
+from wrong_windows import right_window, wrong_windows
 from zarosnik import EQUAL, GREATER, LESS, WORDS
 
 # Bytes of what has no length of its own; all else has 16.
 SIZES = {"digest": 32, "message_written": 8}
 SIZES |= dict.fromkeys(["number", "first", "second"], 20)
-SIZES |= dict.fromkeys(["order", "looked", "steps", "line", "next_leaf", "lowest_leaf"], 4)
+SIZES |= dict.fromkeys(["order", "looked", "steps", "line", *itertools.chain(*STATES.values())], 4)
 ROUNDS = 3
 SEEN, UNSEEN = 10, 11
 
@@ -222,18 +225,22 @@ def wrong_functions():
 
 
 def mutants():
-    """The same, with the cases in which it must be seen. Those of one shape alone see it there."""
+    """The same, with the cases in which it must be seen. What is wrong at one shape or for one kind
+    of window alone is seen there."""
     for what, operation, wrong in wrong_functions():
         yield what, operation, wrong, cases_of(operation)
     for what, operation, wrong, shape in wrong_orders():
         cases = edges_of(operation, shape)
         yield what, operation, wrong, cases if shape else cases_of(operation) + cases
+    for what, wrong, kind in wrong_windows():
+        yield what, "verify", wrong, windows_of(kind) if kind else cases_of("verify")
 
 
 def nothing_wrong():
     """Each operation as it is; and those that are made again below, by the right rule."""
     yield from ((operation, None) for operation in PROTOTYPES)
     yield from right_orders().items()
+    yield "verify", right_window()
 
 
 class Wrong:
@@ -258,6 +265,12 @@ def edges_of(operation, shape=None):
     """At each shape on both sides of a power of two, or at one of them."""
     cases = [case for case in beginning() if case.func == edge and case.args[0] == operation]
     return [case for case in cases if shape in (None, case.args[1])]
+
+
+def windows_of(kind):
+    """Where the leaf stands so to the verifier, with this answer."""
+    cases = [case for case in cases_of("verify") if case.func == window]
+    return [case for case in cases if case.args[1:] == kind]
 
 
 def seen(library, operation, cases, rounds):

@@ -100,17 +100,40 @@ sub sign {
     return (outcome => 0, next_leaf => $leaf + 1, signature => uc unpack('H*', $signature));
 }
 
+# A cabinet's marks as 32 digits: digit i, from 0, is 1 where the leaf i below the highest was accepted.
+sub digits {
+    my ($marks) = @_;
+    return scalar reverse sprintf('%032b', $marks);
+}
+
+# A cabinet's highest leaf and marks with one leaf more accepted.
+sub with_leaf {
+    my ($highest, $marks, $leaf) = @_;
+    my $digits = digits($marks);
+    if (!$marks) {
+        ($highest, $digits) = ($leaf, '1' . '0' x 31);
+    } elsif ($leaf > $highest) {
+        # the marks move up, and those behind the last place fall away
+        $digits = substr('1' . '0' x ($leaf - $highest - 1) . $digits, 0, 32);
+        $highest = $leaf;
+    } else {
+        substr($digits, $highest - $leaf, 1, '1');
+    }
+    return (highest_leaf => $highest, marks => oct('0b' . reverse $digits));
+}
+
 # The cabinet.
 sub verify {
-    my ($l, $w, $s, $h, $seed, $root, $lowest, $text, $signature) = @_;
+    my ($l, $w, $s, $h, $seed, $root, $highest, $marks, $text, $signature) = @_;
     my $steps = 0;
-    my $refused = sub { (outcome => $_[0], lowest_leaf => $lowest, steps => $steps) };
+    my $refused = sub { (outcome => $_[0], highest_leaf => $highest, marks => $marks, steps => $steps) };
     return $refused->(16) if length $text < 1 || length $text > 200;
     return $refused->(13) if length $signature != 20 + 16 * $l + 16 * $h;
     my ($leaf, $r, @values) = unpack('N a16 (a16)*', $signature);
     my @siblings = splice @values, $l;
     return $refused->(11) if $leaf >= 2**$h;
-    return $refused->(14) if $leaf < $lowest;
+    my $below = $highest - $leaf;
+    return $refused->(14) if $marks && ($below >= 32 || $below >= 0 && substr(digits($marks), $below, 1));
     return $refused->(19) if count($l, $w, $s) < 256;
     my @row = row_of_order($l, $w, $s, $r, $seed, $root, $text);
     for my $c (0 .. $l - 1) {
@@ -125,7 +148,7 @@ sub verify {
         $node = tweaked_hash($seed, 2, 0, $k + 1, $leaf >> ($k + 1), $children);
     }
     return $refused->(15) if $node ne $root;
-    return (outcome => 0, lowest_leaf => $leaf + 1, steps => $steps);
+    return (outcome => 0, with_leaf($highest, $marks, $leaf), steps => $steps);
 }
 
 # The signature and the text of a sheet, or the number of the first wrong line. Slices were filled with A5 before.
@@ -170,7 +193,7 @@ sub answer {
     my ($seed, $secret, $root, $r, $text, $signature, $sheet) =
         map { pack('H*', $in->{$_} // '') } qw(public_seed secret_seed root r message signature sheet);
     return sign(@profile, $seed, $secret, $in->{next_leaf}, $r, $text) if $operation eq 'sign';
-    return verify(@profile, $seed, $root, $in->{lowest_leaf}, $text, $signature) if $operation eq 'verify';
+    return verify(@profile, $seed, $root, @$in{'highest_leaf', 'marks'}, $text, $signature) if $operation eq 'verify';
     return read_sheet(@profile, $sheet, @$in{'signature_len', 'message_len'}) if $operation eq 'read_sheet';
     return (outcome => 0, root => uc unpack('H*', node(@profile[0, 1], $seed, $secret, $profile[3], 0)));
 }

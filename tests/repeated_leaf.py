@@ -141,7 +141,7 @@ def forgery():
     ]
     signature = bytes(4) + r + b"".join(values)
     work = [0] * table_length(p.l, p.s)
-    if signatures.check(Verifier(p, seed, root, 0), text, signature, work)[0] != 0:
+    if signatures.check(Verifier(p, seed, root, 0, 0), text, signature, work)[0] != 0:
         sys.exit("the forged order is not accepted")
     return tried
 

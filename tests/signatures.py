@@ -24,6 +24,8 @@ Profile = namedtuple("Profile", "l w s h")
 GATE = Profile(34, 16, 255, 10)
 # The smallest count of a profile that signs orders.
 LEAST_COUNT = 256
+# So many marks a cabinet has.
+WINDOW = 32
 ZERO = bytes(16)
 
 
@@ -200,7 +202,7 @@ def signature_of(p, seed, secret, leaf, r, number):
 
 
 SigningKey = namedtuple("SigningKey", "profile seed secret next")
-Verifier = namedtuple("Verifier", "profile seed root lowest")
+Verifier = namedtuple("Verifier", "profile seed root highest marks")
 
 
 def text_cause(text):
@@ -226,9 +228,30 @@ def issue(key, r, text, work, out):
     return 0, key._replace(next=leaf + 1), written, with_table(p, work)
 
 
+def accepted_leaves(highest, marks):
+    """What the marks say: mark i, that the leaf i below the highest was accepted. A mark may name a
+    number below 0, which no leaf has, and is a mark all the same."""
+    return {highest - i for i in range(WINDOW) if marks >> i & 1}
+
+
+def is_passed(highest, marks, leaf):
+    """Whether 14 refuses a leaf: one 32 or more below the highest, or one already accepted. With no
+    mark set any is taken."""
+    accepted = accepted_leaves(highest, marks)
+    return bool(accepted) and (highest - leaf >= WINDOW or leaf in accepted)
+
+
+def with_leaf(highest, marks, leaf):
+    """The highest leaf and the marks once this leaf is accepted too."""
+    accepted = accepted_leaves(highest, marks)
+    highest = max(highest, leaf) if accepted else leaf
+    accepted.add(leaf)
+    return highest, sum(2**i for i in range(WINDOW) if highest - i in accepted)
+
+
 def check(verifier, text, signature, work):
     """The outcome, the cabinet, the steps, the work slice."""
-    p, seed, root, lowest = verifier
+    p, seed, root, *window = verifier
     leaf = int.from_bytes(signature[:4], "big")
     refused = first_cause(
         table_causes(p, work)
@@ -236,7 +259,7 @@ def check(verifier, text, signature, work):
         + [
             (13, lambda: len(signature) != signature_length(p)),
             (11, lambda: leaf >= 2**p.h),
-            (14, lambda: leaf < lowest),
+            (14, lambda: is_passed(*window, leaf)),
         ]
     )
     if refused:
@@ -249,4 +272,4 @@ def check(verifier, text, signature, work):
     key, steps = recovered(p, seed, leaf, number, signature[20:end])
     if climb_path(seed, leaf, key, pieces(signature[end:])) != root:
         return 15, verifier, steps, with_table(p, work)
-    return 0, verifier._replace(lowest=leaf + 1), steps, with_table(p, work)
+    return 0, Verifier(p, seed, root, *with_leaf(*window, leaf)), steps, with_table(p, work)

@@ -23,7 +23,7 @@ from signatures import GATE, LEAST_COUNT, Profile, count_of, signature_length
 from zarosnik import number_words, table_length
 
 PAINTS = (0xA5, 0x5A)
-ARGUMENTS = 14
+ARGUMENTS = 15
 # The most steps; the most of an order, and of one with a number of 128 bits; the largest count; the
 # largest table of an order; the largest table.
 SUMS = (0, 2, 133, 300, 598, 600)
@@ -80,9 +80,11 @@ class Caller:
         self.memory |= {name: octets(bytes(32)) for name in ("secret_seed", "key")}
 
     def arguments(self, operation):
-        """Every call begins with the last leaf left to sign with, and every leaf still taken."""
+        """Every call begins with the last leaf left to sign with, and with a cabinet that has
+        accepted the leaf before it: the last one moves its marks."""
         last = (1 << self.p.h) - 1
-        self.memory |= {"next_leaf": words([last]), "lowest_leaf": words([0])}
+        self.memory |= {"next_leaf": words([last]), "marks": words([1])}
+        self.memory["highest_leaf"] = words([last - 1])
         values = {**self.p._asdict(), "leaf": last}
         for parameter in PROTOTYPES[operation].split():
             name = parameter.removeprefix("&").removesuffix("[]")

@@ -253,20 +253,21 @@ def hold_order(library):
     made = equal("zarosnik_sign", (outcome, next_leaf[0]), (0, SIGNED_LEAF + 1))
     siblings = bytes(signature)[-16 * p.h :].hex()
     made += equal("siblings of zarosnik_sign", siblings, SIBLINGS)
-    lowest, steps = words([0]), words([0])
+    highest, marks, steps = words([0]), words([0]), words([0])
     root = memory(bytes.fromhex(ROOTS[1][2]))
     outcome = library.call(
         "verify",
         *p,
         seed_memory(FIRST)[0],
         root,
-        lowest,
+        highest,
+        marks,
         *lent(text),
         *lent(signature),
         *lent(table),
         steps,
     )
-    return made + equal("zarosnik_verify", (outcome, lowest[0]), (0, SIGNED_LEAF + 1))
+    return made + equal("zarosnik_verify", (outcome, highest[0], marks[0]), (0, SIGNED_LEAF, 1))
 
 
 def lines_of_values():

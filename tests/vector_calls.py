@@ -155,14 +155,18 @@ def sign_vector(note, key, r, text, words, size):
     return vector("sign", note, given, outcome, left), after, written
 
 
+def window_of(cabinet):
+    return {"highest_leaf": cabinet.highest, "marks": cabinet.marks}
+
+
 def verify_vector(note, cabinet, text, signature, words):
     """The vector, the cabinet handed back."""
     work = [FILL_WORD] * words
     outcome, after, steps, table = signatures.check(cabinet, text, signature, work)
     given = {**cabinet.profile._asdict(), "public_seed": hexed(cabinet.seed)}
-    given |= {"root": hexed(cabinet.root), "lowest_leaf": cabinet.lowest, "message": hexed(text)}
+    given |= {"root": hexed(cabinet.root), **window_of(cabinet), "message": hexed(text)}
     given |= {"signature": hexed(signature), "table_len": words}
-    left = {"lowest_leaf": after.lowest, "table": words_left(work, table), "steps": steps}
+    left = {**window_of(after), "table": words_left(work, table), "steps": steps}
     return vector("verify", note, given, outcome, left), after
 
 

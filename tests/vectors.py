@@ -30,7 +30,7 @@ from vector_refusals import CUT
 from zarosnik import filled, number_words
 
 PAGE = FOLDER.parent / "docs" / "INTERFACE.md"
-WORDS = ("next_leaf", "lowest_leaf", "steps", "line", "order", "looked")
+WORDS = ("next_leaf", "highest_leaf", "marks", "steps", "line", "order", "looked")
 NUMBERS = ("number", "first", "second")
 BY_VALUE = ("l", "w", "s", "h", "leaf")
 

@@ -21,6 +21,7 @@ from signatures import (
     recovered,
     root_of,
     signature_of,
+    with_leaf,
 )
 from zarosnik import MOST_BITS, first_bits, first_cause, number_bits, table_length, ways
 
@@ -37,6 +38,20 @@ def content(given, name, most=MOST_SIGNATURE):
 
 def put(given, name, data):
     ctypes.memmove(given[name], data, len(data))
+
+
+def leaf_of(given):
+    return int.from_bytes(content(given, "signature")[:4], "big")
+
+
+def window_of(given):
+    """The highest leaf and the marks that the memory of a check has."""
+    return tuple(given.words(name)[0] for name in STATES["verify"])
+
+
+def put_window(given, window):
+    for name, number in zip(STATES["verify"], window, strict=True):
+        given.words(name)[0] = number
 
 
 def profile_of(given):
@@ -72,7 +87,7 @@ def judge(given, rule):
     """The refusal of a signature by a rule, or 0, and the steps."""
     p, signature = profile_of(given), content(given, "signature")
     seed, root = content(given, "public_seed"), content(given, "root")
-    leaf, end = int.from_bytes(signature[:4], "big"), 20 + 16 * p.l
+    leaf, end = leaf_of(given), 20 + 16 * p.l
     digest = order_digest(signature[4:20], seed, root, content(given, "message"))
     refused, number = rule(count_of(p), digest)
     if refused:
@@ -85,16 +100,16 @@ def verify_by(*rules):
     """Check by a rule; by several, what the first says that takes the order, else the last."""
 
     def wrong(right, given):
-        lowest = given.words("lowest_leaf")[0]
+        window = window_of(given)
         outcome = right(*given.values.values())
         if outcome not in JUDGED:
             return outcome
         for rule in rules:
             refused, given.words("steps")[0] = judge(given, rule)
             if not refused:
-                lowest = int.from_bytes(content(given, "signature")[:4], "big") + 1
+                window = with_leaf(*window, leaf_of(given))
                 break
-        given.words("lowest_leaf")[0] = lowest
+        put_window(given, window)
         return refused
 
     return wrong
@@ -230,10 +245,10 @@ def leaf_used_up(right, given):
     return outcome
 
 
-def leaf_passed(right, given):
+def leaf_marked(right, given):
     outcome = right(*given.values.values())
     if outcome == 19:
-        given.words("lowest_leaf")[0] = int.from_bytes(content(given, "signature")[:4], "big") + 1
+        put_window(given, with_leaf(*window_of(given), leaf_of(given)))
     return outcome
 
 
@@ -255,7 +270,7 @@ def wrong_refusals(operation):
         yield "a leaf used up by 19", leaf_used_up
     else:
         yield "15 before 19", root_judged_first
-        yield "a leaf passed by 19", leaf_passed
+        yield "a leaf marked by 19", leaf_marked
         yield "steps told after 19", steps_told
         yield "either rule", verify_by(by_number(right_number), by_number(earlier_number))
 
