@@ -14,8 +14,8 @@ past the named length of each slice, numbers compared in each order after each c
 words below being alike or in either order, orders signed and taken at every height of the tree and,
 by tests/shapes.py, with every number of bits from 8 to 128, at the nearest counts on both sides of
 each power of two, both shapes of 255 being refused; orders of earlier days, taken where numbers
-have 128 bits as then, and refused where they have fewer; and, by tests/windows.py, each way in which
-a leaf can stand to the highest leaf and the marks, taken or refused by 14.
+have 128 bits as then, and refused where they have fewer; and, by tests/windows.py, each way in
+which a leaf can stand to the highest leaf and the marks, taken or refused by 14.
 """
 
 import itertools

@@ -1,6 +1,7 @@
 """Test vectors of whole orders: a key signs and a cabinet checks, and what a call hands back goes
 to the next. Orders that are taken; replays; changed texts, signatures, seeds and roots; spent keys;
-numbers of few bits, of many and of 128; counts that are too small; orders of earlier days.
+numbers of few bits, of many and of 128; counts that are too small; orders of earlier days; orders
+that arrive out of order, and every way in which a leaf can stand to a cabinet.
 
 Each call is said to have an outcome, to which what the implementation answers is held.
 """
@@ -9,6 +10,7 @@ import itertools
 
 import shapes
 import signatures
+import windows
 from sheets import right_sheet
 from signatures import (
     GATE,
@@ -56,7 +58,7 @@ class Story:
         self.p = p
         self.key = SigningKey(p, SEED, secret, 0)
         self.root = root_of(p, SEED, secret)
-        self.cabinet = Verifier(p, SEED, self.root, 0)
+        self.cabinet = Verifier(p, SEED, self.root, 0, 0)
         self.words = table_length(p.l, p.s)
         self.vectors = [root_vector("the root that the cabinet holds", p, SEED, secret)]
 
@@ -78,7 +80,7 @@ class Story:
 
     def judge(self, note, order, outcome=15, **other):
         """A check by a cabinet that is fresh but for what is named. The story's cabinet stays."""
-        cabinet = self.cabinet._replace(**{"lowest": 0, **other})
+        cabinet = self.cabinet._replace(**{"highest": 0, "marks": 0, **other})
         self.add(verify_vector(note, cabinet, *order, self.words)[0], outcome)
 
     def damage(self, order):
@@ -135,9 +137,10 @@ def gate_story():
     story.verify("the first order again: a replay", first, 14)
     story.verify("the second order", second)
     story.verify("the last leaf: leaves may be skipped", last)
-    story.verify("a leaf that was skipped is passed", third, 14)
-    story.judge("the same order, before it was passed", third, 0)
-    story.judge("the lowest leaf still taken", last, 0, lowest=1023)
+    story.verify("a leaf that was skipped, and is one below the highest", third)
+    story.verify("the same order again: a replay", third, 14)
+    story.verify("the second order again, now far below the highest", second, 14)
+    story.judge("14: the last leaf is the highest and marked", last, 14, highest=1023, marks=1)
     story.judge("the text of the C example, changed", (OTHER_ORDER, first[1]))
     story.judge("the text of another order", (first[0], second[1]))
     story.damage(first)
@@ -198,7 +201,7 @@ def scant_story(shape):
     signature = signature_of(p, SEED, SECRET, 1, R, number)
     story.verify("19: a number of 7 bits leads to the root", (ORDER, signature), 19)
     story.verify("19: it does not lead to the root", (ORDER, flipped(signature, -1)), 19)
-    story.cabinet = story.cabinet._replace(lowest=2)
+    story.cabinet = story.cabinet._replace(highest=1, marks=1)
     story.verify("the leaf is passed", (ORDER, signature), 14)
     return story.vectors
 
@@ -254,6 +257,107 @@ def full_story(p, name):
     return story.vectors
 
 
+# The shape of few steps with the least count that signs, under a tree of 128 leaves.
+WINDOW_PROFILE = Profile(7, 3, 5, 7)
+# Leaves in the order of their arrival by two routes, with what is answered and why.
+ARRIVALS = [
+    (31, 0, "the first to arrive, though not the first signed"),
+    (0, 0, "31 below the highest"),
+    (0, 14, "a replay"),
+    (30, 0, "one below the highest"),
+    (32, 0, "one above the highest: the mark of leaf 0 falls away"),
+    (0, 14, "32 below the highest now"),
+    (31, 14, "a replay of what was the highest"),
+    (1, 0, "31 below the highest"),
+    (63, 0, "31 above the highest"),
+    (31, 14, "32 below the highest, and accepted before"),
+    (33, 0, "30 below the highest"),
+    (32, 14, "31 below the highest, and accepted before"),
+    (95, 0, "32 above the highest: all other marks fall away"),
+    (63, 14, "32 below the highest"),
+    (64, 0, "31 below the highest"),
+    (127, 0, "32 above the highest"),
+    (95, 14, "32 below the highest"),
+    (126, 0, "one below the highest"),
+]
+
+
+def window_orders(story):
+    """An order for each leaf that arrives, signed in the order of the leaves."""
+    for leaf in sorted({leaf for leaf, _, _ in ARRIVALS}):
+        story.key = story.key._replace(next=leaf)
+        text = f"order {leaf} by two routes".encode()
+        yield leaf, story.sign(f"leaf {leaf}", text, derived(f"two routes {leaf}"))
+
+
+def arrivals_story():
+    """Each check goes on with the cabinet that the one before left."""
+    story = Story(WINDOW_PROFILE, derived("two routes"))
+    orders = dict(window_orders(story))
+    for leaf, outcome, note in ARRIVALS:
+        story.verify(f"leaf {leaf}, {note}", orders[leaf], outcome)
+    other = orders[126][0], orders[64][1]
+    story.verify("leaf 64 with another text, too far below: 14 and not 15", other, 14)
+    return story.vectors
+
+
+# A leaf that is above the highest, or is marked, has some of the distances here, and any other leaf
+# every one.
+SOME_DISTANCES = (0, 1, 2, 3, 8, 15, 16, 24, 30, 31, 32, 33, windows.FAR)
+WINDOW_KINDS = [
+    ((name, span), answer)
+    for (name, span), answer in windows.KINDS
+    if name not in ("above", "not above, marked") or span[0] in SOME_DISTANCES
+]
+SOME_MARKS = 0b1010_0100_1001_0010_1100_1011_0111_0101
+
+
+def window_for(name, distance, leaf):
+    """A highest leaf and marks to which the leaf stands so."""
+    highest = leaf - distance if name.endswith("above") else leaf + distance
+    marks = {
+        "not above, not marked": windows.ALL_MARKS & ~(2**distance),
+        "not above, marked": 2**distance,
+    }
+    return highest, 0 if name.startswith(windows.NO_MARK) else marks.get(name, SOME_MARKS)
+
+
+# The leaf, the highest, the marks and the answer.
+ODD_STATES = [
+    (7, 0, 0, 0),
+    (64, windows.MOST_WORD, 0, 0),
+    (64, windows.MOST_WORD, 1, 14),
+    (64, windows.MOST_WORD, windows.ALL_MARKS, 14),
+    (64, 60, windows.ALL_MARKS, 0),
+    (64, 60, 2, 0),
+    (64, 60, windows.LAST_MARK, 0),
+    (64, 95, windows.LAST_MARK, 14),
+    (7, 9, 2**20, 0),
+    (7, 7, windows.LAST_MARK, 0),
+    (7, 5, 2**20 + 1, 0),
+    (7, 9, 2**20 + 4, 14),
+    (0, 0, 2, 0),
+]
+
+
+def windows_story():
+    """Checks by cabinets of any highest leaf and marks: every distance, and odd states."""
+    story = Story(WINDOW_PROFILE, derived("two routes"))
+    orders = {}
+    for leaf in (0, 7, 64):
+        story.key = story.key._replace(next=leaf)
+        orders[leaf] = story.sign(f"leaf {leaf}", ORDER, derived(f"window {leaf}"))
+    for (name, span), answer in WINDOW_KINDS:
+        if span:
+            highest, marks = window_for(name, span[0], 64)
+            note = f"{answer}: {name}, distance {span[0]}"
+            story.judge(note, orders[64], answer, highest=highest, marks=marks)
+    for leaf, highest, marks, answer in ODD_STATES:
+        note = f"{answer} to leaf {leaf}: {'; '.join(windows.odd(highest, marks))}"
+        story.judge(note, orders[leaf], answer, highest=highest, marks=marks)
+    return story.vectors
+
+
 def orders_family():
     yield from gate_story()
     yield from worked_story()
@@ -264,6 +368,8 @@ def orders_family():
         yield from scant_story(shape)
     for p in [*EARLIER, GATE]:
         yield from earlier_story(p)
+    yield from arrivals_story()
+    yield from windows_story()
     yield from full_story(Profile(*GATE_SHAPE, 0), "one leaf")
     yield from full_story(Profile(40, 11, 200, 1), "narrow")
     yield from full_story(Profile(40, 16, 300, 2), "longest")

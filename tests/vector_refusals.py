@@ -144,7 +144,8 @@ class Refused:
         signature = (leaf.to_bytes(4, "big") + signed[4:] + bytes(self.signature_size))[:size]
         if 15 in self.causes:
             signature = flipped(signature, -1)
-        cabinet = Verifier(self.p, SEED, root, leaf + (14 in self.causes))
+        # the leaf below it was accepted; where the leaf is passed, it itself too
+        cabinet = Verifier(self.p, SEED, root, leaf, 2 + (14 in self.causes))
         return verify_vector(self.note, cabinet, self.text(), signature, self.words)[0]
 
     def read_sheet(self):
@@ -186,15 +187,21 @@ def long_inputs():
     yield 16, sign_vector("16: a text of 201 bytes", key, R, text, words, size)[0]
     key = key._replace(next=PAST_WORD - 1)
     yield 12, sign_vector("12: the highest next leaf", key, R, ORDER, words, size)[0]
-    cabinet = Verifier(p, SEED, root_of(p, SEED, SECRET), PAST_WORD - 1)
+    cabinet = Verifier(p, SEED, root_of(p, SEED, SECRET), PAST_WORD - 1, PAST_WORD - 1)
     signature = bytes(4) + derived("signature", size - 3)
     for cause, note, order in [
         (16, "16: a text of 201 bytes", (text, signature[:-1])),
         (13, "13: a byte too many", (ORDER, signature)),
         (13, "13: no signature", (ORDER, b"")),
-        (14, "14: the highest lowest leaf", (ORDER, signature[:-1])),
+        (14, "14: the largest highest leaf, all marks", (ORDER, signature[:-1])),
     ]:
         yield cause, verify_vector(note, cabinet, *order, words)[0]
+    for note, window in [
+        ("14: 32 below the highest", (32, 1)),
+        ("14: 31 below the highest and marked", (31, PAST_WORD // 2)),
+    ]:
+        cabinet = Verifier(p, SEED, cabinet.root, *window)
+        yield 14, verify_vector(note, cabinet, ORDER, signature[:-1], words)[0]
 
 
 def refusals_family():

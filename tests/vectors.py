@@ -6,7 +6,8 @@ programs link, and compares the answer, the states and all memory lent.
 
 Fails where a call differs, and where something has no vector: a family, an operation granted, a
 refusal that docs/INTERFACE.md lists for an operation, a kind of numbers compared, a count at which
-orders must be signed and checked, or a number of a profile that would be the gate's if it were cut.
+orders must be signed and checked, a way in which a leaf can stand to a cabinet's highest leaf and
+marks, or a number of a profile that would be the gate's if it were cut.
 The vectors themselves are held to the independent implementation by tests/make_vectors.py, the
 page's worked values by tests/worked_order.py.
 """
@@ -19,13 +20,14 @@ from collections import Counter
 
 import comparisons
 import shapes
+import windows
 from archived import archive_of, archive_parser, shared_object
 from header import NO_REFUSALS
 from interface_calls import PROTOTYPES, STATES, Call, load
 from interface_memory import Memory, words_memory
 from make_vectors import FAMILIES, FOLDER
 from vector_calls import FILL, FILL_WORD
-from vector_orders import order_shapes
+from vector_orders import WINDOW_KINDS, order_shapes
 from vector_refusals import CUT
 from zarosnik import filled, number_words
 
@@ -128,6 +130,16 @@ def listed_refusals():
     return {operation: list(map(int, re.findall(r"\d+", listed))) for operation, listed in rows}
 
 
+def window_kinds(vectors):
+    """How leaves stand to cabinets by which they are taken or passed."""
+    for vector in vectors:
+        given, outcome = vector["in"], vector["out"]["outcome"]
+        if vector["operation"] == "verify" and outcome in (0, 14):
+            leaf = int(given["signature"][:8], 16)
+            for kind in windows.kinds(given["highest_leaf"], given["marks"], leaf):
+                yield kind, outcome
+
+
 def missing(vectors):
     """In lines: what has no vector."""
     outcomes = {(vector["operation"], vector["out"]["outcome"]) for vector in vectors}
@@ -151,6 +163,8 @@ def missing(vectors):
         }
         for answer in shapes.missing_answers(order_shapes() + shapes.nearly_signing(), met):
             yield f"no vector: {operation} answers {answer}"
+    for kind in windows.missing_kinds(set(window_kinds(vectors)), WINDOW_KINDS):
+        yield f"no vector: verify answers {kind}"
     compared = [vector["in"] for vector in vectors if vector["operation"] == "compare"]
     numbers = [(int(given["first"], 16), int(given["second"], 16)) for given in compared]
     for kind in comparisons.missing_kinds({comparisons.kind(*pair) for pair in numbers}):

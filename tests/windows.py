@@ -1,5 +1,5 @@
-"""How a leaf stands to a cabinet's highest leaf and marks: the kinds that must come up, each with its
-answer where nothing but 14 may refuse the order, and a draw in which all do.
+"""How a leaf stands to a cabinet's highest leaf and marks: the kinds that must come up, each with
+its answer where nothing but 14 may refuse the order, and a draw in which all do.
 
 Most kinds are a stand, with spans of the distance between the leaf and the highest. The others are
 odd states. Most of these no list of checks from fresh leads to; they are taken as they are.
@@ -86,9 +86,9 @@ def told(kind):
     return f"{name}, distance {low}{more}"
 
 
-def missing_kinds(met):
-    """In words, for each kind that is not among these with its answer."""
-    for kind, answer in KINDS:
+def missing_kinds(met, wanted=KINDS):
+    """In words, for each kind that is not among those met with its answer."""
+    for kind, answer in wanted:
         if (kind, answer) not in met:
             yield f"{answer} to a leaf and a cabinet: {told(kind)}"
 
@@ -101,7 +101,8 @@ def any_marks(pick):
     """Few, any, or nearly all: a single one is seen to be there, and to be missing."""
     one, other = (2 ** pick.randrange(WINDOW) for _ in range(2))
     few = [1, LAST_MARK, one, one | other, 1 | one]
-    return pick.choice([*few, ALL_MARKS, ALL_MARKS - one, ALL_MARKS - 1, pick.randrange(1, 2**WINDOW)])
+    many = [ALL_MARKS, ALL_MARKS - one, ALL_MARKS - 1]
+    return pick.choice([*few, *many, pick.randrange(1, 2**WINDOW)])
 
 
 def any_state(pick, leaf):
@@ -140,8 +141,8 @@ TRIES = 50
 
 
 def state_of(pick, kind, answer, leaf):
-    """A state that is of this kind for the leaf and has this answer, or None if none is found: there
-    may be none for this leaf."""
+    """A state that is of this kind for the leaf and has this answer, or None if none is found:
+    there may be none for this leaf."""
     name, span = kind
     for _ in range(TRIES):
         state = standing(pick, name, span, leaf) if span else odd_state(pick, name, leaf)

@@ -1,6 +1,6 @@
-"""Check made wrong in its highest leaf and marks, for tests/interface_mutants.py: by another rule for
-14 or for what an acceptance leaves, with 14 told out of its turn, and by the right rule but for one
-kind of tests/windows.py.
+"""Check made wrong in its highest leaf and marks, for tests/interface_mutants.py: by another rule
+for 14 or for what an acceptance leaves, with 14 told out of its turn, and by the right rule but for
+one kind of tests/windows.py.
 
 A rule says, from the highest leaf, the marks and a leaf, whether the leaf is passed, and gives the
 highest leaf and the marks that are left where it is accepted.
@@ -53,8 +53,8 @@ def seeing(seen):
 
 
 def leaving(kind, left):
-    """Something else is left where there is no mark, where the leaf is above the highest, or where it
-    is not: by the highest leaf, the marks and how far the leaf is above or below."""
+    """Something else is left where there is no mark, where the leaf is above the highest, or where
+    it is not: by the highest leaf, the marks and how far the leaf is above or below."""
 
     def rule(highest, marks, leaf):
         passed, after = right_rule(highest, marks, leaf)
@@ -118,7 +118,9 @@ def passing_rules():
     yield "a difference that wraps", passing(
         lambda below, m: m > 0 and (below % 2**32 >= WINDOW or bit(m, below))
     )
-    yield "too far below with no mark set", passing(lambda below, m: below >= WINDOW or bit(m, below))
+    yield "too far below with no mark set", passing(
+        lambda below, m: below >= WINDOW or bit(m, below)
+    )
     yield "none below taken with no mark set", passing(
         lambda below, m: below >= WINDOW or bit(m, below) if m else below > 0
     )
@@ -253,7 +255,7 @@ def right_window():
 
 
 def wrong_windows():
-    """What is wrong, the wrong Check, and the kind and answer for which alone it is wrong, or None."""
+    """What is wrong, the wrong Check, and the kind and answer at which alone it is wrong, or None."""
     for what, rule in rules():
         yield what, verify_by_window(rule), None
     yield "marked by 15", verify_by_window(right_rule, marking=(0, 15)), None
