@@ -328,6 +328,9 @@ ODD_STATES = [
     (64, windows.MOST_WORD, 0, 0),
     (64, windows.MOST_WORD, 1, 14),
     (64, windows.MOST_WORD, windows.ALL_MARKS, 14),
+    (64, 60 + 2**8, 1, 14),
+    (64, 60 + 2**16, 1, 14),
+    (64, 60 + 2**31, 1, 14),
     (64, 60, windows.ALL_MARKS, 0),
     (64, 60, 2, 0),
     (64, 60, windows.LAST_MARK, 0),
@@ -353,7 +356,8 @@ def windows_story():
             note = f"{answer}: {name}, distance {span[0]}"
             story.judge(note, orders[64], answer, highest=highest, marks=marks)
     for leaf, highest, marks, answer in ODD_STATES:
-        note = f"{answer} to leaf {leaf}: {'; '.join(windows.odd(highest, marks))}"
+        names = windows.odd(highest, marks) + windows.cut(highest, marks, leaf)
+        note = f"{answer} to leaf {leaf}: {'; '.join(names)}"
         story.judge(note, orders[leaf], answer, highest=highest, marks=marks)
     return story.vectors
 

@@ -1,8 +1,9 @@
 """How a leaf stands to a cabinet's highest leaf and marks: the kinds that must come up, each with
 its answer where nothing but 14 may refuse the order, and a draw in which all do.
 
-Most kinds are a stand, with spans of the distance between the leaf and the highest. The others are
-odd states. Most of these no list of checks from fresh leads to; they are taken as they are.
+Most kinds are a stand, with spans of the distance between the leaf and the highest. Others are odd
+states, most of which no list of checks from fresh leads to: they are taken as they are. The last are
+highest leaves so high that all is passed, unless they are cut.
 """
 
 from signatures import WINDOW, is_passed
@@ -39,9 +40,11 @@ ODD = {
     "the highest is 2^32 - 1, no mark set": [0],
     "the highest is 2^32 - 1, a mark set": [14],
 }
+CUTS = {f"the highest would take it if cut to {bits} bits": bits for bits in (8, 16, 31)}
 # Pairs: a kind and an answer.
 KINDS = [((name, span), answer) for name, (answer, spans) in STANDS.items() for span in spans]
 KINDS += [((name, None), answer) for name, answers in ODD.items() for answer in answers]
+KINDS += [((name, None), 14) for name in CUTS]
 
 
 def stand(highest, marks, leaf):
@@ -73,8 +76,15 @@ def odd(highest, marks):
     return [name for name, holds in found.items() if holds]
 
 
+def cut(highest, marks, leaf):
+    passed = is_passed(highest, marks, leaf)
+    takes = {name: not is_passed(highest % 2**bits, marks, leaf) for name, bits in CUTS.items()}
+    return [name for name in CUTS if passed and takes[name]]
+
+
 def kinds(highest, marks, leaf):
-    return {stand(highest, marks, leaf)} | {(name, None) for name in odd(highest, marks)}
+    names = odd(highest, marks) + cut(highest, marks, leaf)
+    return {stand(highest, marks, leaf)} | {(name, None) for name in names}
 
 
 def told(kind):
@@ -128,6 +138,9 @@ def standing(pick, name, span, leaf):
 def odd_state(pick, name, leaf):
     """A state of this kind, or one that may be."""
     highest, marks = any_state(pick, leaf)
+    if name in CUTS:
+        by = 2 ** CUTS[name]
+        return highest % by + by * pick.choice([1, pick.randrange(1, 2**32 // by)]), marks
     if name == "no mark but such that name no leaf":
         highest = pick.randrange(WINDOW - 1)
         return highest, marks >> highest + 1 << highest + 1
