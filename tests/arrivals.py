@@ -1,0 +1,459 @@
+"""Holds the library to what document 02 says in point 4 of whole lists of checks: one fresh key's
+issued orders, by two routes, at a cabinet that starts fresh and goes from check to check.
+
+    python3 tests/arrivals.py --archive FILE    the library in this archive, some seconds
+    python3 tests/arrivals.py                   proves the library and writes the archive first
+
+All orders are signed and checked through C, and the cabinet is the two words that the library hands
+back. Beside it stands the set of the leaves accepted so far, and what must be answered and left is
+taken from that set by the document's words: 14 means a leaf 32 or more below the highest accepted,
+or one already accepted. The rule of tests/signatures.py must say the same, and is asked alone where
+a cabinet is handed in that no list of checks leads to.
+
+- In arrival orders in which each order comes before any leaf 32 or more above it, all are accepted,
+  whatever refused checks come between.
+- In other arrival orders just those are refused which come too late, by 14.
+- No leaf is accepted twice: each order accepted is sent again at once, later and at the end.
+- From a cabinet with one leaf, every distance up and down.
+- Any highest leaf and any marks, of each kind of tests/windows.py.
+
+Every check must report l (w - 1) - s steps where it is accepted or refused by 15, and 0 otherwise.
+Fails too where one of these has not come up.
+"""
+
+import ctypes
+import itertools
+import random
+import sys
+import tempfile
+from collections import Counter
+
+import windows
+from archived import archive_of, archive_parser, shared_object
+from interface_calls import load
+from signatures import (
+    Profile,
+    is_passed,
+    message_number,
+    root_of,
+    signature_length,
+    with_leaf,
+)
+from zarosnik import table_length
+
+# Marks of a cabinet, by the document. The rule is written here once more, so this is no import.
+MARKS = 32
+# Few steps and trees that are cheap to sign under; of 128 and of 256 leaves.
+PROFILES = [Profile(7, 3, 5, 7), Profile(10, 4, 15, 8)]
+# A count below 256, which 19 refuses. Table and signature are no longer than those above.
+SCANT = Profile(5, 5, 7, 7)
+# What stands in an answer before the call.
+STALE = 0xA5A5A5A5
+# How many arrival orders of each drawn kind, and cabinets, for each profile.
+DRAWN_ORDERS = 10
+DRAWN_STATES = 1000
+# From here on distances are far.
+FAR = MARKS + 2
+
+
+def hold(holds, what):
+    if not holds:
+        sys.exit(f"tests/arrivals.py: {what}")
+
+
+def octets(data):
+    return (ctypes.c_uint8 * len(data)).from_buffer_copy(data)
+
+
+class Accepted:
+    """The leaves accepted so far, and what the document says of them."""
+
+    def __init__(self):
+        self.leaves = set()
+
+    def highest(self):
+        return max(self.leaves, default=0)
+
+    def passes(self, leaf):
+        """14 now means a leaf 32 or more below the highest, or one already accepted; with no mark
+        set any leaf is taken."""
+        if not self.leaves:
+            return False
+        return leaf + MARKS <= self.highest() or leaf in self.leaves
+
+    def words(self):
+        """The highest accepted leaf, and mark i where the leaf i below it was accepted."""
+        below = [self.highest() - leaf for leaf in self.leaves]
+        return self.highest(), sum(2**i for i in below if i < MARKS)
+
+
+class Order:
+    """One that was issued, or that is sent to be refused."""
+
+    def __init__(self, text, signature):
+        self.text, self.signature = text, signature
+        self.leaf = int.from_bytes(signature[:4], "big")
+
+
+class Key:
+    """A fresh key of a profile, all of whose orders are signed through C, in turn."""
+
+    def __init__(self, library, pick, p):
+        self.library, self.p = library, p
+        self.seed, self.secret = pick.randbytes(16), pick.randbytes(16)
+        self.root = root_of(p, self.seed, self.secret)
+        self.steps = p.l * (p.w - 1) - p.s
+        self.table = (ctypes.c_uint32 * table_length(p.l, p.s))()
+        self.orders, next_leaf = [], ctypes.c_uint32(0)
+        for leaf in range(2**p.h):
+            self.orders.append(self.sign(pick, next_leaf))
+            found = self.orders[-1].leaf, next_leaf.value
+            hold(found == (leaf, leaf + 1), f"leaf and next leaf {found} for order {leaf} at {p}")
+
+    def sign(self, pick, next_leaf):
+        text, r = pick.randbytes(pick.randrange(1, 40)), pick.randbytes(16)
+        signature = (ctypes.c_uint8 * signature_length(self.p))()
+        outcome = self.library.zarosnik_sign(
+            *self.p,
+            octets(self.seed),
+            octets(self.secret),
+            ctypes.addressof(next_leaf),
+            octets(r),
+            octets(text),
+            len(text),
+            self.table,
+            len(self.table),
+            signature,
+            len(signature),
+        )
+        hold(outcome == 0, f"an order is refused by {outcome} at {self.p}")
+        return Order(text, bytes(signature))
+
+    def other_text(self, pick, order):
+        """A text that has another number under this signature, so leads to another root."""
+        number = self.number(order.signature, order.text)
+        while True:
+            text = pick.randbytes(pick.randrange(1, 40))
+            if self.number(order.signature, text) != number:
+                return text
+
+    def number(self, signature, text):
+        return message_number(self.p, signature[4:20], self.seed, self.root, text)
+
+
+class Cabinet:
+    """Two words that the library changes; fresh at first."""
+
+    def __init__(self, key, highest=0, marks=0):
+        self.key = key
+        self.highest, self.marks = ctypes.c_uint32(highest), ctypes.c_uint32(marks)
+
+    def words(self):
+        return self.highest.value, self.marks.value
+
+    def check(self, order, p=None, root=None, short=0):
+        """The outcome and the steps."""
+        key, steps = self.key, ctypes.c_uint32(STALE)
+        outcome = key.library.zarosnik_verify(
+            *(p or key.p),
+            octets(key.seed),
+            octets(root or key.root),
+            ctypes.addressof(self.highest),
+            ctypes.addressof(self.marks),
+            octets(order.text),
+            len(order.text),
+            octets(order.signature),
+            len(order.signature),
+            key.table,
+            len(key.table) - short,
+            ctypes.addressof(steps),
+        )
+        return outcome, steps.value
+
+
+class Run:
+    """A fresh cabinet, and the set beside it. Counts what comes up."""
+
+    def __init__(self, pick, key, met):
+        self.pick, self.key, self.met = pick, key, met
+        self.cabinet, self.accepted = Cabinet(key), Accepted()
+
+    def expect(self, what, outcome, order, **given):
+        """A check that must be answered so; after it the cabinet must be as the set says."""
+        found = self.cabinet.check(order, **given)
+        if outcome == 0:
+            self.accepted.leaves.add(order.leaf)
+        told = f"{what}, leaf {order.leaf} at {self.key.p}, accepted {sorted(self.accepted.leaves)}"
+        wanted = outcome, self.key.steps if outcome in (0, 15) else 0
+        hold(found == wanted, f"{told}: outcome and steps {found}, not {wanted}")
+        left, words = self.cabinet.words(), self.accepted.words()
+        hold(left == words, f"{told}: highest leaf and marks {left}, not {words}")
+        self.met[what, outcome] += 1
+
+    def arrive(self, what, order):
+        """An order as it was signed. Whether it is accepted."""
+        words, outcome = self.accepted.words(), 14 if self.accepted.passes(order.leaf) else 0
+        hold(is_passed(*words, order.leaf) == (outcome == 14), f"two rules, {words}, {order.leaf}")
+        if words[1]:
+            self.met[what, outcome, max(-FAR, min(order.leaf - words[0], FAR))] += 1
+        self.expect(what, outcome, order)
+        hold(outcome or with_leaf(*words, order.leaf) == self.accepted.words(), "two rules left")
+        return outcome == 0
+
+    def replay(self, what, leaf=None):
+        """An order that was accepted, of this leaf or of any."""
+        leaf = self.pick.choice(sorted(self.accepted.leaves)) if leaf is None else leaf
+        self.expect(what, 14, self.key.orders[leaf])
+
+    def disturb(self):
+        """A check of any order that must be refused, with something else wrong or not."""
+        pick, key = self.pick, self.key
+        p, order = key.p, pick.choice(key.orders)
+        judged, counted = (14, 14) if self.accepted.passes(order.leaf) else (15, 19)
+        text, signature = order.text, order.signature
+        past = pick.choice([2**p.h, 2**32 - 1, pick.randrange(2**p.h, 2**32)])
+        scant = SCANT._replace(h=p.h)
+        checks = {
+            "another text": (judged, Order(key.other_text(pick, order), signature), {}),
+            "another value": (judged, Order(text, damaged(pick, signature)), {}),
+            "another root": (judged, order, {"root": pick.randbytes(16)}),
+            "few rows": (counted, Order(text, signature[: signature_length(scant)]), {"p": scant}),
+            "a short work slice": (5, order, {"short": 1}),
+            "no text": (16, Order(b"", signature), {}),
+            "a long text": (16, Order(bytes(201), signature), {}),
+            "a short signature": (13, Order(text, signature[:-1]), {}),
+            "a long signature": (13, Order(text, signature + b"\0"), {}),
+            "no such leaf": (11, Order(text, past.to_bytes(4, "big") + signature[4:]), {}),
+            "too many chains": (1, order, {"p": p._replace(l=41)}),
+            "too wide": (2, order, {"p": p._replace(w=17)}),
+            "too large a sum": (3, order, {"p": p._replace(s=p.l * (p.w - 1) + 1)}),
+            "too high a tree": (4, order, {"p": p._replace(h=11)}),
+        }
+        what = pick.choice(list(checks))
+        outcome, given, other = checks[what]
+        self.expect(what, outcome, given, **other)
+
+
+DISTURBED = {
+    **dict.fromkeys(["another text", "another value", "another root"], (14, 15)),
+    **{"few rows": (14, 19), "a short work slice": (5,), "no such leaf": (11,)},
+    **dict.fromkeys(["no text", "a long text"], (16,)),
+    **dict.fromkeys(["a short signature", "a long signature"], (13,)),
+    **{"too many chains": (1,), "too wide": (2,), "too large a sum": (3,), "too high a tree": (4,)},
+}
+
+
+def damaged(pick, signature):
+    """A bit of a value or of a sibling is another."""
+    at = pick.randrange(20, len(signature))
+    return signature[:at] + bytes([signature[at] ^ 1 << pick.randrange(8)]) + signature[at + 1 :]
+
+
+# Arrival orders. Each is made by choosing the next leaf among those that wait and are less than some
+# reach above the lowest of them: with a reach of 32 these are all the orders in which each leaf comes
+# before any that is 32 or more above it.
+
+
+def arriving(count, reach, choose):
+    waiting = list(range(count))
+    while waiting:
+        leaf = choose([leaf for leaf in waiting[:reach] if leaf < waiting[0] + reach])
+        waiting.remove(leaf)
+        yield leaf
+
+
+def comes_in_time(leaves):
+    """The sentence itself: each comes before any leaf 32 or more above it."""
+    return all(
+        above < leaf + MARKS for place, leaf in enumerate(leaves) for above in leaves[:place]
+    )
+
+
+def last_then_others(reach):
+    """The farthest that may come, then those below it: 31, 0 to 30, 63, 32 to 62, .."""
+    return lambda leaves: leaves[-1] if len(leaves) == reach else leaves[0]
+
+
+def turn_about():
+    """The farthest, the lowest, the farthest, ..: each low one comes as late as it may."""
+    places = itertools.cycle([-1, 0])
+    return lambda leaves: leaves[next(places)]
+
+
+def bursts(pick):
+    """Runs of leaves one above the other, from anywhere."""
+    last = [None]
+
+    def choose(leaves):
+        on = last[0] + 1 if last[0] is not None else None
+        last[0] = on if on in leaves and pick.random() < 0.8 else pick.choice(leaves)
+        return last[0]
+
+    return choose
+
+
+def mixed(pick, reach):
+    """Now one way, now another."""
+    ways = [pick.choice, lambda leaves: leaves[0], lambda leaves: leaves[-1], bursts(pick)]
+    ways += [last_then_others(reach), turn_about()]
+    way = [pick.choice(ways)]
+
+    def choose(leaves):
+        if pick.random() < 0.1:
+            way[0] = pick.choice(ways)
+        return way[0](leaves)
+
+    return choose
+
+
+def two_routes(pick, count, most):
+    """One route is slower than the other, by so many orders at most."""
+    slow = pick.randrange(most + 1)
+    times = [leaf + pick.choice([0, slow, pick.randrange(most + 1)]) for leaf in range(count)]
+    return sorted(range(count), key=lambda leaf: (times[leaf], pick.random()))
+
+
+def orders_in_time(pick, count):
+    for choose in (lambda leaves: leaves[0], lambda leaves: leaves[-1], pick.choice):
+        yield list(arriving(count, MARKS, choose))
+    for choose in (last_then_others(MARKS), turn_about(), bursts(pick)):
+        yield list(arriving(count, MARKS, choose))
+    for _ in range(DRAWN_ORDERS):
+        yield list(arriving(count, MARKS, mixed(pick, MARKS)))
+        yield two_routes(pick, count, MARKS - 1)
+
+
+def orders_too_late(pick, count):
+    yield list(range(count))[::-1]
+    for reach in (MARKS + 1, MARKS + 2, 2 * MARKS, count):
+        for choose in (last_then_others(reach), turn_about(), lambda leaves: leaves[-1]):
+            yield list(arriving(count, reach, choose))
+    for _ in range(DRAWN_ORDERS):
+        reach = pick.choice([MARKS + 1, MARKS + 8, 2 * MARKS, count])
+        yield list(arriving(count, reach, mixed(pick, reach)))
+        yield two_routes(pick, count, reach)
+        yield pick.sample(range(count), count)
+
+
+def receive(what, pick, key, leaves, met):
+    """All orders, with refused checks between, and each accepted one again: at once, later and at
+    the end. Gives the leaves that were refused."""
+    run, refused = Run(pick, key, met), set()
+    for leaf in leaves:
+        while pick.random() < 0.3:
+            run.disturb()
+        highest = max(run.accepted.leaves, default=leaf)
+        if run.arrive(what, key.orders[leaf]):
+            run.replay("again at once", leaf)
+        else:
+            hold(highest >= leaf + MARKS, f"leaf {leaf} is refused below {highest}")
+            refused.add(leaf)
+        if pick.random() < 0.3:
+            run.replay("again later")
+    for leaf in sorted(run.accepted.leaves):
+        run.replay("again at the end", leaf)
+    hold(run.accepted.leaves | refused == set(leaves), "an order has not arrived")
+    return refused
+
+
+def receive_in_time(pick, key, met):
+    for leaves in orders_in_time(pick, len(key.orders)):
+        hold(comes_in_time(leaves), f"drawn otherwise: {leaves}")
+        refused = receive("in time", pick, key, leaves, met)
+        hold(not refused, f"refused at {key.p}: {sorted(refused)} of {leaves}")
+        met["lists in time"] += 1
+
+
+def receive_too_late(pick, key, met):
+    for leaves in orders_too_late(pick, len(key.orders)):
+        refused = receive("too late", pick, key, leaves, met)
+        hold(bool(refused) != comes_in_time(leaves), f"refused at {key.p}: {refused} of {leaves}")
+        met["lists too late" if refused else "lists in time after all"] += 1
+
+
+def receive_two(pick, key, met):
+    """Two orders, at every distance up and down, and both again."""
+    count = len(key.orders)
+    for away in range(1 - count, count):
+        first = pick.randrange(max(0, -away), min(count, count - away))
+        run = Run(pick, key, met)
+        run.arrive("two", key.orders[first])
+        run.arrive("two", key.orders[first + away])
+        for leaf in sorted(run.accepted.leaves):
+            run.replay("one of two again", leaf)
+
+
+def hand_in(pick, key, met, state, order):
+    """A cabinet as it comes: another text, the order, and the order again, by the rule of the
+    independent implementation."""
+    cabinet, leaf = Cabinet(key, *state), order.leaf
+    passed = is_passed(*state, leaf)
+    after = state if passed else with_leaf(*state, leaf)
+    checks = [
+        (Order(key.other_text(pick, order), order.signature), 14 if passed else 15, state),
+        (order, 14 if passed else 0, after),
+        (order, 14, after),
+    ]
+    for given, outcome, left in checks:
+        found = (*cabinet.check(given), *cabinet.words())
+        wanted = (outcome, key.steps if outcome in (0, 15) else 0, *left)
+        hold(found == wanted, f"leaf {leaf} with {state} at {key.p}: {found}, not {wanted}")
+    answer = 14 if passed else 0
+    met["handed in", answer] += 1
+    met.update(("handed in", kind, answer) for kind in windows.kinds(*state, leaf))
+
+
+def hand_in_states(pick, key, met):
+    for kind, answer in windows.KINDS:
+        state = None
+        while state is None:
+            order = pick.choice(key.orders)
+            state = windows.state_of(pick, kind, answer, order.leaf)
+        hand_in(pick, key, met, state, order)
+    for _ in range(DRAWN_STATES):
+        order = pick.choice(key.orders)
+        hand_in(pick, key, met, windows.any_state(pick, order.leaf), order)
+        any_words = pick.getrandbits(32), pick.getrandbits(32)
+        hand_in(pick, key, met, any_words, order)
+
+
+def missing(met):
+    """In words: what has not come up."""
+    aways = [("in time", 0, away) for away in [*range(1 - MARKS, 0), *range(1, MARKS + 1)]]
+    aways += [("too late", 0, away) for away in [*range(1 - MARKS, 0), *range(1, FAR + 1)]]
+    aways += [("too late", 14, away) for away in range(-FAR, 1 - MARKS)]
+    aways += [("two", 0, away) for away in [*range(1 - MARKS, 0), *range(1, FAR + 1)]]
+    aways += [("two", 14, away) for away in [*range(-FAR, 1 - MARKS), 0]]
+    wanted = [*aways, "lists in time", "lists too late"]
+    wanted += [(what, outcome) for what, told in DISTURBED.items() for outcome in told]
+    wanted += [(f"again {when}", 14) for when in ("at once", "later", "at the end")]
+    wanted += [("one of two again", 14), ("handed in", 0), ("handed in", 14)]
+    wanted += [("handed in", kind, answer) for kind, answer in windows.KINDS]
+    return [kind for kind in wanted if not met[kind]]
+
+
+def main():
+    archive = archive_of(archive_parser("Holds lists of checks to point 4.").parse_args())
+    pick, met = random.Random("arrivals"), Counter()
+    with tempfile.TemporaryDirectory() as folder:
+        library = load(shared_object(archive, folder))
+        for p in PROFILES:
+            key = Key(library, pick, p)
+            for part in (receive_in_time, receive_too_late, receive_two, hand_in_states):
+                part(pick, key, met)
+            met["orders"] += len(key.orders)
+    lacking = missing(met)
+    hold(not lacking, f"has not come up: {lacking}")
+    accepted, late = met["in time", 0], met["too late", 14]
+    disturbed = sum(met[what, told] for what, outcomes in DISTURBED.items() for told in outcomes)
+    again = sum(met[f"again {when}", 14] for when in ("at once", "later", "at the end"))
+    print(
+        f"tests/arrivals.py: {met['orders']} orders; {met['lists in time']} arrival orders in time,"
+        f" all {accepted} accepted; {met['lists too late']} others, {late} too late and refused by"
+        f" 14, {met['too late', 0]} accepted; {again} replays and {disturbed} other checks refused,"
+        f" which change nothing; {met['handed in', 0] + met['handed in', 14]} cabinets handed in"
+    )
+
+
+if __name__ == "__main__":
+    main()
