@@ -31,14 +31,7 @@ from collections import Counter
 import windows
 from archived import archive_of, archive_parser, shared_object
 from interface_calls import load
-from signatures import (
-    Profile,
-    is_passed,
-    message_number,
-    root_of,
-    signature_length,
-    with_leaf,
-)
+from signatures import Profile, is_passed, message_number, root_of, signature_length, with_leaf
 from zarosnik import table_length
 
 # Marks of a cabinet, by the document. The rule is written here once more, so this is no import.
@@ -83,8 +76,8 @@ class Accepted:
 
     def words(self):
         """The highest accepted leaf, and mark i where the leaf i below it was accepted."""
-        below = [self.highest() - leaf for leaf in self.leaves]
-        return self.highest(), sum(2**i for i in below if i < MARKS)
+        highest = self.highest()
+        return highest, sum(2**i for i in range(MARKS) if highest - i in self.leaves)
 
 
 class Order:
@@ -183,11 +176,13 @@ class Run:
         found = self.cabinet.check(order, **given)
         if outcome == 0:
             self.accepted.leaves.add(order.leaf)
-        told = f"{what}, leaf {order.leaf} at {self.key.p}, accepted {sorted(self.accepted.leaves)}"
-        wanted = outcome, self.key.steps if outcome in (0, 15) else 0
-        hold(found == wanted, f"{told}: outcome and steps {found}, not {wanted}")
-        left, words = self.cabinet.words(), self.accepted.words()
-        hold(left == words, f"{told}: highest leaf and marks {left}, not {words}")
+        found = (*found, *self.cabinet.words())
+        steps = self.key.steps if outcome in (0, 15) else 0
+        wanted = (outcome, steps, *self.accepted.words())
+        if found != wanted:
+            order_told = f"{what}, leaf {order.leaf} at {self.key.p}"
+            accepted = f"accepted {sorted(self.accepted.leaves)}"
+            hold(False, f"{order_told}, {accepted}: {found}, not {wanted}")
         self.met[what, outcome] += 1
 
     def arrive(self, what, order):
@@ -249,9 +244,9 @@ def damaged(pick, signature):
     return signature[:at] + bytes([signature[at] ^ 1 << pick.randrange(8)]) + signature[at + 1 :]
 
 
-# Arrival orders. Each is made by choosing the next leaf among those that wait and are less than some
-# reach above the lowest of them: with a reach of 32 these are all the orders in which each leaf comes
-# before any that is 32 or more above it.
+# Arrival orders. Each is made by choosing the next leaf among those that wait and are less than a
+# reach above the lowest of them: with a reach of 32 these are all the orders in which each leaf
+# comes before any that is 32 or more above it.
 
 
 def arriving(count, reach, choose):
@@ -272,6 +267,16 @@ def comes_in_time(leaves):
 def last_then_others(reach):
     """The farthest that may come, then those below it: 31, 0 to 30, 63, 32 to 62, .."""
     return lambda leaves: leaves[-1] if len(leaves) == reach else leaves[0]
+
+
+def jumps(count, reach):
+    """Where all below has come, up by 1, then by 2, .. by the reach; then what was left out. So
+    many arrival orders that each jump is made."""
+    ups = itertools.cycle(range(reach))
+    for _ in range(2 + sum(range(reach + 1)) // count):
+        yield list(
+            arriving(count, reach, lambda leaves: leaves[next(ups) if len(leaves) == reach else 0])
+        )
 
 
 def turn_about():
@@ -318,6 +323,7 @@ def orders_in_time(pick, count):
         yield list(arriving(count, MARKS, choose))
     for choose in (last_then_others(MARKS), turn_about(), bursts(pick)):
         yield list(arriving(count, MARKS, choose))
+    yield from jumps(count, MARKS)
     for _ in range(DRAWN_ORDERS):
         yield list(arriving(count, MARKS, mixed(pick, MARKS)))
         yield two_routes(pick, count, MARKS - 1)
@@ -328,6 +334,7 @@ def orders_too_late(pick, count):
     for reach in (MARKS + 1, MARKS + 2, 2 * MARKS, count):
         for choose in (last_then_others(reach), turn_about(), lambda leaves: leaves[-1]):
             yield list(arriving(count, reach, choose))
+    yield from jumps(count, FAR)
     for _ in range(DRAWN_ORDERS):
         reach = pick.choice([MARKS + 1, MARKS + 8, 2 * MARKS, count])
         yield list(arriving(count, reach, mixed(pick, reach)))

@@ -80,11 +80,10 @@ class Caller:
         self.memory |= {name: octets(bytes(32)) for name in ("secret_seed", "key")}
 
     def arguments(self, operation):
-        """Every call begins with the last leaf left to sign with, and with a cabinet that has
-        accepted the leaf before it: the last one moves its marks."""
+        """Every call begins with the last leaf left to sign with, and every leaf still taken: the
+        one mark set names no leaf, and is there to be moved."""
         last = (1 << self.p.h) - 1
-        self.memory |= {"next_leaf": words([last]), "marks": words([1])}
-        self.memory["highest_leaf"] = words([last - 1])
+        self.memory |= {"next_leaf": words([last]), "highest_leaf": words([0]), "marks": words([2])}
         values = {**self.p._asdict(), "leaf": last}
         for parameter in PROTOTYPES[operation].split():
             name = parameter.removeprefix("&").removesuffix("[]")

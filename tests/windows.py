@@ -2,8 +2,8 @@
 its answer where nothing but 14 may refuse the order, and a draw in which all do.
 
 Most kinds are a stand, with spans of the distance between the leaf and the highest. Others are odd
-states, most of which no list of checks from fresh leads to: they are taken as they are. The last are
-highest leaves so high that all is passed, unless they are cut.
+states, most of which no list of checks from fresh leads to: they are taken as they are. The last
+are highest leaves so high that all is passed, unless they are cut.
 """
 
 from signatures import WINDOW, is_passed

@@ -255,7 +255,7 @@ def right_window():
 
 
 def wrong_windows():
-    """What is wrong, the wrong Check, and the kind and answer at which alone it is wrong, or None."""
+    """What is wrong, the wrong Check, and the kind and answer for which alone, or None."""
     for what, rule in rules():
         yield what, verify_by_window(rule), None
     yield "marked by 15", verify_by_window(right_rule, marking=(0, 15)), None
