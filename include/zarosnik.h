@@ -25,7 +25,7 @@
  *   - An answer (digest, number, order, looked, key, root, steps, message_written, line) is written by every call: the
  *     value where granted, zero where refused. Two differ: steps of zarosnik_verify after 15, line of
  *     zarosnik_read_sheet after 17.
- *   - A state (next_leaf, lowest_leaf) changes only where the call is granted.
+ *   - A state (next_leaf; highest_leaf and marks) changes only where the call is granted.
  *   - A lent slice (table, row, values, signature, message) is untouched by a refusal, except that 7, 15 and 19 leave
  *     the table of counts in the work slice `table`, as every granted call with a work slice does. What lies past the
  *     length that is named with the function never changes.
@@ -35,8 +35,11 @@
  *   - A key is a profile, two seeds and its next leaf, 0 for a fresh key. Store next_leaf after zarosnik_sign and
  *     before the signature is handed out: a key restored from an older copy would use a leaf twice, and two orders
  *     signed with one leaf may let others be forged.
- *   - A cabinet is a profile, the public seed, the root and the lowest leaf it still takes, 0 for a fresh one. Store
- *     lowest_leaf before the order is carried out: a cabinet restored from an older copy would take an order again.
+ *   - A cabinet is a profile, the public seed, the root, the highest leaf that it has accepted and 32 marks, which say
+ *     of that leaf and of the 31 below it whether each was accepted; both are 0 for a fresh one. Store highest_leaf and
+ *     marks after zarosnik_verify and before the order is carried out: a cabinet restored from an older copy would take
+ *     an order again. Store them as one write: one old and one new word may do the same, or refuse an order that never
+ *     came.
  *   - The library draws no random numbers. The secret seed is 16 random bytes known to the key's holder alone; R is
  *     16 fresh random bytes for each order.
  *   - A profile whose count is below 2^128 is for trials: its orders' numbers have fewer than 128 bits, and another
@@ -61,11 +64,11 @@
  *   PATCH   one more with every other release: a program only needs to be linked again.
  */
 #define ZAROSNIK_VERSION_MAJOR 0
-#define ZAROSNIK_VERSION_MINOR 2
+#define ZAROSNIK_VERSION_MINOR 3
 #define ZAROSNIK_VERSION_PATCH 0
 #define ZAROSNIK_VERSION \
     (ZAROSNIK_VERSION_MAJOR * 1000000 + ZAROSNIK_VERSION_MINOR * 1000 + ZAROSNIK_VERSION_PATCH)
-#define ZAROSNIK_VERSION_STRING "0.2.0"
+#define ZAROSNIK_VERSION_STRING "0.3.0"
 
 /* The compiler warns where the outcome of a call is not looked at: an order must not be carried out, nor a signature
  * handed out, without it. */
@@ -377,28 +380,36 @@ uint32_t zarosnik_sign(uint32_t l, uint32_t w, uint32_t s, uint32_t h,
 
 /*
  * Check: judges the signature of an order text. The order's number is that of zarosnik_sign, from the signature's R and
- * the cabinet's public seed and root.
+ * the cabinet's public seed and root. Orders may come in another order than they were issued in: from a fresh cabinet
+ * on, each leaf is taken at most once, and only as long as no leaf 32 or more above it was taken.
  *
  *   l, w, s, h                 in: the cabinet's profile
  *   public_seed                in: the cabinet's public seed
  *   root                       in: the cabinet's root, from zarosnik_root
- *   lowest_leaf                state: the lowest leaf that the cabinet still takes, any value
+ *   highest_leaf               state: the highest leaf that the cabinet has accepted, any value
+ *   marks                      state: bit i, of the value 2^i, says that the leaf i below highest_leaf was accepted.
+ *                              Any value: each bit counts as it stands, also where there is no such leaf
  *   message, message_len       in: the order text
  *   signature, signature_len   in: the signature, ZAROSNIK_SIGNATURE_BYTES(l, h) bytes
  *   table, table_len           work slice of at least ZAROSNIK_TABLE_WORDS(l, s) words
  *   steps                      answer: the chain steps made, ZAROSNIK_STEPS(l, w, s) where granted and for 15, else 0
  *
  * Refusals: 1, 2, 3, 4; 5 work slice too short; 16 text empty or over 200 bytes; 13 signature_len other than
- * 20 + 16 * l + 16 * h; 11 the signature's leaf not below 2^h; 14 that leaf below lowest_leaf; 19 the profile's count
- * below 256, whatever text and signature; 15 the root recovered differs from root.
- * Granted: the order may be carried out. lowest_leaf is the signature's leaf + 1, and the table of counts stands in
- * table. Store lowest_leaf before the order is carried out.
- * Refused: lowest_leaf keeps its value. table is untouched, except that 15 and 19 leave the table of counts in it.
+ * 20 + 16 * l + 16 * h; 11 the signature's leaf not below 2^h; 14 marks is not 0, and that leaf is 32 or more below
+ * highest_leaf, or is not above it and bit highest_leaf - leaf of marks is set; 19 the profile's count below 256,
+ * whatever text and signature; 15 the root recovered differs from root.
+ * Granted: the order may be carried out, and the table of counts stands in table. Where marks was 0, highest_leaf is
+ * the signature's leaf, also where that is lower than before, and marks is 1. Else a leaf that is d above highest_leaf
+ * is the new highest_leaf, the bits of marks move up by d, those that reach 32 fall away, and bit 0 is set; for any
+ * other leaf highest_leaf stays, and bit highest_leaf - leaf of marks is set. Store both, as one write, before the
+ * order is carried out.
+ * Refused: highest_leaf and marks keep their values. table is untouched, except that 15 and 19 leave the table of
+ * counts in it.
  */
 ZAROSNIK_NODISCARD
 uint32_t zarosnik_verify(uint32_t l, uint32_t w, uint32_t s, uint32_t h,
                          const uint8_t public_seed[ZAROSNIK_HASH_BYTES],
-                         const uint8_t root[ZAROSNIK_HASH_BYTES], uint32_t *lowest_leaf,
+                         const uint8_t root[ZAROSNIK_HASH_BYTES], uint32_t *highest_leaf, uint32_t *marks,
                          const uint8_t *message, size_t message_len,
                          const uint8_t *signature, size_t signature_len,
                          uint32_t *table, size_t table_len, uint32_t *steps);

@@ -9,8 +9,8 @@
  *
  *   - Values (a profile, a number, seeds, a root, R) are passed by value: a compiler that only warns of a pointer to
  *     another struct refuses another struct itself. Answers, keys and cabinets are passed by pointer.
- *   - The state of a key and of a cabinet is a field of theirs. Only zarosnik_key_sign and zarosnik_cabinet_verify
- *     change it, and only where they are granted.
+ *   - The state of a key is a field of it, that of a cabinet two. Only zarosnik_key_sign and zarosnik_cabinet_verify
+ *     change them, and only where they are granted.
  *   - Nothing is allocated or kept. The bytes in storage and on the line are those of docs/INTERFACE.md and never these
  *     structs, whose layout is the compiler's.
  */
@@ -74,13 +74,14 @@ struct zarosnik_key {
     uint32_t next_leaf;
 };
 
-/* A cabinet. A copy of it would take an order a second time: check with one struct alone, and store lowest_leaf before
- * an order is carried out. */
+/* A cabinet. A copy of it would take an order a second time: check with one struct alone, and store highest_leaf and
+ * marks, as one write, before an order is carried out. */
 struct zarosnik_cabinet {
     struct zarosnik_profile profile;
     struct zarosnik_public_seed public_seed;
     struct zarosnik_tree_root root;
-    uint32_t lowest_leaf;
+    uint32_t highest_leaf;
+    uint32_t marks;
 };
 
 /* A fresh key, of which no leaf is used. One that has signed is given the next leaf that was stored. */
@@ -92,12 +93,12 @@ static inline struct zarosnik_key zarosnik_fresh_key(struct zarosnik_profile pro
     return key;
 }
 
-/* A fresh cabinet, which has taken no order. One that has is given the lowest leaf that was stored. */
+/* A fresh cabinet, which has taken no order. One that has is given the highest leaf and the marks that were stored. */
 static inline struct zarosnik_cabinet zarosnik_fresh_cabinet(struct zarosnik_profile profile,
                                                              struct zarosnik_public_seed public_seed,
                                                              struct zarosnik_tree_root root)
 {
-    struct zarosnik_cabinet cabinet = {profile, public_seed, root, 0};
+    struct zarosnik_cabinet cabinet = {profile, public_seed, root, 0, 0};
     return cabinet;
 }
 
@@ -195,15 +196,15 @@ static inline uint32_t zarosnik_key_sign(struct zarosnik_key *key, struct zarosn
                          signature, signature_len);
 }
 
-/* Check. Store cabinet->lowest_leaf before the order is carried out. */
+/* Check. Store cabinet->highest_leaf and cabinet->marks, as one write, before the order is carried out. */
 ZAROSNIK_NODISCARD
 static inline uint32_t zarosnik_cabinet_verify(struct zarosnik_cabinet *cabinet, const uint8_t *message,
                                                size_t message_len, const uint8_t *signature, size_t signature_len,
                                                uint32_t *table, size_t table_len, uint32_t *steps)
 {
     return zarosnik_verify(cabinet->profile.l, cabinet->profile.w, cabinet->profile.s, cabinet->profile.h,
-                           cabinet->public_seed.bytes, cabinet->root.bytes, &cabinet->lowest_leaf, message,
-                           message_len, signature, signature_len, table, table_len, steps);
+                           cabinet->public_seed.bytes, cabinet->root.bytes, &cabinet->highest_leaf, &cabinet->marks,
+                           message, message_len, signature, signature_len, table, table_len, steps);
 }
 
 #ifdef __cplusplus

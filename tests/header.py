@@ -42,7 +42,7 @@ NAMES = {
     "seed": "public_seed",
     "secret": "secret_seed",
     "next": "next_leaf",
-    "lowest": "lowest_leaf",
+    "highest": "highest_leaf",
     "written": "message_written",
 }
 NO_OUTCOME = "not an outcome of this library"
