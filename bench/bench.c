@@ -74,8 +74,8 @@ static void our_sign(void)
 
 static void our_verify(void)
 {
-    uint32_t lowest = 0;
-    ours.refused = zarosnik_verify(PROFILE, in.public_seed, in.root, &lowest, in.message, in.message_len,
+    uint32_t highest = 0, marks = 0; /* a fresh cabinet each time */
+    ours.refused = zarosnik_verify(PROFILE, in.public_seed, in.root, &highest, &marks, in.message, in.message_len,
                                    in.signature, ZAROSNIK_SIGNATURE_BYTES(in.p.l, in.p.h), TABLE, &ours.steps);
 }
 

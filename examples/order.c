@@ -1,6 +1,6 @@
 /*
- * A desk signs an order and a cabinet checks it, at the gate profile. Every value is compared with what is expected;
- * the exit status is 0 where all agree.
+ * A desk signs two orders, and a cabinet checks them as they arrive by two routes, the later one first, at the gate
+ * profile. Every value is compared with what is expected; the exit status is 0 where all agree.
  *
  * Seeds and R are fixed here so that every run prints the same. A desk draws its secret seed once and R for each order
  * at random.
@@ -18,12 +18,15 @@ static const struct zarosnik_secret_seed secret_seed = {{0xE0, 0xE1, 0xE2, 0xE3,
                                                          0xE8, 0xE9, 0xEA, 0xEB, 0xEC, 0xED, 0xEE, 0xEF}};
 static const struct zarosnik_randomizer r = {{0x71, 0x72, 0x73, 0x74, 0x75, 0x76, 0x77, 0x78,
                                               0x79, 0x7A, 0x7B, 0x7C, 0x7D, 0x7E, 0x7F, 0x80}};
+static const struct zarosnik_randomizer later_r = {{0x91, 0x92, 0x93, 0x94, 0x95, 0x96, 0x97, 0x98,
+                                                    0x99, 0x9A, 0x9B, 0x9C, 0x9D, 0x9E, 0x9F, 0xA0}};
 
 /* The root of these seeds, as the independent implementation in tests/ gives it. */
 static const struct zarosnik_tree_root expected_root = {{0x0B, 0xF8, 0x71, 0x2F, 0x91, 0x28, 0x4B, 0x04,
                                                          0x87, 0x40, 0x6F, 0x3D, 0x43, 0x24, 0x75, 0x07}};
 
 static const char order[] = "sill level 2.4 m until 18:00";
+static const char later_order[] = "sill level 2.1 m from 18:00 until 23:00";
 static const char other_order[] = "sill level 9.4 m until 18:00";
 
 static uint32_t table[ZAROSNIK_GATE_TABLE_WORDS];
@@ -38,18 +41,31 @@ static void expect(const char *name, uint32_t found, uint32_t expected)
     }
 }
 
+/* A desk signs a text; the outcome and the next leaf are printed and compared. */
+static void sign(const char *name, struct zarosnik_key *key, struct zarosnik_randomizer fresh, const char *text,
+                 uint8_t signature[ZAROSNIK_GATE_SIGNATURE_BYTES], uint32_t next_after)
+{
+    uint32_t found = zarosnik_key_sign(key, fresh, (const uint8_t *)text, strlen(text), table,
+                                       ZAROSNIK_GATE_TABLE_WORDS, signature, ZAROSNIK_GATE_SIGNATURE_BYTES);
+    printf("%s: %" PRIu32 " (%s), %u bytes, next leaf %" PRIu32 "\n", name, found, zarosnik_outcome_text(found),
+           ZAROSNIK_GATE_SIGNATURE_BYTES, key->next_leaf);
+    expect("outcome of sign", found, ZAROSNIK_GRANTED);
+    expect("next leaf", key->next_leaf, next_after);
+}
+
 /* A cabinet checks a text with a signature; the verdict, the steps and the cabinet's state are printed and compared. */
 static void check(const char *name, struct zarosnik_cabinet *cabinet, const char *text, const uint8_t *signature,
-                  uint32_t verdict, uint32_t steps, uint32_t lowest_after)
+                  uint32_t verdict, uint32_t steps, uint32_t highest_after, uint32_t marks_after)
 {
     uint32_t made;
     uint32_t found = zarosnik_cabinet_verify(cabinet, (const uint8_t *)text, strlen(text), signature,
                                              ZAROSNIK_GATE_SIGNATURE_BYTES, table, ZAROSNIK_GATE_TABLE_WORDS, &made);
-    printf("%s: %" PRIu32 " (%s), %" PRIu32 " steps, lowest leaf %" PRIu32 "\n", name, found,
-           zarosnik_outcome_text(found), made, cabinet->lowest_leaf);
+    printf("%s: %" PRIu32 " (%s), %" PRIu32 " steps, highest leaf %" PRIu32 ", marks 0x%08" PRIX32 "\n", name, found,
+           zarosnik_outcome_text(found), made, cabinet->highest_leaf, cabinet->marks);
     expect("verdict", found, verdict);
     expect("steps", made, steps);
-    expect("lowest leaf", cabinet->lowest_leaf, lowest_after);
+    expect("highest leaf", cabinet->highest_leaf, highest_after);
+    expect("marks", cabinet->marks, marks_after);
 }
 
 int main(void)
@@ -66,23 +82,23 @@ int main(void)
     expect("outcome of root", made_root, ZAROSNIK_GRANTED);
     expect("differing root", memcmp(root.bytes, expected_root.bytes, sizeof root.bytes) != 0, 0);
 
-    /* The desk signs. It stores key.next_leaf before it hands the signature out. */
+    /* The desk signs two orders, with the leaves 0 and 1. It stores key.next_leaf before it hands a signature out. */
     uint8_t signature[ZAROSNIK_GATE_SIGNATURE_BYTES];
-    uint32_t signed_order = zarosnik_key_sign(&key, r, (const uint8_t *)order, strlen(order), table,
-                                              ZAROSNIK_GATE_TABLE_WORDS, signature, sizeof signature);
-    printf("sign: %" PRIu32 " (%s), %zu bytes, next leaf %" PRIu32 "\n", signed_order,
-           zarosnik_outcome_text(signed_order), sizeof signature, key.next_leaf);
-    expect("outcome of sign", signed_order, ZAROSNIK_GRANTED);
-    expect("next leaf", key.next_leaf, 1);
+    uint8_t later_signature[ZAROSNIK_GATE_SIGNATURE_BYTES];
+    sign("sign", &key, r, order, signature, 1);
+    sign("sign the later", &key, later_r, later_order, later_signature, 2);
 
-    /* The cabinet checks. It stores cabinet.lowest_leaf before it moves the gate. */
+    /* The later order comes by radio, before the other by cable, and both are taken, each once. Mark 0 is that of the
+     * highest leaf, 1, and mark 1 that of the leaf below it. The cabinet stores highest_leaf and marks, as one write,
+     * before it moves the gate. */
     struct zarosnik_cabinet cabinet = zarosnik_fresh_cabinet(zarosnik_gate_profile, public_seed, root);
-    check("verify", &cabinet, order, signature, ZAROSNIK_GRANTED, ZAROSNIK_GATE_STEPS, 1);
-    check("replay", &cabinet, order, signature, ZAROSNIK_REFUSED_LEAF_PASSED, 0, 1);
+    check("later, by radio", &cabinet, later_order, later_signature, ZAROSNIK_GRANTED, ZAROSNIK_GATE_STEPS, 1, 0x1);
+    check("first, by cable", &cabinet, order, signature, ZAROSNIK_GRANTED, ZAROSNIK_GATE_STEPS, 1, 0x3);
+    check("replay", &cabinet, order, signature, ZAROSNIK_REFUSED_LEAF_PASSED, 0, 1, 0x3);
 
     /* A cabinet that would still take the leaf, so that the root decides. */
     struct zarosnik_cabinet other = zarosnik_fresh_cabinet(zarosnik_gate_profile, public_seed, root);
-    check("changed text", &other, other_order, signature, ZAROSNIK_REFUSED_ROOT_DIFFERS, ZAROSNIK_GATE_STEPS, 0);
+    check("changed text", &other, other_order, signature, ZAROSNIK_REFUSED_ROOT_DIFFERS, ZAROSNIK_GATE_STEPS, 0, 0);
 
     return differences == 0 ? EXIT_SUCCESS : EXIT_FAILURE;
 }

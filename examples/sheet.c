@@ -6,8 +6,8 @@
  *
  * The exit status is the number of the outcome, 0 where the order is taken, and 100 where the file cannot be read.
  *
- * The cabinet starts fresh with each run. One that moves a gate keeps its lowest leaf in storage, and stores it before
- * the order is carried out.
+ * The cabinet starts fresh with each run. One that moves a gate keeps its highest leaf and its marks in storage, and
+ * stores both, as one write, before the order is carried out.
  */
 #include <inttypes.h>
 #include <stdio.h>
