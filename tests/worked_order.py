@@ -1,9 +1,9 @@
 """The worked values of docs/INTERFACE.md: the small table of counts, a digest's number at several
-counts, and the worked order, from the implementation in this folder that is independent of the
-library.
+counts, the table of the window, and the worked order, from the implementation in this folder that is
+independent of the library.
 
-    python3 tests/worked_order.py           compares the page's blocks with these values
-    python3 tests/worked_order.py --print   prints the blocks, as they must stand in the page
+    python3 tests/worked_order.py           compares the page's blocks and that table with these values
+    python3 tests/worked_order.py --print   prints them, as they must stand in the page
 """
 
 import argparse
@@ -44,6 +44,29 @@ COUNTS = (3, 3, 3)
 # The worked order's digest gives a number at each of these: the largest count that is refused, the
 # least that is not, one with a bit more, one with a bit less than 128, and the gate's.
 BITS = [(5, 5, 7), (7, 3, 5), (6, 4, 9), (34, 16, 204), GATE_SHAPE]
+# The window: a cabinet's highest leaf and marks, where they are not those that the row above left; an
+# order's leaf; and what it shows. The orders are signed at a profile whose tree has leaves enough.
+WINDOW = "The window"
+WINDOW_PROFILE = Profile(7, 3, 5, 7)
+WINDOW_ROWS = [
+    ((0, 0), 5, "fresh: any leaf is taken"),
+    (None, 6, "1 above"),
+    (None, 37, "31 above: mark 0 moves to 31, and mark 1 falls away"),
+    (None, 6, "31 below, accepted before"),
+    (None, 5, "32 below: passed, though its mark fell away"),
+    (None, 30, "7 below, not accepted before"),
+    (None, 30, "replay of that order"),
+    (None, 37, "replay of the highest"),
+    (None, 69, "32 above: all marks fall away"),
+    (None, 38, "31 below, not accepted before: the lowest leaf still taken"),
+    (None, 36, "33 below: passed, though never accepted"),
+    ((69, 0), 3, "no mark set: any leaf is taken, and is the highest"),
+    ((3, 1 << 31), 2, "mark 31 names no leaf and is a mark; mark 0 is not set"),
+]
+WINDOW_HEAD = [
+    "| Highest, marks | Leaf | Check | Highest, marks after | Shows |",
+    "|---|--:|--:|---|---|",
+]
 # Bytes of a long value that stand in one line.
 LINE_BYTES = 32
 
@@ -87,6 +110,23 @@ def bits_block(root):
         bits, shape = number_bits(count), f"l = {l}, w = {w}, s = {s}: count {count}"
         number = f"b = {bits}, message number {first_bits(digest, bits):X}"
         yield f"{shape}, {number if count >= LEAST_COUNT else 'refused by 19'}"
+
+
+def state(cabinet):
+    return f"{cabinet.highest}, 0x{cabinet.marks:08X}"
+
+
+def window_table():
+    """A row's order is checked by the cabinet as a whole, so that 14 and no other cause refuses it."""
+    p = WINDOW_PROFILE
+    work, out = [0] * table_length(p.l, p.s), bytes(signature_length(p))
+    yield from WINDOW_HEAD
+    after = Verifier(p, SEED, root_of(p, SEED, SECRET), 0, 0)
+    for words, leaf, shows in WINDOW_ROWS:
+        before = after if words is None else after._replace(highest=words[0], marks=words[1])
+        signature = issue(SigningKey(p, SEED, SECRET, leaf), R, ORDER, work, out)[2]
+        outcome, after, _, _ = check(before, ORDER, signature, work)
+        yield f"| {state(before)} | {leaf} | {outcome} | {state(after)} | {shows} |"
 
 
 def digest_block(root):
@@ -135,12 +175,13 @@ def leaf_block():
 
 
 def verdict_block(root, signature):
-    cabinet = Verifier(WORKED, SEED, root, 0)
+    cabinet = Verifier(WORKED, SEED, root, 0, 0)
     work = [0] * table_length(WORKED.l, WORKED.s)
     outcome, after, steps, _ = check(cabinet, ORDER, signature, work)
     yield f"verdict = {outcome}"
     yield f"chain steps = {steps}"
-    yield f"lowest leaf = {after.lowest}"
+    yield f"highest leaf = {after.highest}"
+    yield f"marks = 0x{after.marks:08X}"
 
 
 def blocks():
@@ -152,6 +193,7 @@ def blocks():
     sheet = right_sheet(WORKED, signature, ORDER).decode().splitlines()
     yield "Counts and rows", list(counts_block())
     yield "Digest and message number", list(bits_block(root))
+    yield WINDOW, list(window_table())
     for block in [
         key_block(),
         tree_block(),
@@ -167,10 +209,17 @@ def blocks():
 
 
 def page_blocks(text):
-    """The blocks fenced as `values` under the headings above."""
+    """The blocks fenced as `values` under the headings above, and the table of the window."""
     wanted = {heading for heading, _ in blocks()}
     heading = block = None
+    table = []
     for line in text.splitlines():
+        if heading == WINDOW and line.startswith("|"):
+            table.append(line)
+            continue
+        if table:
+            yield heading, table
+            table = []
         if block is not None:
             if line == "```":
                 yield heading, block
@@ -199,7 +248,8 @@ def main():
     parser.add_argument("--print", action="store_true", help="print the blocks")
     if parser.parse_args().print:
         for heading, lines in blocks():
-            print("\n".join([f"[{heading}]", "```values", *lines, "```"]))
+            fenced = lines if heading == WINDOW else ["```values", *lines, "```"]
+            print("\n".join([f"[{heading}]", *fenced]))
         return
     wrong = list(differences(PAGE.read_text(encoding="utf-8")))
     for line in wrong:
