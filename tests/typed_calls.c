@@ -31,6 +31,16 @@ static void expect_bytes(const char *name, const void *found, const void *expect
     }
 }
 
+/* Both words of a cabinet's state. */
+static void expect_window(const char *when, const struct zarosnik_cabinet *cabinet, uint32_t highest, uint32_t marks)
+{
+    if (cabinet->highest_leaf != highest || cabinet->marks != marks) {
+        fprintf(stderr, "%s: highest leaf %" PRIu32 ", marks 0x%08" PRIX32 " instead of %" PRIu32 ", 0x%08" PRIX32 "\n",
+                when, cabinet->highest_leaf, cabinet->marks, highest, marks);
+        differences++;
+    }
+}
+
 static void rows(void)
 {
     struct zarosnik_number number;
@@ -134,13 +144,57 @@ static void verify(struct zarosnik_cabinet *cabinet)
     expect("verify another text",
            zarosnik_cabinet_verify(cabinet, text, text_len, signature, sizeof signature, table, TABLE_WORDS, &steps),
            ZAROSNIK_REFUSED_ROOT_DIFFERS);
-    expect("lowest leaf after a refusal", cabinet->lowest_leaf, 0);
+    expect_window("after a refusal, fresh", cabinet, 0, 0);
     text[0] ^= 1;
+    /* The order with the higher leaf comes first, then this one, then both again. */
+    expect("verify the later order",
+           zarosnik_cabinet_verify(cabinet, expected_later_text, sizeof expected_later_text, expected_later_signature,
+                                   sizeof expected_later_signature, table, TABLE_WORDS, &steps),
+           ZAROSNIK_GRANTED);
+    expect("steps of the later order", steps, EXPECTED_STEPS);
+    expect_window("after the later order", cabinet, EXPECTED_LATER_HIGHEST, EXPECTED_LATER_MARKS);
     expect("verify",
            zarosnik_cabinet_verify(cabinet, text, text_len, signature, sizeof signature, table, TABLE_WORDS, &steps),
            ZAROSNIK_GRANTED);
     expect("steps", steps, EXPECTED_STEPS);
-    expect("lowest leaf", cabinet->lowest_leaf, EXPECTED_NEXT + 1);
+    expect_window("after both", cabinet, EXPECTED_BOTH_HIGHEST, EXPECTED_BOTH_MARKS);
+    expect("verify again",
+           zarosnik_cabinet_verify(cabinet, text, text_len, signature, sizeof signature, table, TABLE_WORDS, &steps),
+           ZAROSNIK_REFUSED_LEAF_PASSED);
+    expect("steps of a replay", steps, 0);
+    expect("verify the later order again",
+           zarosnik_cabinet_verify(cabinet, expected_later_text, sizeof expected_later_text, expected_later_signature,
+                                   sizeof expected_later_signature, table, TABLE_WORDS, &steps),
+           ZAROSNIK_REFUSED_LEAF_PASSED);
+    expect_window("after both again", cabinet, EXPECTED_BOTH_HIGHEST, EXPECTED_BOTH_MARKS);
+}
+
+/* Words that no cabinet has that started fresh are taken as they stand, each in its own field, and a refusal leaves
+ * both. */
+static void verify_odd(struct zarosnik_public_seed public_seed, struct zarosnik_tree_root root)
+{
+    struct zarosnik_cabinet cabinet = zarosnik_fresh_cabinet(profile, public_seed, root);
+    uint32_t steps;
+    cabinet.highest_leaf = EXPECTED_ODD_HIGHEST;
+    cabinet.marks = EXPECTED_ODD_MARKS;
+    expect("verify no text",
+           zarosnik_cabinet_verify(&cabinet, expected_text, 0, expected_signature, sizeof expected_signature, table,
+                                   TABLE_WORDS, &steps),
+           ZAROSNIK_REFUSED_MESSAGE_LENGTH);
+    expect_window("odd words, after a refusal", &cabinet, EXPECTED_ODD_HIGHEST, EXPECTED_ODD_MARKS);
+    expect("verify with odd words",
+           zarosnik_cabinet_verify(&cabinet, expected_text, sizeof expected_text, expected_signature,
+                                   sizeof expected_signature, table, TABLE_WORDS, &steps),
+           EXPECTED_ODD_OUTCOME);
+    expect_window("odd words", &cabinet, EXPECTED_ODD_HIGHEST_AFTER, EXPECTED_ODD_MARKS_AFTER);
+    /* No mark set: any leaf is taken, below the highest too. */
+    cabinet.highest_leaf = EXPECTED_UNMARKED_HIGHEST;
+    cabinet.marks = 0;
+    expect("verify with no mark",
+           zarosnik_cabinet_verify(&cabinet, expected_text, sizeof expected_text, expected_signature,
+                                   sizeof expected_signature, table, TABLE_WORDS, &steps),
+           EXPECTED_UNMARKED_OUTCOME);
+    expect_window("no mark", &cabinet, EXPECTED_UNMARKED_HIGHEST_AFTER, EXPECTED_UNMARKED_MARKS_AFTER);
 }
 
 /* A profile whose count is too small for orders: key and cabinet come back as they were. */
@@ -163,7 +217,7 @@ static void few_rows(struct zarosnik_public_seed public_seed, struct zarosnik_se
            zarosnik_cabinet_verify(&cabinet, expected_text, sizeof expected_text, signature, sizeof signature, table,
                                    TABLE_WORDS, &steps),
            ZAROSNIK_REFUSED_COUNT_TOO_SMALL);
-    expect("lowest leaf with few rows", cabinet.lowest_leaf, 0);
+    expect_window("with few rows", &cabinet, 0, 0);
     expect("steps with few rows", steps, 0);
 }
 
@@ -180,13 +234,14 @@ int main(void)
     expect("root", zarosnik_key_root(&key, &root), ZAROSNIK_GRANTED);
     expect_bytes("root", root.bytes, expected_root, sizeof expected_root);
     struct zarosnik_cabinet cabinet = zarosnik_fresh_cabinet(profile, public_seed, root);
-    expect("fresh cabinet", cabinet.lowest_leaf, 0);
+    expect_window("fresh cabinet", &cabinet, 0, 0);
 
     rows();
     compare();
     leaves(&key);
     sign(&key);
     verify(&cabinet);
+    verify_odd(public_seed, root);
     few_rows(public_seed, secret_seed, root);
 
     /* The gate profile, and one outside the limits that a narrower type would cut to it. */
