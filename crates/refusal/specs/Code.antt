@@ -32,7 +32,7 @@ code LeafOutOfRange = 11
 code KeySpent = 12
 -- "13 values not 16 × l bytes", "13 signature not 20 + 16 × l + 16 × h bytes"
 code SignatureLength = 13
--- "14 leaf below the lowest still taken"
+-- document 02, point 4: "14 now means a leaf 32 or more below the highest, or one already accepted"
 code LeafPassed = 14
 -- "15 recovered root differs"
 code RootDiffers = 15
