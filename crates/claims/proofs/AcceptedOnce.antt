@@ -8,7 +8,6 @@ use lib.Dec.{eqb}
 use lib.ListN.{length}
 use Rattle.refusal.proofs.Causes.{none-here, none-of-append}
 use Rattle.profile.specs.Checks.{leafBeyond}
-use Rattle.profile.specs.declared.Profile.{Profile}
 use Rattle.counts.specs.Counts.{count}
 use Rattle.counts.specs.Table.{tableCauses}
 use Rattle.counts.proofs.Room.{table-numbered}

@@ -1,11 +1,11 @@
 -- The marks as bits of one number: those of marks moved up with mark 0 set, and those of marks to which one that is not set is added.
-use mathlib.Core.Path.{_≡_, refl, sym, ap, subst, _∙_}
-use mathlib.Core.Bool.{Bool, true, false}
+use mathlib.Core.Path.{_≡_, sym, ap, subst, _∙_}
+use mathlib.Core.Bool.{true, false}
 use mathlib.Core.Logic.{_⊎_, inl, inr}
 use Prim.Native.Nat.{ℕ, suc, _+_, _-_, _*_, _/_, _%_, _^_, _<_, _≤_}
-use native.Mathlib.Nat.{mul-assoc, mul-comm, pow-suc, add-div-right, add-mul-div-right, div-eq-of-lt, div-lt-iff-lt-mul, mul-mod-left}
+use native.Mathlib.Nat.{mul-assoc, add-div-right, add-mul-div-right, mul-mod-left}
 use native.Mathlib.Omega.{arith}
-use borrow.Author.Tests.{eq-eqb, ne-eqb, eqb-false}
+use borrow.Author.Tests.{eq-eqb, eqb-false}
 use lib.Dec.{eqb, lit<}
 use lib.Pow.{pow-pos, pow-add, shl-shr, shr-shr, field, mod-mod-pow}
 use Rattle.words.proofs.Numbers.{lt-or-le}
@@ -18,6 +18,12 @@ bit-low n s k h =
     subst (λ t. n % 2 ^ t / 2 ^ k % 2 ≡ n / 2 ^ k % 2) split
     (ap (λ x. x % 2) (field n (s - suc k + 1) k) ∙ mod-mod-pow (n / 2 ^ k) (s - suc k) 1)
 
+-- a power of two is an even multiple of every lower one
+even-multiple : (i j : ℕ) → i < j → 2 ^ j ≡ 2 ^ (j - suc i) * 2 * 2 ^ i
+even-multiple i j h =
+    let split : (j - suc i) + 1 + i ≡ j = omega arith in
+    subst (λ t. 2 ^ t ≡ 2 ^ (j - suc i) * 2 * 2 ^ i) split (pow-add 2 (j - suc i + 1) i ∙ ap (λ x. x * 2 ^ i) (pow-add 2 (j - suc i) 1))
+
 -- a number shifted up has its bits that much higher, and none below
 bit-up : (n up i : ℕ) → up ≤ i → n * 2 ^ up / 2 ^ i ≡ n / 2 ^ (i - up)
 bit-up n up i h =
@@ -26,11 +32,10 @@ bit-up n up i h =
 
 no-bit-under : (n up i : ℕ) → i < up → n * 2 ^ up / 2 ^ i % 2 ≡ 0
 no-bit-under n up i h =
-    let split : (up - suc i) + 1 + i ≡ up = omega arith in
-    let lower = n * 2 ^ (up - suc i) in
-    let doubled : n * 2 ^ (up - suc i + 1 + i) ≡ lower * 2 * 2 ^ i = ap (λ x. n * x) (pow-add 2 (up - suc i + 1) i ∙ ap (λ x. x * 2 ^ i) (pow-add 2 (up - suc i) 1)) ∙ sym (mul-assoc n (2 ^ (up - suc i) * 2) (2 ^ i)) ∙ ap (λ x. x * 2 ^ i) (sym (mul-assoc n (2 ^ (up - suc i)) 2)) in
-    let shifted : n * 2 ^ up / 2 ^ i ≡ lower * 2 = subst (λ t. n * 2 ^ t / 2 ^ i ≡ lower * 2) split (ap (λ x. x / 2 ^ i) doubled ∙ shl-shr (lower * 2) i) in
-    omega (arith, shifted)
+    let half = 2 ^ (up - suc i) in
+    let doubled : n * 2 ^ up ≡ n * half * 2 * 2 ^ i =
+    ap (λ x. n * x) (even-multiple i up h) ∙ sym (mul-assoc n (half * 2) (2 ^ i)) ∙ ap (λ x. x * 2 ^ i) (sym (mul-assoc n half 2)) in
+    omega (arith, ap (λ x. x / 2 ^ i) doubled ∙ shl-shr (n * half * 2) i)
 
 -- adding one to an even number changes only bit 0
 odd-above : (n k : ℕ) → n % 2 ≡ 0 → (n + 1) / 2 ^ (1 + k) ≡ n / 2 ^ (1 + k)
@@ -90,12 +95,7 @@ module _ (m j : ℕ) (free : marked m j ≡ false) where
       (sym (shr-shr (m + 2 ^ j) j (1 + (i - suc j))) ∙ ap (λ x. x / 2 ^ (1 + (i - suc j))) one-more ∙ odd-above (m / 2 ^ j) (i - suc j) even-there ∙ shr-shr m j (1 + (i - suc j)))
 
   under : (i : ℕ) → i < j → (m + 2 ^ j) / 2 ^ i % 2 ≡ m / 2 ^ i % 2
-  under i h =
-      let split : (j - suc i) + 1 + i ≡ j = omega arith in
-      let power : 2 ^ (j - suc i + 1 + i) ≡ 2 ^ (j - suc i) * 2 * 2 ^ i = pow-add 2 (j - suc i + 1) i ∙ ap (λ x. x * 2 ^ i) (pow-add 2 (j - suc i) 1) in
-      let quotient : (m + 2 ^ j) / 2 ^ i ≡ m / 2 ^ i + 2 ^ (j - suc i) * 2 =
-      subst (λ t. (m + 2 ^ t) / 2 ^ i ≡ m / 2 ^ i + 2 ^ (j - suc i) * 2) split (ap (λ x. (m + x) / 2 ^ i) power ∙ add-mul-div-right m (2 ^ (j - suc i) * 2) (pow-pos i)) in
-      omega (arith, quotient)
+  under i h = omega (arith, ap (λ x. (m + x) / 2 ^ i) (even-multiple i j h) ∙ add-mul-div-right m (2 ^ (j - suc i) * 2) (pow-pos i))
 
   pub added-fits : j < 32 → m < 2 ^ 32 → m + 2 ^ j < 2 ^ 32
   added-fits h fits = omega (arith, above 32 h)

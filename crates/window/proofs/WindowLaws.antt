@@ -4,7 +4,7 @@ use mathlib.Core.Bool.{Bool, true, false, _||_, true≢false, and-false, or-true
 use mathlib.Core.Logic.{_⊎_, inl, inr}
 use Prim.Native.Nat.{ℕ, _+_, _-_, _^_, _<_, _≤_}
 use native.Mathlib.Omega.{arith}
-use borrow.Author.Tests.{eqb-true, eqb-false, ltb-true, ltb-false, lt-ltb, le-ltb, le-leb, lt-leb, eq-eqb, ne-eqb}
+use borrow.Author.Tests.{eqb-true, eqb-false, ltb-true, ltb-false, le-leb, lt-leb, eq-eqb, ne-eqb}
 use lib.Dec.{ltb, leb, eqb, lit<}
 use Rattle.words.proofs.Numbers.{lt-or-le}
 use Rattle.window.specs.Window.{marked, passed, moved, taken}
@@ -76,15 +76,19 @@ module _ (w : Window) (leaf : ℕ) (some : w .marks ≡ 0 → ⊥) (within : lea
   mark-free = sym (passed-near w leaf some within near-highest) ∙ free
 
 module _ (w : Window) (leaf x : ℕ) where
+  -- what is passed by a window that follows on w
+  abbrev Law : Window → Type 0
+  Law after = passed after x ≡ (passed w x || behind leaf x)
+
   -- the leaf becomes the highest, with mark 0 beside marks n that say of the leaves below it what was said before
   higher : (n : ℕ) → marked (n + 1) 0 ≡ true → (leaf < x → passed w x ≡ false) → ((i : ℕ) → 0 < i → i < 32 → x + i ≡ leaf → marked (n + 1) i ≡ passed w x)
-      → passed (record { highest = leaf; marks = n + 1 }) x ≡ (passed w x || behind leaf x)
+      → Law (record { highest = leaf; marks = n + 1 })
   higher n first none same = by (place leaf x)
     where
       some : n + 1 ≡ 0 → ⊥
       some e = omega arith
 
-      by : Place leaf x → passed (record { highest = leaf; marks = n + 1 }) x ≡ (passed w x || behind leaf x)
+      by : Place leaf x → Law (record { highest = leaf; marks = n + 1 })
       by (over h) = passed-above _ x h ∙ rw (none h, not-behind leaf x (omega arith) (omega arith))
       by (own e) =
           passed-near _ x some (omega arith) (omega arith) ∙ rw (behind-own leaf x e, or-true) (ap (marked (n + 1)) (omega arith) ∙ first)
@@ -94,7 +98,7 @@ module _ (w : Window) (leaf x : ℕ) where
       by (far h) = passed-far _ x some h ∙ rw (behind-far leaf x h, or-true)
 
   -- no mark is set
-  alone : w .marks ≡ 0 → passed (record { highest = leaf; marks = 1 }) x ≡ (passed w x || behind leaf x)
+  alone : w .marks ≡ 0 → Law (record { highest = leaf; marks = 1 })
   unfolding marked moved
   alone none =
       higher 0 refl (λ h. passed-none w x none)
@@ -102,20 +106,21 @@ module _ (w : Window) (leaf x : ℕ) where
 
   module _ (some : w .marks ≡ 0 → ⊥) where
     -- a leaf above the highest
-    raised : w .highest < leaf
-        → passed (record { highest = leaf; marks = moved (w .marks) (leaf - w .highest) + 1 }) x ≡ (passed w x || behind leaf x)
-    raised above =
-        let up = leaf - w .highest in
-        higher (moved (w .marks) up) (marked-moved-own (w .marks) up (omega arith)) (λ h. passed-above w x (omega arith)) (λ i later small reached. by i later small reached (lt-or-le (w .highest) x))
-      where
-        by : (i : ℕ) → 0 < i → i < 32 → x + i ≡ leaf → (w .highest < x) ⊎ (x ≤ w .highest) → marked (moved (w .marks) (leaf - w .highest) + 1) i ≡ passed w x
-        by i later small reached (inl h) =
-            unmarked-moved (w .marks) (leaf - w .highest) (omega arith) i later (omega arith) small ∙ sym (passed-above w x h)
-        by i later small reached (inr h) =
-            let down : i - (leaf - w .highest) ≡ w .highest - x = omega arith in
-            marked-moved (w .marks) (leaf - w .highest) (omega arith) i (omega arith) small
-            ∙ ap (marked (w .marks)) down
-            ∙ sym (passed-near w x some h (omega arith))
+    module _ (above : w .highest < leaf) where
+      abbrev up : ℕ
+      up = leaf - w .highest
+
+      same-below : (i : ℕ) → 0 < i → i < 32 → x + i ≡ leaf → marked (moved (w .marks) up + 1) i ≡ passed w x
+      same-below i later small reached = by (lt-or-le (w .highest) x)
+        where
+          by : (w .highest < x) ⊎ (x ≤ w .highest) → marked (moved (w .marks) up + 1) i ≡ passed w x
+          by (inl h) = unmarked-moved (w .marks) up (omega arith) i later (omega arith) small ∙ sym (passed-above w x h)
+          by (inr h) =
+              let down : i - up ≡ w .highest - x = omega arith in
+              marked-moved (w .marks) up (omega arith) i (omega arith) small ∙ ap (marked (w .marks)) down ∙ sym (passed-near w x some h (omega arith))
+
+      raised : Law (record { highest = leaf; marks = moved (w .marks) up + 1 })
+      raised = higher (moved (w .marks) up) (marked-moved-own (w .marks) up (omega arith)) (λ h. passed-above w x (omega arith)) same-below
 
     -- a leaf not above it, which is not passed
     module _ (within : leaf ≤ w .highest) (free : passed w leaf ≡ false) where
@@ -133,28 +138,30 @@ module _ (w : Window) (leaf x : ℕ) where
           marked-added (w .marks) (w .highest - leaf) not-marked (w .highest - x) (omega (arith, other))
           ∙ rw (not-behind leaf x other (omega arith), or-false)
 
-      added : passed (record { highest = w .highest; marks = w .marks + 2 ^ (w .highest - leaf) }) x ≡ (passed w x || behind leaf x)
+      abbrev Added : Type 0
+      Added = Law (record { highest = w .highest; marks = w .marks + 2 ^ (w .highest - leaf) })
+
+      added : Added
       added = by (place (w .highest) x)
         where
           more : w .marks + 2 ^ (w .highest - leaf) ≡ 0 → ⊥
           more e = some (omega arith)
 
-          inside : x ≤ w .highest → w .highest < x + 32
-              → passed (record { highest = w .highest; marks = w .marks + 2 ^ (w .highest - leaf) }) x ≡ (passed w x || behind leaf x)
+          inside : x ≤ w .highest → w .highest < x + 32 → Added
           inside h k = passed-near _ x more h k ∙ rw (passed-near w x some h k) (decided h k (eqb x leaf) refl)
 
-          by : Place (w .highest) x → passed (record { highest = w .highest; marks = w .marks + 2 ^ (w .highest - leaf) }) x ≡ (passed w x || behind leaf x)
+          by : Place (w .highest) x → Added
           by (over h) = passed-above _ x h ∙ rw (passed-above w x h, not-behind leaf x (omega arith) (omega arith))
           by (own e) = inside (omega arith) (omega arith)
           by (near h k) = inside (omega arith) k
           by (far k) = passed-far _ x more k ∙ rw (passed-far w x some k)
 
-  -- the law of the window
+  -- the law of the window: passed is what was passed before, the leaf, and every leaf 32 or more below it
   pub passed-after : passed w leaf ≡ false → passed (taken w leaf) x ≡ (passed w x || behind leaf x)
   unfolding taken
   passed-after free = by (eqb (w .marks) 0) (ltb (w .highest) leaf) refl refl
     where
-      by : (none above : Bool) → eqb (w .marks) 0 ≡ none → ltb (w .highest) leaf ≡ above → passed (taken w leaf) x ≡ (passed w x || behind leaf x)
+      by : (none above : Bool) → eqb (w .marks) 0 ≡ none → ltb (w .highest) leaf ≡ above → Law (taken w leaf)
       by true above e f = rw e (alone (eqb-true (w .marks) 0 e))
       by false true e f = rw (e, f) (raised (eqb-false (w .marks) 0 e) (ltb-true (w .highest) leaf f))
       by false false e f = rw (e, f) (added (eqb-false (w .marks) 0 e) (ltb-false (w .highest) leaf f) free)
