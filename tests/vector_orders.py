@@ -345,7 +345,7 @@ ODD_STATES = [
 
 def windows_story():
     """Checks by cabinets of any highest leaf and marks: every distance, and odd states."""
-    story = Story(WINDOW_PROFILE, derived("two routes"))
+    story = Story(WINDOW_PROFILE, derived("any window"))
     orders = {}
     for leaf in (0, 7, 64):
         story.key = story.key._replace(next=leaf)

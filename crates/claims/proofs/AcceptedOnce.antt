@@ -7,6 +7,7 @@ use borrow.Author.Tests.{eqb-true}
 use lib.Dec.{eqb}
 use lib.ListN.{length}
 use Rattle.refusal.proofs.Causes.{none-here, none-of-append}
+use Rattle.words.proofs.Pairs.{Each, each-imply, Pairs, Apart, distinct-pairs}
 use Rattle.profile.specs.Checks.{leafBeyond}
 use Rattle.counts.specs.Counts.{count}
 use Rattle.counts.specs.Table.{tableCauses}
@@ -18,11 +19,10 @@ use Rattle.verifier.specs.declared.Verifier.{Verifier}
 use Rattle.claims.specs.Orders.{givenAlong}
 use Rattle.claims.specs.Arrivals.{CheckCall, cabinetHandedBack, acceptedBy, accepted, leafChecked, NoLeafAcceptedTwice}
 use Rattle.claims.proofs.Judged.{before-numbered}
-use Rattle.claims.proofs.LeafLaws.{free-before}
-use Rattle.claims.proofs.Pairs.{Each, each-imply, Pairs, distinct-pairs}
+use Rattle.claims.proofs.LeafLaws.{Free, free-before}
 
 -- none of the causes before the root holds, 14 among them
-accepted-free : (v : Verifier) (message signature work : List ℕ) → verifyCode v message signature work ≡ 0 → passed (v .window) (leafIn signature) ≡ false
+accepted-free : (v : Verifier) (message signature work : List ℕ) → verifyCode v message signature work ≡ 0 → Free v (leafIn signature)
 unfolding verifyCode causesBeforeRoot
 accepted-free v message signature work e =
     let counted : List (Bool × ℕ) = (countTooSmall (count (v .profile .shape)), 19) ∷ [] in
@@ -33,15 +33,9 @@ accepted-free v message signature work e =
     let order = none-of-append (tableCauses (v .profile) (length work)) (early ++ low) (table-numbered (v .profile) (length work)) before .1 in
     none-here (passed (v .window) (leafIn signature)) 14 counted refl (none-of-append early low (refl, (refl, (refl, tt))) order .1) .0
 
--- leaves that a cabinet does not pass, no two of them the same
-abbrev Apart : CheckCall → CheckCall → Type 0
-Apart x y = leafChecked x ≡ leafChecked y → ⊥
-
-abbrev Free : Verifier → CheckCall → Type 0
-Free v c = passed (v .window) (leafChecked c) ≡ false
-
+-- leaves that a cabinet does not call passed, no two of them the same
 abbrev Once : Verifier → List CheckCall → Type 0
-Once v calls = Each (Free v) calls × Pairs Apart calls
+Once v calls = Each (λ c. Free v (leafChecked c)) calls × Pairs (Apart leafChecked) calls
 
 -- one call, before those that are accepted later
 module _ (v : Verifier) (c : CheckCall) (later : List CheckCall) (once : Once (cabinetHandedBack v c) later) where
@@ -57,8 +51,10 @@ module _ (v : Verifier) (c : CheckCall) (later : List CheckCall) (once : Once (c
           let leaf = leafChecked c in
           let free = accepted-free v (c .message) (c .signature) (c .work) (eqb-true _ 0 e) in
           let after : Once (taken v leaf) later = rw e at once in
-          let before = each-imply (Free (taken v leaf)) (λ x. Free v x × Apart c x) (λ x none. free-before v leaf (leafChecked x) free none) later (after .0) in
-          rw e ((free, each-imply (λ x. Free v x × Apart c x) (Free v) (λ x both. both .0) later before), (each-imply (λ x. Free v x × Apart c x) (Apart c) (λ x both. both .1) later before, after .1))
+          let before = λ (x : CheckCall) (none : Free (taken v leaf) (leafChecked x)). free-before v leaf (leafChecked x) free none in
+          let still = each-imply (λ x. Free (taken v leaf) (leafChecked x)) (λ x. Free v (leafChecked x)) (λ x none. before x none .0) later (after .0) in
+          let others = each-imply (λ x. Free (taken v leaf) (leafChecked x)) (Apart leafChecked c) (λ x none. before x none .1) later (after .0) in
+          rw e ((free, still), (others, after .1))
       by false e = rw e (rw e at once)
 
 all-once : (v : Verifier) (calls : List CheckCall) → Once v (accepted v calls)

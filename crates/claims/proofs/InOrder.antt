@@ -1,21 +1,19 @@
 -- Made signatures are accepted one after the other, refused checks in between or not, where each leaf is another and none is 32 or more below one before it.
 use mathlib.Core.Path.{_≡_}
-use mathlib.Core.Bool.{false}
 use mathlib.Core.List.{List, [], _∷_}
 use Prim.Native.Nat.{ℕ, _+_, _<_}
 use borrow.Author.Tests.{ne-eqb}
+use Rattle.words.proofs.Pairs.{Each, each-with, Pairs, Apart}
 use Rattle.profile.specs.declared.Profile.{Profile}
 use Rattle.tweak.specs.Tweak.{firstDomain}
 use Rattle.tree.specs.Tree.{rootOf}
-use Rattle.window.specs.Window.{passed}
 use Rattle.verifier.specs.Verifying.{taken, verifyCode, verifierAfter}
 use Rattle.verifier.specs.declared.Verifier.{Verifier}
 use Rattle.claims.specs.Orders.{Issued, leafOf, Check, AllAccepted}
 use Rattle.claims.specs.Orders.Check.{next, other}
-use Rattle.claims.proofs.LeafLaws.{CabinetOf, taken-cabinet, free-after}
+use Rattle.claims.proofs.LeafLaws.{Free, CabinetOf, taken-cabinet, free-after}
 use Rattle.claims.proofs.Made.{MadeOwn}
 use Rattle.claims.proofs.Accepted.{made-accepted}
-use Rattle.claims.proofs.Pairs.{Each, each-with, Pairs}
 
 -- a refused check leaves the cabinet as it was
 stays : (v : Verifier) (message signature work : List ℕ) → (verifyCode v message signature work ≡ 0 → ⊥) → verifierAfter v message signature work ≡ v
@@ -24,17 +22,13 @@ stays v message signature work refused = rw (ne-eqb (verifyCode v message signat
 
 -- one may follow another: it has another leaf, and that of the other is not 32 or more above its own
 abbrev pub Follows : (earlier later : Issued) → Type 0
-Follows earlier later = (leafOf earlier ≡ leafOf later → ⊥) × (leafOf earlier < leafOf later + 32)
-
--- the leaf of a signature is not passed
-abbrev pub Free : Verifier → Issued → Type 0
-Free v one = passed (v .window) (leafOf one) ≡ false
+Follows earlier later = Apart leafOf earlier later × (leafOf earlier < leafOf later + 32)
 
 module _ (p : Profile) (seed secret : List ℕ) where
   abbrev root : List ℕ
   root = rootOf (firstDomain seed) p secret
 
-  pub all-accepted : (checks : List Check) (v : Verifier) (all : List Issued) → CabinetOf p seed root v → Each (MadeOwn p seed secret) all → Each (Free v) all
+  pub all-accepted : (checks : List Check) (v : Verifier) (all : List Issued) → CabinetOf p seed root v → Each (MadeOwn p seed secret) all → Each (λ one. Free v (leafOf one)) all
       → Pairs Follows all → AllAccepted (p .shape) v all checks
   unfolding AllAccepted
   all-accepted [] v all of made free follow = tt
@@ -42,7 +36,7 @@ module _ (p : Profile) (seed secret : List ℕ) where
   all-accepted (next work ∷ checks) v (one ∷ all) of made free follow = λ long.
       let leaf = leafOf one in
       let ok = made-accepted p seed secret leaf one (made .0) v of work (free .0) long in
-      let still = each-with (Free v) (Follows one) (Free (taken v leaf)) (λ later none follows. free-after v leaf (leafOf later) (free .0) none (follows .0) (follows .1)) all (free .1) (follow .0) in (
+      let still = each-with (λ later. Free v (leafOf later)) (Follows one) (λ later. Free (taken v leaf) (leafOf later)) (λ later none follows. free-after v leaf (leafOf later) (free .0) none (follows .0) (follows .1)) all (free .1) (follow .0) in (
         ok .accepted,
         ok .steps,
         rw (ok .after) (all-accepted checks (taken v leaf) all (taken-cabinet p seed root v leaf of) (made .1) still (follow .1)),

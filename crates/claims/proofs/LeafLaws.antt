@@ -1,20 +1,20 @@
--- What the list theorems know of the leaves of a tree, of those that a cabinet still takes and of the leaf that a key gives next: no other law opens `leafBeyond`,
--- `passed`, `taken`, `spent` or `advanced`.
+-- What the list theorems know of the leaves of a tree, of those that a cabinet still takes and of the leaf that a key gives next: no other law of theirs opens
+-- `leafBeyond`, `taken`, `spent` or `advanced`, and of `passed` they know the laws of `window` alone.
 use mathlib.Core.Path.{_≡_, refl, sym, _∙_}
-use mathlib.Core.Bool.{Bool, true, false, _||_, true≢false}
+use mathlib.Core.Bool.{false, _||_}
 use mathlib.Core.List.{List}
 use Prim.Native.Nat.{ℕ, _+_, _^_, _<_, _≤_}
 use native.Mathlib.Nat.{le-refl}
 use native.Mathlib.Omega.{arith}
-use borrow.Author.Tests.{lt-leb, eqb-false}
-use lib.Dec.{leb, eqb}
+use borrow.Author.Tests.{lt-leb}
+use Rattle.words.proofs.Tests.{neither}
 use Rattle.profile.specs.Checks.{leafBeyond}
 use Rattle.profile.specs.declared.Profile.{Profile}
 use Rattle.profile.proofs.Limits.{leaf-within}
 use Rattle.signer.specs.Signing.{freshKey, spent, advanced}
 use Rattle.signer.specs.declared.SigningKey.{SigningKey}
 use Rattle.window.specs.Window.{freshWindow, passed}
-use Rattle.window.proofs.WindowLaws.{passed-none, behind, not-behind, passed-after}
+use Rattle.window.proofs.WindowLaws.{passed-none, behind, behind-other, not-behind, passed-after}
 use Rattle.verifier.specs.Verifying.{freshVerifier, taken}
 use Rattle.verifier.specs.declared.Verifier.{Verifier}
 
@@ -23,10 +23,9 @@ pub leaf-inside : (h leaf : ℕ) → leaf < 2 ^ h → leafBeyond h leaf ≡ fals
 unfolding leafBeyond
 leaf-inside h leaf low = lt-leb (2 ^ h) leaf low
 
--- two tests that both fail
-neither : (a b : Bool) → (a || b) ≡ false → (a ≡ false) × (b ≡ false)
-neither true b e = absurd (true≢false e)
-neither false b e = (refl, e)
+-- a leaf that a cabinet does not call passed
+abbrev pub Free : Verifier → (leaf : ℕ) → Type 0
+Free v leaf = passed (v .window) leaf ≡ false
 
 module _ (p : Profile) (seed root : List ℕ) where
   -- a cabinet with this profile, public seed and root
@@ -38,7 +37,7 @@ module _ (p : Profile) (seed root : List ℕ) where
   pub fresh-cabinet : CabinetOf (freshVerifier p seed root)
   fresh-cabinet = record { same-profile = refl; same-seed = refl; same-root = refl }
 
-  pub fresh-passes-none : (leaf : ℕ) → passed (freshVerifier p seed root .window) leaf ≡ false
+  pub fresh-passes-none : (leaf : ℕ) → Free (freshVerifier p seed root) leaf
   fresh-passes-none leaf = passed-none freshWindow leaf refl
 
   module _ (v : Verifier) (leaf : ℕ) where
@@ -47,20 +46,19 @@ module _ (p : Profile) (seed root : List ℕ) where
     taken-cabinet of = record { same-profile = of .same-profile; same-seed = of .same-seed; same-root = of .same-root }
 
 -- once a leaf was taken
-module _ (v : Verifier) (leaf x : ℕ) (free : passed (v .window) leaf ≡ false) where
+module _ (v : Verifier) (leaf x : ℕ) (free : Free v leaf) where
   now-passed : passed (taken v leaf .window) x ≡ (passed (v .window) x || behind leaf x)
   unfolding taken
   now-passed = passed-after (v .window) leaf x free
 
   -- one that is not passed is another, and was not passed before
-  pub free-before : passed (taken v leaf .window) x ≡ false → (passed (v .window) x ≡ false) × (leaf ≡ x → ⊥)
+  pub free-before : Free (taken v leaf) x → Free v x × (leaf ≡ x → ⊥)
   free-before none =
       let parts = neither (passed (v .window) x) (behind leaf x) (sym now-passed ∙ none) in
-      let other = neither (eqb x leaf) (leb (x + 32) leaf) (parts .1) .0 in
-      (parts .0, λ same. eqb-false x leaf other (sym same))
+      (parts .0, λ same. behind-other leaf x (parts .1) (sym same))
 
   -- another that was not passed is passed only where the leaf is 32 or more above it
-  pub free-after : passed (v .window) x ≡ false → (leaf ≡ x → ⊥) → leaf < x + 32 → passed (taken v leaf .window) x ≡ false
+  pub free-after : Free v x → (leaf ≡ x → ⊥) → leaf < x + 32 → Free (taken v leaf) x
   free-after none other near = now-passed ∙ rw (none, not-behind leaf x (λ same. other (sym same)) near)
 
 -- a key with this profile and these seeds, whose next leaf is n or more

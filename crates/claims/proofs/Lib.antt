@@ -10,7 +10,6 @@ pub mod Largest
 pub mod LeafLaws
 pub mod Made
 pub mod OrdersProved
-pub mod Pairs
 pub mod ReadBack
 pub mod Source
 pub mod SymmetricChains

@@ -1,6 +1,6 @@
 -- What demand 3 and document 02, point 4, say of a list of Issue calls: no leaf twice, and all that is issued is accepted, in the list's order and in every
 -- order of arrival that the window allows.
-use mathlib.Core.Path.{_≡_, sym}
+use mathlib.Core.Path.{sym}
 use mathlib.Core.List.{List, [], _∷_, map, List·Permᴰ}
 use mathlib.Core.Logic.{_⊎_, inl, inr}
 use Prim.Native.Nat.{ℕ, suc, _+_, _<_, _≤_, suc-le-suc}
@@ -8,6 +8,7 @@ use native.Mathlib.Nat.{le-of-suc-le-suc}
 use native.Mathlib.Omega.{arith}
 use lib.ListN.{length, getD}
 use Rattle.words.proofs.Numbers.{lt-or-le}
+use Rattle.words.proofs.Pairs.{Each, each-always, each-permuted, each-place, Pairs, pairs-imply, pairs-with, pairs-permuted, Apart, distinct-pairs}
 use Rattle.profile.specs.declared.Profile.{Profile}
 use Rattle.tweak.specs.Tweak.{firstDomain}
 use Rattle.tree.specs.Tree.{rootOf}
@@ -17,11 +18,10 @@ use Rattle.verifier.specs.Verifying.{freshVerifier}
 use Rattle.verifier.specs.declared.Verifier.{Verifier}
 use Rattle.claims.specs.Arrivals.{InTime}
 use Rattle.claims.specs.Orders.{IssueCall, Issued, issuedBy, keyHandedBack, issued, leafOf, NoLeafTwice, Check, AllAccepted}
-use Rattle.claims.proofs.LeafLaws.{fresh-cabinet, fresh-passes-none, KeyFrom, fresh-from}
+use Rattle.claims.proofs.LeafLaws.{Free, fresh-cabinet, fresh-passes-none, KeyFrom, fresh-from}
 use Rattle.claims.proofs.Source.{Rises, rises-pairs, rises-good, rises-apart, issued-rises}
 use Rattle.claims.proofs.Made.{MadeOwn, issue-step}
-use Rattle.claims.proofs.InOrder.{Follows, Free, all-accepted}
-use Rattle.claims.proofs.Pairs.{Each, each-always, each-permuted, each-place, Pairs, pairs-imply, pairs-with, pairs-permuted, distinct-pairs}
+use Rattle.claims.proofs.InOrder.{Follows, all-accepted}
 
 -- of two orders, by their places: the leaf of the earlier is less than 32 above that of the later
 abbrev InTimeAfter : Issued → Issued → Type 0
@@ -54,10 +54,7 @@ module _ (p : Profile) (seed secret : List ℕ) where
   all-made : (calls : List IssueCall) → Each (MadeOwn p seed secret) (issued key calls)
   all-made calls = let r = rising calls in rises-good leafOf (MadeOwn p seed secret) 0 (r .0) (issued key calls) (r .1)
 
-  abbrev Apart : Issued → Issued → Type 0
-  Apart x y = leafOf x ≡ leafOf y → ⊥
-
-  all-apart : (calls : List IssueCall) → Pairs Apart (issued key calls)
+  all-apart : (calls : List IssueCall) → Pairs (Apart leafOf) (issued key calls)
   all-apart calls = let r = rising calls in rises-apart leafOf (MadeOwn p seed secret) 0 (r .0) (issued key calls) (r .1)
 
   pub issued-once : (calls : List IssueCall) → NoLeafTwice (issued key calls)
@@ -69,7 +66,7 @@ module _ (p : Profile) (seed secret : List ℕ) where
 
   fresh-accepts : (all : List Issued) → Each (MadeOwn p seed secret) all → Pairs Follows all → (checks : List Check) → AllAccepted (p .shape) cabinet all checks
   fresh-accepts all made follow checks =
-      all-accepted p seed secret checks cabinet all (fresh-cabinet p seed root) made (each-always (Free cabinet) (λ one. fresh-passes-none p seed root (leafOf one)) all) follow
+      all-accepted p seed secret checks cabinet all (fresh-cabinet p seed root) made (each-always (λ one. Free cabinet (leafOf one)) (λ one. fresh-passes-none p seed root (leafOf one)) all) follow
 
   pub issued-accepted : (calls : List IssueCall) (checks : List Check) → AllAccepted (p .shape) cabinet (issued key calls) checks
   issued-accepted calls =
@@ -81,6 +78,6 @@ module _ (p : Profile) (seed secret : List ℕ) where
   pub arrivals-accepted : (calls : List IssueCall) (arrivals : List Issued) → List·Permᴰ arrivals (issued key calls) → InTime (map leafOf arrivals)
       → (checks : List Check) → AllAccepted (p .shape) cabinet arrivals checks
   arrivals-accepted calls arrivals order in-time =
-      let apart = pairs-permuted Apart (λ x y other same. other (sym same)) order (all-apart calls) in
-      let follow = pairs-with Apart InTimeAfter Follows (λ x y other near. (other, near)) arrivals apart (in-time-pairs arrivals in-time) in
+      let apart = pairs-permuted (Apart leafOf) (λ x y other same. other (sym same)) order (all-apart calls) in
+      let follow = pairs-with (Apart leafOf) InTimeAfter Follows (λ x y other near. (other, near)) arrivals apart (in-time-pairs arrivals in-time) in
       fresh-accepts arrivals (each-permuted (MadeOwn p seed secret) order (all-made calls)) follow

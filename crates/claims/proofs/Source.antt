@@ -4,8 +4,8 @@ use mathlib.Core.List.{List, [], _∷_, _++_}
 use Prim.Native.Nat.{ℕ, _+_, _<_, _≤_}
 use native.Mathlib.Nat.{le-refl}
 use native.Mathlib.Omega.{arith}
+use Rattle.words.proofs.Pairs.{Each, each-imply, Pairs, pairs-imply, Apart}
 use Rattle.claims.specs.Orders.{givenAlong}
-use Rattle.claims.proofs.Pairs.{Each, each-imply, Pairs, pairs-imply}
 
 module _ {Item : Type 0} (leafOf : Item → ℕ) (Good : Item → Type 0) where
   -- all items are good, and their leaves rise: from n on, and below m
@@ -36,8 +36,8 @@ module _ {Item : Type 0} (leafOf : Item → ℕ) (Good : Item → Type 0) where
   rises-good n m (x ∷ xs) r = (r .1, rises-good (leafOf x + 1) m xs (r .2))
 
   -- no two have the same leaf
-  pub rises-apart : (n m : ℕ) (xs : List Item) → Rises n xs m → Pairs (λ x y. leafOf x ≡ leafOf y → ⊥) xs
-  rises-apart n m xs r = pairs-imply (λ x y. leafOf x < leafOf y) (λ x y. leafOf x ≡ leafOf y → ⊥) (λ x y h same. omega arith) xs (rises-pairs n m xs r)
+  pub rises-apart : (n m : ℕ) (xs : List Item) → Rises n xs m → Pairs (Apart leafOf) xs
+  rises-apart n m xs r = pairs-imply (λ x y. leafOf x < leafOf y) (Apart leafOf) (λ x y h same. omega arith) xs (rises-pairs n m xs r)
 
   -- the source: a state from which leaves from n on may come, and what a call does to it
   module _ {State Call : Type 0} (after : State → Call → State) (gives : State → Call → List Item) (From : State → ℕ → Type 0)

@@ -1,6 +1,6 @@
 -- The test for primes is right, and the primes of a range are listed in rising order, each of them once.
 use mathlib.Core.Path.{_≡_, refl, sym, _∙_, ap}
-use mathlib.Core.Bool.{Bool, true, false, not, _&&_, _||_, cond, true≢false}
+use mathlib.Core.Bool.{Bool, true, false, not, cond}
 use mathlib.Core.List.{List, [], _∷_}
 use mathlib.Core.Logic.{⊎-elim}
 use Prim.Native.Nat.{ℕ, zero, suc, _+_, _-_, _%_, _≤_, _<_}
@@ -9,15 +9,8 @@ use native.Mathlib.Omega.{arith}
 use borrow.Author.Tests.{leb-true, le-leb, not-true, eqb-false, ne-eqb}
 use lib.Dec.{leb, eqb}
 use lib.ListN.{length, getD}
+use Rattle.words.proofs.Tests.{both, neither}
 use Rattle.sha256_block.specs.Constants.{hasDivisor, isPrime, primesFrom, IsPrime}
-
-or-false : (a b : Bool) → (a || b) ≡ false → (a ≡ false) × (b ≡ false)
-or-false true b e = absurd (true≢false e)
-or-false false b e = (refl, e)
-
-and-true : (a b : Bool) → (a && b) ≡ true → (a ≡ true) × (b ≡ true)
-and-true true b e = (refl, e)
-and-true false b e = absurd (true≢false (sym e))
 
 -- the test finds every divisor from 2 to d
 divisor-found : (n d : ℕ) → hasDivisor n d ≡ false → (c : ℕ) → 2 ≤ c → c ≤ d → n % c ≡ 0 → ⊥
@@ -25,7 +18,7 @@ unfolding hasDivisor
 divisor-found n zero e c low high divides = omega arith
 divisor-found n (suc zero) e c low high divides = omega arith
 divisor-found n (suc (suc d)) e c low high divides =
-    let none = or-false (eqb (n % suc (suc d)) 0) (hasDivisor n (suc d)) e in
+    let none = neither (eqb (n % suc (suc d)) 0) (hasDivisor n (suc d)) e in
     ⊎-elim
     (λ same. eqb-false (n % suc (suc d)) 0 (none .0) (ap (λ k. n % k) (sym same) ∙ divides))
     (λ less. divisor-found n (suc d) (none .1) c low (le-of-suc-le-suc less) divides)
@@ -42,9 +35,9 @@ divisor-real n (suc (suc d)) none =
 prime-by-test : (n : ℕ) → isPrime n ≡ true → IsPrime n
 unfolding isPrime
 prime-by-test n e =
-    let both = and-true (leb 2 n) (not (hasDivisor n (n - 1))) e in
-    let two = leb-true 2 n (both .0) in
-    record { above-one = two; undivided = λ d low high. divisor-found n (n - 1) (not-true (hasDivisor n (n - 1)) (both .1)) d low (omega arith) }
+    let parts = both (leb 2 n) (not (hasDivisor n (n - 1))) e in
+    let two = leb-true 2 n (parts .0) in
+    record { above-one = two; undivided = λ d low high. divisor-found n (n - 1) (not-true (hasDivisor n (n - 1)) (parts .1)) d low (omega arith) }
 
 prime-passes : (n : ℕ) → IsPrime n → isPrime n ≡ true
 unfolding isPrime

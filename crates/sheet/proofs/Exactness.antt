@@ -9,6 +9,7 @@ use lib.Seq.{take-at, drop-at, length-take-le}
 use Rattle.words.specs.Bytes.{toBytes}
 use Rattle.words.proofs.ByteLaws.{toBytes-lt}
 use Rattle.words.proofs.Lists.{Below, below-by-test, below-cons, below-append, below-take, below-drop}
+use Rattle.words.proofs.Pairs.{Each, each-append}
 use Rattle.profile.specs.declared.Profile.{Profile}
 use Rattle.hex.specs.Hex.{Line, wrong, right, lineOf}
 use Rattle.message.specs.Message.{signatureLength}
@@ -16,18 +17,13 @@ use Rattle.sheet.specs.Frames.{Within, Frame, sized, profileFrame, numbe
 use Rattle.sheet.specs.Sheet.{linesOf, sheetOf, Reading, wrongLine, read, readFrame, inFront, followed, ended, readFrames, readSheet, Carried, Exact}
 use Rattle.sheet.proofs.FrameLaws.{frame-read, Framed, read-frame}
 
--- what holds of every frame
-abbrev pub All : (Frame → Type 0) → List Frame → Type 0
-All P [] = Unit {0}
-All P (f ∷ fs) = P f × All P fs
-
 -- each has one number of bytes behind its fixed ones
 abbrev Sized : List Frame → Type 0
-Sized fs = All (λ f. f .low ≡ f .high) fs
+Sized fs = Each (λ f. f .low ≡ f .high) fs
 
 -- the fixed ones are bytes
 abbrev pub Bytes : List Frame → Type 0
-Bytes fs = All (λ f. Below 256 (f .head)) fs
+Bytes fs = Each (λ f. Below 256 (f .head)) fs
 
 -- how many bytes stand behind the fixed ones
 abbrev pub total : List Frame → ℕ
@@ -119,11 +115,7 @@ read-lines (f ∷ fs) line sheet signature text s e =
     by wrong q e inner = not-read line signature text e
     by (right bytes rest) q e inner = next bytes rest (read-frame f sheet bytes rest q) (readFrames fs (suc line) rest) e (inner rest)
 
-pub all-append : (P : Frame → Type 0) (fs gs : List Frame) → All P fs → All P gs → All P (fs ++ gs)
-all-append P [] gs a b = b
-all-append P (f ∷ fs) gs a b = (a .0, all-append P fs gs (a .1) b)
-
-all-numbered : (P : Frame → Type 0) (kind k n : ℕ) → ((i : ℕ) → i < k + n → P (sized (kind ∷ i ∷ []) 16)) → All P (numbered kind k n)
+all-numbered : (P : Frame → Type 0) (kind k n : ℕ) → ((i : ℕ) → i < k + n → P (sized (kind ∷ i ∷ []) 16)) → Each P (numbered kind k n)
 unfolding numbered
 all-numbered P kind k zero each = tt
 all-numbered P kind k (suc n) each = (each k (omega arith), all-numbered P kind (suc k) n (λ i h. each i (omega arith)))
@@ -140,9 +132,9 @@ total-numbered kind k (suc n) = omega (arith, total-numbered kind (suc k) n)
 module _ (p : Profile) where
   -- the frames 04 and 05
   all-values : (P : Frame → Type 0) → ((i : ℕ) → i < p .shape .chains → P (sized (4 ∷ i ∷ []) 16)) → ((i : ℕ) → i < p .height → P (sized (5 ∷ i ∷ []) 16))
-      → All P (numbered 4 0 (p .shape .chains) ++ numbered 5 0 (p .height))
+      → Each P (numbered 4 0 (p .shape .chains) ++ numbered 5 0 (p .height))
   all-values P value sibling =
-      all-append P (numbered 4 0 (p .shape .chains)) (numbered 5 0 (p .height)) (all-numbered P 4 0 (p .shape .chains) (λ i h. value i (omega arith)))
+      each-append P (numbered 4 0 (p .shape .chains)) (numbered 5 0 (p .height)) (all-numbered P 4 0 (p .shape .chains) (λ i h. value i (omega arith)))
       (all-numbered P 5 0 (p .height) (λ i h. sibling i (omega arith)))
 
   pub frames-sized : Sized (frames p)

@@ -63,7 +63,7 @@ same [] (y ∷ ys) = false
 same (x ∷ xs) [] = false
 same (x ∷ xs) (y ∷ ys) = eqb x y && same xs ys
 
--- "16; 13 signature not 20 + 16 × l + 16 × h bytes; 11; 14 …", where 14 now means that the cabinet's window passes the leaf
+-- "16; 13 signature not 20 + 16 × l + 16 × h bytes; 11; 14 …", where 14 now means that the leaf is passed by the rule of the cabinet's window
 abbrev pub orderCauses : Verifier → (text : ℕ) (signature : List ℕ) → List (Bool × ℕ)
 orderCauses v text signature =
     (outsideText text, 16) ∷ (not (eqb (length signature) (signatureLength (v .profile))), 13)

@@ -1,7 +1,7 @@
 // The checking cabinet: Check.
 ghost use mathlib.Core.Path.{_≡_};
 ghost use mathlib.Core.Bool.{false};
-ghost use Prim.Native.Nat.{_+_, _^_, _≤_, _<_};
+ghost use Prim.Native.Nat.{_≤_};
 ghost use lib.ListN.{length, take};
 ghost use Rattle.refusal.specs.Code.{outcomeCode, thenFirst};
 ghost use Rattle.words.specs.Number.{value};
@@ -36,7 +36,7 @@ use window::take;
 use words::bytes::front_word;
 use words::bytes::read_16;
 
-// A cabinet (document 01): its profile, the public seed, the root, and the window over the leaves that it has accepted.
+// A cabinet (document 01; document 02, point 4): its profile, the public seed, the root, and the window over the leaves that it has accepted.
 pub struct Verifier {
     pub profile: Profile,
     pub seed: [u8; 16],
@@ -51,7 +51,7 @@ pub struct Verdict {
     pub steps: u32,
 }
 
-// The cabinet that has accepted a leaf which its window does not pass.
+// The cabinet that has accepted a leaf which was not passed.
 fn take_leaf(v: Verifier, leaf: u32) -> Verifier
     requires { ⌜ window.passed (v .window) leaf ≡ false ⌝ }
     ensures { λ r. ⌜ r ≡ spec.taken v leaf ⌝ }

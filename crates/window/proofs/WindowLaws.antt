@@ -7,6 +7,7 @@ use native.Mathlib.Omega.{arith}
 use borrow.Author.Tests.{eqb-true, eqb-false, ltb-true, ltb-false, le-leb, lt-leb, eq-eqb, ne-eqb}
 use lib.Dec.{ltb, leb, eqb, lit<}
 use Rattle.words.proofs.Numbers.{lt-or-le}
+use Rattle.words.proofs.Tests.{neither}
 use Rattle.window.specs.Window.{marked, passed, moved, taken}
 use Rattle.window.specs.declared.Window.{Window}
 use Rattle.window.proofs.MarkLaws.{marked-moved-own, marked-moved, unmarked-moved, marked-added-own, marked-added}
@@ -43,6 +44,9 @@ module _ (leaf x : ℕ) where
 
   behind-far : x + 32 ≤ leaf → behind leaf x ≡ true
   behind-far far = rw (le-leb (x + 32) leaf far, or-true)
+
+  pub behind-other : behind leaf x ≡ false → x ≡ leaf → ⊥
+  behind-other none = eqb-false x leaf (neither (eqb x leaf) (leb (x + 32) leaf) none .0)
 
   pub not-behind : (x ≡ leaf → ⊥) → leaf < x + 32 → behind leaf x ≡ false
   not-behind other near = rw (ne-eqb x leaf other, lt-leb (x + 32) leaf near)

@@ -46,7 +46,7 @@ fn move_up(marks: u32, up: u32) -> u32
     if up < 32 { marks << up } else { 0 }
 }
 
-// The window once a leaf that it does not pass was taken.
+// The window once a leaf that is not passed was taken.
 pub fn take(w: Window, leaf: u32) -> Window
     requires { ⌜ spec.passed w leaf ≡ false ⌝ }
     ensures { λ r. ⌜ r ≡ spec.taken w leaf ⌝ }

@@ -1,4 +1,4 @@
--- What the crate proves for others to cite: laws of numbers in bytes, of numbers in words, of lists, also those without repetition, and of values joined, and the steps of arithmetic on words.
+-- What the crate proves for others to cite: laws of numbers in bytes, of numbers in words, of lists, also those without repetition, of values joined, and of tests joined, and the steps of arithmetic on words.
 pub mod ByteLaws
 pub mod Comparison
 pub mod DistinctLaws
@@ -9,4 +9,6 @@ pub mod LimbLaws
 pub mod Lists
 pub mod NumberLaws
 pub mod Numbers
+pub mod Pairs
 pub mod PowerLaws
+pub mod Tests

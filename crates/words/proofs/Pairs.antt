@@ -1,11 +1,11 @@
 -- Lists by their members and by pairs of an earlier and a later one: by their places too, and what a permutation keeps.
 use mathlib.Core.Path.{_≡_, sym, subst}
-use mathlib.Core.List.{List, [], _∷_, map, List·Permᴰ, List·Permᴰ·nil, List·Permᴰ·cons, List·Permᴰ·swap, List·Permᴰ·trans}
+use mathlib.Core.List.{List, [], _∷_, _++_, map, List·Permᴰ, List·Permᴰ·nil, List·Permᴰ·cons, List·Permᴰ·swap, List·Permᴰ·trans}
 use Prim.Native.Nat.{ℕ, zero, suc, _<_}
 use native.Mathlib.Nat.{le-of-suc-le-suc}
 use native.Mathlib.Omega.{arith}
 use lib.ListN.{length, getD}
 use Rattle.words.specs.Distinct.{Distinct}
 
 module _ {A : Type 0} where
   -- every member has P
@@ -21,6 +21,10 @@ module _ {A : Type 0} where
   pub each-always : (P : A → Type 0) → ((x : A) → P x) → (xs : List A) → Each P xs
   each-always P f [] = tt
   each-always P f (x ∷ xs) = (f x, each-always P f xs)
+
+  pub each-append : (P : A → Type 0) (xs ys : List A) → Each P xs → Each P ys → Each P (xs ++ ys)
+  each-append P [] ys ps qs = qs
+  each-append P (x ∷ xs) ys ps qs = (ps .0, each-append P xs ys (ps .1) qs)
 
   pub each-imply : (P Q : A → Type 0) → ((x : A) → P x → Q x) → (xs : List A) → Each P xs → Each Q xs
   each-imply P Q f [] all = tt
@@ -57,6 +61,10 @@ module _ {A : Type 0} where
     pairs-permuted (List·Permᴰ·trans d f) all = pairs-permuted d (pairs-permuted f all)
 
   module _ (f : A → ℕ) where
+    -- two members have other numbers
+    abbrev pub Apart : A → A → Type 0
+    Apart x y = f x ≡ f y → ⊥
+
     -- by places
     pub each-place : (P : ℕ → Type 0) (xs : List A) → ((i : ℕ) → i < length (map f xs) → P (getD (map f xs) i 0)) → Each (λ x. P (f x)) xs
     each-place P [] at = tt
@@ -67,7 +75,7 @@ module _ {A : Type 0} where
     place-each P (x ∷ xs) all zero h = all .0
     place-each P (x ∷ xs) all (suc i) h = place-each P xs (all .1) i (le-of-suc-le-suc h)
 
-    pub distinct-pairs : (xs : List A) → Pairs (λ x y. f x ≡ f y → ⊥) xs → Distinct 0 (map f xs)
+    pub distinct-pairs : (xs : List A) → Pairs Apart xs → Distinct 0 (map f xs)
     distinct-pairs [] all i j less within same = omega arith
     distinct-pairs (x ∷ xs) all zero zero less within same = omega arith
     distinct-pairs (x ∷ xs) all zero (suc j) less within same = place-each (λ n. f x ≡ n → ⊥) xs (all .0) j (le-of-suc-le-suc within) same
