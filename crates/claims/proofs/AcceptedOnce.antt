@@ -51,9 +51,8 @@ module _ (v : Verifier) (c : CheckCall) (later : List CheckCall) (once : Once (c
           let leaf = leafChecked c in
           let free = accepted-free v (c .message) (c .signature) (c .work) (eqb-true _ 0 e) in
           let after : Once (taken v leaf) later = rw e at once in
-          let before = λ (x : CheckCall) (none : Free (taken v leaf) (leafChecked x)). free-before v leaf (leafChecked x) free none in
-          let still = each-imply (λ x. Free (taken v leaf) (leafChecked x)) (λ x. Free v (leafChecked x)) (λ x none. before x none .0) later (after .0) in
-          let others = each-imply (λ x. Free (taken v leaf) (leafChecked x)) (Apart leafChecked c) (λ x none. before x none .1) later (after .0) in
+          let still = each-imply (λ x. Free (taken v leaf) (leafChecked x)) (λ x. Free v (leafChecked x)) (λ x none. free-before v leaf (leafChecked x) free none .0) later (after .0) in
+          let others = each-imply (λ x. Free (taken v leaf) (leafChecked x)) (Apart leafChecked c) (λ x none. free-before v leaf (leafChecked x) free none .1) later (after .0) in
           rw e ((free, still), (others, after .1))
       by false e = rw e (rw e at once)
 
