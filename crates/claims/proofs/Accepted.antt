@@ -1,6 +1,5 @@
 -- A made signature of a leaf is accepted by every cabinet of that profile, public seed and root that does not call the leaf passed.
 use mathlib.Core.Path.{_≡_, _∙_}
-use mathlib.Core.Bool.{false}
 use mathlib.Core.List.{List, [], _∷_}
 use Prim.Native.Nat.{ℕ, _-_, _*_, _≤_, _<_}
 use borrow.Author.Tests.{le-ltb, eq-eqb}
@@ -19,14 +18,13 @@ use Rattle.tweak.specs.declared.Domain.{Domain}
 use Rattle.one_time.proofs.RecoverLaws.{steps-below, recovers-revealed}
 use Rattle.tree.specs.Tree.{rootOf}
 use Rattle.message.specs.Message.{signatureLength}
-use Rattle.window.specs.Window.{passed}
 use Rattle.verifier.specs.Verifying.{taken, numberIn, recoveredRoot, rootIn, causesBeforeRoot, verifyCode, verifierAfter, stepsMade}
 use Rattle.verifier.specs.declared.Verifier.{Verifier}
 use Rattle.claims.specs.Orders.{Issued}
 use Rattle.claims.proofs.Climb.{climbs}
 use Rattle.claims.proofs.ReadBack.{ReadBack}
 use Rattle.claims.proofs.Judged.{judged-by-root}
-use Rattle.claims.proofs.LeafLaws.{leaf-inside, CabinetOf}
+use Rattle.claims.proofs.LeafLaws.{leaf-inside, Free, CabinetOf}
 use Rattle.claims.proofs.Made.{numberOf, Made, made-below, made-read}
 
 -- a profile that passes its checks, and a work slice that is long enough
@@ -61,11 +59,11 @@ module _ (p : Profile) (seed secret : List ℕ) (leaf : ℕ) (one : Issued) (mad
       (back .own-leaf, made-number, of .same-profile, of .same-seed, of .same-root, back .own-values, back .own-siblings, recovers-revealed d p secret leaf n below)
       (climbs d p secret leaf (made .in-tree))
 
-  module _ (work : List ℕ) (ahead : passed (v .window) leaf ≡ false) (long : tableLength (p .shape) ≤ length work) where
+  module _ (work : List ℕ) (free : Free v leaf) (long : tableLength (p .shape) ≤ length work) where
     before : firstCause (causesBeforeRoot v (one .message) (one .signature) work) ≡ 0
     unfolding causesBeforeRoot
     before =
-        rw (back .own-leaf, ahead, of .same-profile)
+        rw (back .own-leaf, free, of .same-profile)
         (none-then (tableCauses p (length work)) _ (table-none p (length work) (made .profile) long) (table-numbered p (length work))
         ∙ rw (
           made .text,

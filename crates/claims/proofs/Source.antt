@@ -1,5 +1,4 @@
 -- A source of leaves: calls that hand a state on and may issue something with a leaf. Where each call's leaves are above those issued before, no leaf comes twice.
-use mathlib.Core.Path.{_≡_}
 use mathlib.Core.List.{List, [], _∷_, _++_}
 use Prim.Native.Nat.{ℕ, _+_, _<_, _≤_}
 use native.Mathlib.Nat.{le-refl}

@@ -44,7 +44,7 @@ abbrev pub InTime : (leaves : List ℕ) → Type 0
 InTime leaves = (i j : ℕ) → i < length leaves → j < length leaves → getD leaves i 0 + 32 ≤ getD leaves j 0 → i < j
 
 -- "One fresh key's issued orders, each arriving once at its fresh cabinet, are all accepted in every arrival order in which each comes before any leaf 32 or
--- more above it": an arrival order is a permutation of the issued list; "Acceptance … is under demand 3's premises on texts and work slices", with its steps
+-- more above it": an arrival order is a permutation of the issued list (`List·Permᴰ` of the logic's library); "Acceptance … is under demand 3's premises on texts and work slices", with its steps
 -- and its refused checks in between
 abbrev pub ArrivalsAccepted : Type 0
 ArrivalsAccepted =
