@@ -73,7 +73,7 @@ pub record TablePassed (p : Profile) (words : ℕ) : Type 0 where
 module _ (p : Profile) (words : ℕ) where
   pub table-early : Avoids leavesTable (tableCauses p words)
   unfolding tableCauses profileCauses shapeCauses
-  table-early = (refl, (refl, (refl, (refl, (refl, tt)))))
+  table-early = (refl, (refl, (refl, (refl, (refl, (refl, tt))))))
 
   pub table-numbered : Numbered (tableCauses p words)
   table-numbered = avoids-other leavesTable (λ n. eqb n 0) (tableCauses p words) not-granted table-early
@@ -83,9 +83,9 @@ module _ (p : Profile) (words : ℕ) where
   table-passed e =
       let none = none-of-append (profileCauses p) (short (p .shape) words) (profile-numbered p) e in
       let passed = profile-passed p (none .0) in
-      let counted : firstCause (countCauses (p .shape) words) ≡ 0 = none-then (shapeCauses (p .shape)) (short (p .shape) words) (passed .0) (shape-numbered (p .shape)) ∙ none .1 in
+      let counted : firstCause (countCauses (p .shape) words) ≡ 0 = none-then (shapeCauses (p .shape)) (short (p .shape) words) (passed .shaped) (shape-numbered (p .shape)) ∙ none .1 in
       let fits = count-passed (p .shape) words counted in
-      record { limits = fits .0; low = passed .1; room = fits .1 }
+      record { limits = fits .0; low = passed .low; room = fits .1 }
 
 -- the table of a shape within its limits is small
 pub table-small : (p : Shape) → InLimits p → (p .chains + 1) * (p .sum + 1) ≤ 24641

@@ -1,11 +1,11 @@
--- What the checks of a profile tell: a shape that passes is within its limits, and so is the height of a profile.
+-- What the checks of a profile tell: a shape that passes is within its limits, and so are the height and the edition of a profile.
 use mathlib.Core.Path.{_≡_, refl}
 use mathlib.Core.Bool.{Bool, true, false, _||_, true≢false}
 use mathlib.Core.List.{List, [], _∷_}
 use Prim.Native.Nat.{ℕ, _-_, _*_, _^_, _<_, _≤_}
 use native.Mathlib.Nat.{le-trans, mul-le-mul}
 use native.Mathlib.Omega.{arith}
-use borrow.Author.Tests.{lt-ltb, le-ltb, ltb-false, leb-false}
+use borrow.Author.Tests.{lt-ltb, le-ltb, ltb-false, leb-false, ne-eqb}
 use lib.Dec.{ltb}
 use Rattle.refusal.specs.Code.{firstCause}
 use Rattle.refusal.proofs.Causes.{Without, Numbered, without-append, smaller-number, none-here, none-of-append}
@@ -51,24 +51,36 @@ in-limits p e =
     record { some-chain = l .0; few-chains = l .1; wide = w .0; narrow = w .1; reached = not-outside 0 (p .chains * (p .width - 1)) (p .sum) (third .0) .1 }
 
 module _ (p : Profile) where
+  -- the causes behind those of the shape
+  abbrev others : List (Bool × ℕ)
+  others = (outside 0 10 (p .height), 4) ∷ (outside 1 2 (p .edition), 22) ∷ []
+
   pub profile-numbered : Numbered (profileCauses p)
   unfolding profileCauses
-  profile-numbered = without-append 0 (shapeCauses (p .shape)) ((outside 0 10 (p .height), 4) ∷ []) (shape-numbered (p .shape)) (refl, tt)
+  profile-numbered = without-append 0 (shapeCauses (p .shape)) others (shape-numbered (p .shape)) (refl, (refl, tt))
 
-  pub profile-without : (k : ℕ) → 5 ≤ k → Without k (profileCauses p)
+  pub profile-without : (k : ℕ) → 5 ≤ k → k < 22 → Without k (profileCauses p)
   unfolding profileCauses
-  profile-without k h =
-      without-append k (shapeCauses (p .shape)) ((outside 0 10 (p .height), 4) ∷ []) (shape-without (p .shape) k (omega arith)) (smaller-number 4 k h, tt)
+  profile-without k low high =
+      without-append k (shapeCauses (p .shape)) others (shape-without (p .shape) k (omega arith)) (smaller-number 4 k low, (ne-eqb 22 k (λ z. omega arith), tt))
 
-  -- where a profile passes its checks, its shape does, and its height is within its limits
-  pub profile-passed : firstCause (profileCauses p) ≡ 0 → (firstCause (shapeCauses (p .shape)) ≡ 0) × (p .height ≤ 10)
+  -- where a profile passes its checks, its shape does, its height is within its limits, and its edition is 1 or 2
+  pub record Passed : Type 0 where
+    pub shaped : firstCause (shapeCauses (p .shape)) ≡ 0
+    pub low : p .height ≤ 10
+    pub named : (1 ≤ p .edition) × (p .edition ≤ 2)
+
+  pub profile-passed : firstCause (profileCauses p) ≡ 0 → Passed
   unfolding profileCauses
   profile-passed e =
-      let both = none-of-append (shapeCauses (p .shape)) ((outside 0 10 (p .height), 4) ∷ []) (shape-numbered (p .shape)) e in
-      (both .0, not-outside 0 10 (p .height) (none-here (outside 0 10 (p .height)) 4 [] refl (both .1) .0) .1)
+      let last : List (Bool × ℕ) = (outside 1 2 (p .edition), 22) ∷ [] in
+      let both = none-of-append (shapeCauses (p .shape)) others (shape-numbered (p .shape)) e in
+      let height = none-here (outside 0 10 (p .height)) 4 last refl (both .1) in
+      let edition = none-here (outside 1 2 (p .edition)) 22 [] refl (height .1) in
+      record { shaped = both .0; low = not-outside 0 10 (p .height) (height .0) .1; named = not-outside 1 2 (p .edition) (edition .0) }
 
   pub profile-limits : firstCause (profileCauses p) ≡ 0 → InLimits (p .shape) × (p .height ≤ 10)
-  profile-limits e = let passed = profile-passed e in (in-limits (p .shape) (passed .0), passed .1)
+  profile-limits e = let passed = profile-passed e in (in-limits (p .shape) (passed .shaped), passed .low)
 
 -- the largest sum: 40 chains of 15
 pub sum-small : (p : Shape) → InLimits p → p .sum ≤ 600

@@ -1,4 +1,4 @@
--- Document 01, Profile, and "Profile checks: 1 l, 2 w, 3 s, 4 h outside its range".
+-- Document 01, Profile, and "Profile checks: 1 l, 2 w, 3 s, 4 h outside its range"; document 02, point 6: the edition.
 use mathlib.Core.Bool.{Bool, _||_}
 use mathlib.Core.List.{List, [], _∷_, _++_}
 use Prim.Native.Nat.{ℕ, _-_, _*_, _^_, _≤_}
@@ -22,9 +22,9 @@ pub record InLimits (p : Shape) : Type 0 where
   pub narrow : p .width ≤ 16
   pub reached : p .sum ≤ p .chains * (p .width - 1)
 
--- "Tree height h, 0 to 10"
+-- "Tree height h, 0 to 10"; "A profile names edition 1 or 2 … 22 when the edition is neither, after 4"
 unfoldable pub profileCauses : Profile → List (Bool × ℕ)
-profileCauses p = shapeCauses (p .shape) ++ ((outside 0 10 (p .height), 4) ∷ [])
+profileCauses p = shapeCauses (p .shape) ++ ((outside 0 10 (p .height), 4) ∷ (outside 1 2 (p .edition), 22) ∷ [])
 
 -- 11 and 12: "leaf not below 2^h"
 unfoldable pub leafBeyond : (h leaf : ℕ) → Bool

@@ -14,10 +14,11 @@ pub struct Shape {
     pub sum: u32,
 }
 
-// A shape and the height h of the tree.
+// A shape, the height h of the tree, and the edition, 1 or 2 (document 02, point 6).
 pub struct Profile {
     pub shape: Shape,
     pub height: u32,
+    pub edition: u32,
 }
 
 // Whether a number is below the low limit or above the high one.
@@ -55,13 +56,16 @@ pub fn check_shape(p: Shape) -> Outcome
     then(measured, outside(0, most, sum), Refusal::Sum)
 }
 
-// The checks 1, 2, 3 and 4.
+// The checks 1, 2, 3 and 4, and then 22.
 pub fn check_profile(p: Profile) -> Outcome
     ensures { λ r. ⌜ outcomeCode r ≡ firstCause (profileCauses p) ⌝ }
 {
     let shape = p.shape;
     let height = p.height as u64;
-    then(check_shape(shape), outside(0, 10, height), Refusal::Height)
+    let edition = p.edition as u64;
+    let shaped = check_shape(shape);
+    let grown = then(shaped, outside(0, 10, height), Refusal::Height);
+    then(grown, outside(1, 2, edition), Refusal::Edition)
 }
 
 // How many leaves a tree has: 2^h.

@@ -24,6 +24,7 @@ pub enum Refusal {
     SheetLine,
     HashTooLong,
     CountTooSmall,
+    Edition,
 }
 
 // The answer of an operation that gives no value of its own.
@@ -56,6 +57,7 @@ pub fn code(r: Refusal) -> u8
         Refusal::SheetLine => 17,
         Refusal::HashTooLong => 18,
         Refusal::CountTooSmall => 19,
+        Refusal::Edition => 22,
     }
 }
 

@@ -1,4 +1,4 @@
--- `profile::check_profile` meets its contract: the checks of the shape, and then the height.
+-- `profile::check_profile` meets its contract: the checks of the shape, then the height, and then the edition.
 use mathlib.Core.Path.{refl}
 use borrow.Author.Needs.{needs}
 use Rattle.refusal.proofs.Causes.{chain-begins, chain-next}
@@ -10,11 +10,19 @@ use Rattle.profile.proofs.check_profile.Tie as tie
 returns : tie.Need-returns
 unfolding profileCauses
 returns c =
-    let tested = c .before in
+    let named = c .before in
+    let grown = named .before in
+    let tested = grown .before in
     let checked = tested .before in
-    let p = checked .before .before .before .args .p in
-    chain-next 4 refl (chain-begins (shapeCauses (p .shape)) (shape-numbered (p .shape)) (checked .check-shape .ensures)) (tested .outside .ensures) (c .then .ensures) .answer
+    let p = checked .before .before .before .before .args .p in
+    let shaped = chain-begins (shapeCauses (p .shape)) (shape-numbered (p .shape)) (checked .check-shape .ensures) in
+    let height = chain-next 4 refl shaped (tested .outside .ensures) (grown .then .ensures) in
+    chain-next 22 refl height (named .outside2 .ensures) (c .then2 .ensures) .answer
 
 pub check-profile-spec : {M : Type 1} → statement M
 check-profile-spec =
-    tie.close (tie.spec (λ c. search needs) (λ c κs. search needs) (λ c κs. search needs) (λ c κs. search needs) returns)
+    tie.close
+    (tie.spec
+    (λ c. search needs) (λ c. search needs) (λ c κs. search needs) (λ c κs. search needs) (λ c κs. search needs)
+    (λ c κs. search needs) (λ c κs. search needs)
+    returns)

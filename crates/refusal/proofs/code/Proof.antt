@@ -62,6 +62,9 @@ returns-18 c = sym (ap code (c .enum-told18 .given .1))
 returns-19 : tie.Need-returns-19
 returns-19 c = sym (ap code (c .enum-told19 .given .1))
 
+returns-20 : tie.Need-returns-20
+returns-20 c = sym (ap code (c .enum-told20 .given .1))
+
 pub code-spec : {M : Type 1} → statement M
 code-spec =
     tie.close
@@ -69,7 +72,7 @@ code-spec =
     (λ c. search needs) (λ c. search needs) (λ c. search needs) (λ c. search needs) (λ c. search needs)
     (λ c. search needs) (λ c. search needs) (λ c. search needs) (λ c. search needs) (λ c. search needs)
     (λ c. search needs) (λ c. search needs) (λ c. search needs) (λ c. search needs) (λ c. search needs)
-    (λ c. search needs) (λ c. search needs) (λ c. search needs) (λ c. search needs)
+    (λ c. search needs) (λ c. search needs) (λ c. search needs) (λ c. search needs) (λ c. search needs)
     returns
     returns-2
     returns-3
@@ -88,4 +91,5 @@ code-spec =
     returns-16
     returns-17
     returns-18
-    returns-19)
+    returns-19
+    returns-20)
