@@ -1,35 +1,48 @@
 -- The running hash on the way to a message's digest, and the number that four words of a digest are.
-use mathlib.Core.Path.{_≡_, _∙_, ap}
+use mathlib.Core.Path.{_≡_, refl, _∙_, ap}
+use mathlib.Core.Bool.{Bool, true, false, cond}
 use mathlib.Core.List.{List, [], _∷_, _++_}
 use Prim.Native.Nat.{ℕ, _+_, _*_, _^_, _≤_}
 use native.Mathlib.Omega.{arith}
+use lib.Dec.{eqb}
 use lib.ListN.{length, take, drop, length-append, length-drop}
-use lib.Seq.{length-take-le, take-add}
-use Rattle.words.specs.Bytes.{fromBytes}
+use lib.Seq.{length-take-le, take-add, take-all}
+use Rattle.words.specs.Bytes.{fromBytes, toBytes}
 use Rattle.words.specs.Number.{value}
-use Rattle.words.proofs.ByteLaws.{from-append}
+use Rattle.words.proofs.ByteLaws.{from-append, length-toBytes}
 use Rattle.sha256.specs.Digest.{wordBytes, digest}
 use Rattle.sha256.specs.Running.{started, addState, finished, hashed}
 use Rattle.sha256.specs.declared.running.Hash.{Hash}
 use Rattle.sha256.proofs.Joined.{started-hashed, finished-hashed, more-taken}
-use Rattle.message.specs.Message.{messageDigest}
+use Rattle.message.specs.Message.{leafPart}
 
--- start, and four adds
-pub all-taken : (r seed root message : List ℕ) {s₀ s₁ s₂ s₃ s₄ : Hash}
-    → length r ≡ 16 → length seed ≡ 16 → length root ≡ 16 → length message ≤ 200
-    → s₀ ≡ started → s₁ ≡ addState s₀ r → s₂ ≡ addState s₁ seed → s₃ ≡ addState s₂ root → s₄ ≡ addState s₃ message
-    → s₄ ≡ hashed (r ++ seed ++ root ++ message)
-all-taken r seed root message long-r long-seed long-root short e₀ e₁ e₂ e₃ e₄ =
+-- start, and five adds
+pub all-taken : (r seed root leaf message : List ℕ) {s₀ s₁ s₂ s₃ s₄ s₅ : Hash}
+    → length r ≤ 200 → length seed ≤ 200 → length root ≤ 200 → length leaf ≤ 200 → length message ≤ 200
+    → s₀ ≡ started → s₁ ≡ addState s₀ r → s₂ ≡ addState s₁ seed → s₃ ≡ addState s₂ root → s₄ ≡ addState s₃ leaf → s₅ ≡ addState s₄ message
+    → s₅ ≡ hashed (r ++ seed ++ root ++ leaf ++ message)
+all-taken r seed root leaf message short-r short-seed short-root short-leaf short e₀ e₁ e₂ e₃ e₄ e₅ =
+    let two = length-append r seed in
+    let three = length-append (r ++ seed) root in
     let first = more-taken [] r (omega arith) (e₀ ∙ started-hashed) e₁ in
     let second = more-taken r seed (omega arith) first e₂ in
-    let third = more-taken (r ++ seed) root (omega (arith, length-append r seed)) second e₃ in
-    more-taken (r ++ seed ++ root) message (omega (arith, length-append r seed, length-append (r ++ seed) root)) third e₄
+    let third = more-taken (r ++ seed) root (omega arith) second e₃ in
+    let fourth = more-taken (r ++ seed ++ root) leaf (omega arith) third e₄ in
+    more-taken (r ++ seed ++ root ++ leaf) message (omega (arith, length-append (r ++ seed ++ root) leaf)) fourth e₅
 
 -- the digest, once the hash is finished
-pub digest-made : (r seed root message : List ℕ) {s : Hash} {d : List ℕ} → s ≡ hashed (r ++ seed ++ root ++ message)
-    → d ≡ wordBytes (finished s .words) → d ≡ messageDigest r seed root message
-unfolding digest messageDigest
-digest-made r seed root message e f = f ∙ rw e (ap wordBytes (finished-hashed (r ++ seed ++ root ++ message)))
+pub digest-made : (bytes : List ℕ) {s : Hash} {d : List ℕ} → s ≡ hashed bytes → d ≡ wordBytes (finished s .words) → d ≡ digest bytes
+unfolding digest
+digest-made bytes e f = f ∙ rw e (ap wordBytes (finished-hashed bytes))
+
+-- what an edition takes of the leaf's bytes
+pub part-taken : (edition leaf : ℕ) → take (cond (eqb edition 2) 4 0) (toBytes 4 leaf) ≡ leafPart edition leaf
+unfolding leafPart
+part-taken edition leaf = by (eqb edition 2)
+  where
+    by : (second : Bool) → take (cond second 4 0) (toBytes 4 leaf) ≡ cond second (toBytes 4 leaf) []
+    by true = take-all 4 (toBytes 4 leaf) (omega (arith, length-toBytes 4 leaf))
+    by false = refl
 
 -- four bytes more
 from-word : (l : List ℕ) (n : ℕ) → n + 4 ≤ length l → fromBytes (take (n + 4) l) ≡ fromBytes (take n l) * 2 ^ 32 + fromBytes (take 4 (drop n l))

@@ -72,13 +72,14 @@ bits-of-log n k log =
     omega (arith, most, least, bits-few n)
 
 -- a digest's bytes
-length-message-digest : (r seed root message : List ℕ) → length (messageDigest r seed root message) ≡ 32
-unfolding messageDigest
-length-message-digest r seed root message = length-digest _
+module _ (edition leaf : ℕ) (r seed root message : List ℕ) where
+  length-message-digest : length (messageDigest edition leaf r seed root message) ≡ 32
+  unfolding messageDigest
+  length-message-digest = length-digest _
 
-message-digest-below : (r seed root message : List ℕ) → Below 256 (messageDigest r seed root message)
-unfolding messageDigest
-message-digest-below r seed root message = digest-below _
+  message-digest-below : Below 256 (messageDigest edition leaf r seed root message)
+  unfolding messageDigest
+  message-digest-below = digest-below _
 
 -- the first bits of a digest are those of its first 16 bytes
 pub first-16 : (b : ℕ) (bytes : List ℕ) → b ≤ 128 → length bytes ≡ 32 → Below 256 bytes → firstBits b bytes ≡ fromBytes (take 16 bytes) / 2 ^ (128 - b)
@@ -90,8 +91,9 @@ module _ (p : Profile) (leaf : ℕ) (r seed root message : List ℕ) where
   pub number-of-bits : messageNumber p leaf r seed root message < 2 ^ numberBits (count (p .shape))
   unfolding messageNumber
   number-of-bits =
-      let long = length-message-digest r seed root message in
-      first-bits-below (numberBits (count (p .shape))) (messageDigest r seed root message) (omega (arith, long, bits-few (count (p .shape)))) (message-digest-below r seed root message)
+      let long = length-message-digest (p .edition) leaf r seed root message in
+      first-bits-below (numberBits (count (p .shape))) (messageDigest (p .edition) leaf r seed root message) (omega (arith, long, bits-few (count (p .shape))))
+      (message-digest-below (p .edition) leaf r seed root message)
 
   -- and is below the count
   pub number-below-count : 0 < count (p .shape) → messageNumber p leaf r seed root message < count (p .shape)
@@ -103,9 +105,10 @@ module _ (p : Profile) (leaf : ℕ) (r seed root message : List ℕ) where
   number-fits large = number-below-count (omega (arith, ltb-false (count (p .shape)) 256 large))
 
   -- with 128 bits it is the number of the first 16 bytes
-  pub number-of-16-bytes : 2 ^ 128 ≤ count (p .shape) → messageNumber p leaf r seed root message ≡ fromBytes (take 16 (messageDigest r seed root message))
+  pub number-of-16-bytes : 2 ^ 128 ≤ count (p .shape) → messageNumber p leaf r seed root message ≡ fromBytes (take 16 (messageDigest (p .edition) leaf r seed root message))
   unfolding messageNumber
   number-of-16-bytes many =
-      let bytes = messageDigest r seed root message in
+      let bytes = messageDigest (p .edition) leaf r seed root message in
       let all : numberBits (count (p .shape)) ≡ 128 = omega (arith, bits-few (count (p .shape)), bits-largest (count (p .shape)) 128 (le-refl 128) many) in
-      ap (λ b. firstBits b bytes) all ∙ first-16 128 bytes (le-refl 128) (length-message-digest r seed root message) (message-digest-below r seed root message) ∙ div-one (fromBytes (take 16 bytes))
+      ap (λ b. firstBits b bytes) all ∙ first-16 128 bytes (le-refl 128) (length-message-digest (p .edition) leaf r seed root message) (message-digest-below (p .edition) leaf r seed root message)
+      ∙ div-one (fromBytes (take 16 bytes))

@@ -1,33 +1,64 @@
 // The digest of an order, its number, and how long an order's text and a signature are.
 ghost use mathlib.Core.Path.{_≡_};
+ghost use mathlib.Core.Bool.{cond};
+ghost use mathlib.Core.List.{_++_};
 ghost use Prim.Native.Nat.{_≤_};
+ghost use lib.Dec.{eqb};
 ghost use lib.ListN.{length, take};
 ghost use Rattle.words.specs.Bytes.{fromBytes};
 ghost use Rattle.words.specs.Number.{value};
 ghost use Rattle.words.specs.Powers.{firstBits};
+ghost use Rattle.sha256.specs.Digest.{digest};
 ghost use Rattle.counts.specs.Counts as counts;
 ghost use Rattle.message.specs.Message.{messageDigest, numberBits, messageNumber, countTooSmall, outsideText, signatureLength};
 use profile::Profile;
 use sha256::Hash;
 use words::bytes::word_at;
+use words::bytes::word_bytes;
 use words::number::less;
 use words::powers::log2;
 use words::powers::shift_right;
 
-// The digest over R, the public seed, the root and the message.
-fn message_digest(r: [u8; 16], seed: [u8; 16], root: [u8; 16], message: &[u8]) -> [u8; 32]
-    requires { ⌜ length (now message) ≤ 200 ⌝ }
-    ensures { λ d. ⌜ d ≡ messageDigest r seed root (now (message .entry)) ⌝ }
+// The digest over R, the public seed, the root, the bytes of the leaf that the edition takes, and the message.
+fn joined_digest(r: &[u8], seed: &[u8], root: &[u8], leaf: &[u8], message: &[u8]) -> [u8; 32]
+    requires { ⌜ (length (now r) ≤ 200) × (length (now seed) ≤ 200) × (length (now root) ≤ 200) × (length (now leaf) ≤ 200) × (length (now message) ≤ 200) ⌝ }
+    ensures { λ d. ⌜ d ≡ digest (now (r .entry) ++ now (seed .entry) ++ now (root .entry) ++ now (leaf .entry) ++ now (message .entry)) ⌝ }
 {
-    let with_r = Hash::start().add(&r);
+    let with_r = Hash::start().add(r);
     let first = with_r.hash;
-    let with_seed = first.add(&seed);
+    let with_seed = first.add(seed);
     let second = with_seed.hash;
-    let with_root = second.add(&root);
+    let with_root = second.add(root);
     let third = with_root.hash;
-    let with_message = third.add(message);
+    let with_leaf = third.add(leaf);
+    let fourth = with_leaf.hash;
+    let with_message = fourth.add(message);
     let last = with_message.hash;
     last.finish().digest()
+}
+
+// How many bytes of the leaf a digest takes.
+fn leaf_bytes(edition: u32) -> usize
+    ensures { λ n. ⌜ n ≡ cond (eqb edition 2) 4 0 ⌝ }
+{
+    if edition == 2 { 4 } else { 0 }
+}
+
+// The digest of a message that a leaf signs, in an edition.
+fn message_digest(
+    edition: u32,
+    leaf: u32,
+    r: [u8; 16],
+    seed: [u8; 16],
+    root: [u8; 16],
+    message: &[u8],
+) -> [u8; 32]
+    requires { ⌜ length (now message) ≤ 200 ⌝ }
+    ensures { λ d. ⌜ d ≡ messageDigest edition leaf r seed root (now (message .entry)) ⌝ }
+{
+    let bytes = word_bytes(leaf);
+    let taken = leaf_bytes(edition);
+    joined_digest(&r, &seed, &root, &bytes[..taken], message)
 }
 
 // Whether a count is too small for a number of 8 bits.
@@ -81,7 +112,8 @@ pub fn message_number(
     ensures { λ n. ⌜ value n ≡ messageNumber p leaf r seed root (now (message .entry)) ⌝ }
 {
     let bits = number_bits(count);
-    number_of_digest(message_digest(r, seed, root, message), bits)
+    let edition = p.edition;
+    number_of_digest(message_digest(edition, leaf, r, seed, root, message), bits)
 }
 
 // Whether a message is empty or over 200 bytes.

@@ -1,4 +1,4 @@
--- Document 01, "Issue", with document 02, point 3: what a key signs, what comes back and what is written.
+-- Document 01, "Issue", with document 02, points 3 and 6: what a key signs, what comes back and what is written.
 use mathlib.Core.Path.{_≡_}
 use mathlib.Core.Bool.{Bool, cond}
 use mathlib.Core.List.{List, [], _∷_, _++_}
@@ -33,7 +33,7 @@ unfoldable pub advanced : SigningKey → SigningKey
 advanced key =
     record { profile = key .profile; seed = key .seed; secret = key .secret; next = key .next + 1 }
 
--- the number of a message that a key's next leaf signs
+-- the number of a message that a key's next leaf signs: in edition 2 that leaf stands in its digest
 unfoldable pub keyNumber : SigningKey → (r message : List ℕ) → ℕ
 keyNumber key r message =
     messageNumber (key .profile) (key .next) r (key .seed) (rootOf (firstDomain (key .seed)) (key .profile) (key .secret)) message

@@ -1,4 +1,4 @@
--- Document 01, "Check", with document 02, points 3 and 4: how a signature is read and judged, and what the cabinet is afterwards.
+-- Document 01, "Check", with document 02, points 3, 4 and 6: how a signature is read and judged, and what the cabinet is afterwards.
 use mathlib.Core.Path.{_≡_}
 use mathlib.Core.Bool.{Bool, true, false, not, _&&_, _||_, cond}
 use mathlib.Core.List.{List, [], _∷_, _++_}
@@ -41,7 +41,7 @@ valuesIn p signature = take (16 * p .shape .chains) (drop 20 signature)
 unfoldable pub siblingsIn : Profile → (signature : List ℕ) → List ℕ
 siblingsIn p signature = drop (20 + 16 * p .shape .chains) signature
 
--- the message number, with the leaf and R that the signature has and the root that the cabinet holds
+-- the message number, by the edition and the root that the cabinet holds, with the leaf and R that the signature has
 unfoldable pub numberIn : Verifier → (message signature : List ℕ) → ℕ
 numberIn v message signature =
     messageNumber (v .profile) (leafIn signature) (randomIn signature) (v .seed) (v .root) message

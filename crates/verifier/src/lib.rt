@@ -90,7 +90,7 @@ fn leaf_in(signature: &[u8]) -> u32
     front_word(signature)
 }
 
-// The message number, with the signature's R and the cabinet's root, for the count of the cabinet's profile.
+// The message number, with the signature's leaf and R and the cabinet's root, for the count of the cabinet's profile.
 fn number_in(v: Verifier, count: [u32; 5], message: &[u8], signature: &[u8]) -> [u32; 5]
     requires { ⌜ value count ≡ counts.count (v .profile .shape) ⌝ }
     requires { ⌜ (length (now message) ≤ 200) × (20 ≤ length (now signature)) ⌝ }
