@@ -13,9 +13,10 @@ use Rattle.words.proofs.Pairs.{Each, each-append}
 use Rattle.profile.specs.declared.Profile.{Profile}
 use Rattle.hex.specs.Hex.{Line, wrong, right, lineOf}
 use Rattle.message.specs.Message.{signatureLength}
-use Rattle.sheet.specs.Frames.{Within, Frame, sized, profileFrame, numbered, frames, textFrame}
+use Rattle.sheet.specs.Frames.{Within, Frame, sized, editionByte, profileFrame, numbered, frames, textFrame}
 use Rattle.sheet.specs.Sheet.{linesOf, sheetOf, Reading, wrongLine, read, readFrame, inFront, followed, ended, readFrames, readSheet, Carried, Exact}
 use Rattle.sheet.proofs.FrameLaws.{frame-read, Framed, read-frame}
+use Rattle.sheet.proofs.FrameNumbers.{edition-byte}
 
 -- each has one number of bytes behind its fixed ones
 abbrev Sized : List Frame → Type 0
@@ -146,12 +147,13 @@ module _ (p : Profile) where
   frames-total =
       omega (arith, total-append (numbered 4 0 (p .shape .chains)) (numbered 5 0 (p .height)), total-numbered 4 0 (p .shape .chains), total-numbered 5 0 (p .height))
 
-  profile-bytes : Within p → Below 256 (1 ∷ p .shape .chains ∷ p .shape .width ∷ p .height ∷ toBytes 2 (p .shape .sum))
-  profile-bytes h zero = lit< tt
-  profile-bytes h (suc zero) = omega (arith, h .0 .few-chains)
-  profile-bytes h (suc (suc zero)) = omega (arith, h .0 .narrow)
-  profile-bytes h (suc (suc (suc zero))) = omega (arith, h .1)
-  profile-bytes h (suc (suc (suc (suc i)))) = toBytes-lt 2 (p .shape .sum) i
+  pub profile-below : Within p → Below 256 (profileFrame p .head)
+  unfolding profileFrame
+  profile-below h zero = lit< tt
+  profile-below h (suc zero) = omega (arith, h .0 .few-chains)
+  profile-below h (suc (suc zero)) = omega (arith, h .0 .narrow)
+  profile-below h (suc (suc (suc zero))) = omega (arith, h .1)
+  profile-below h (suc (suc (suc (suc i)))) = below-append 256 (toBytes 2 (p .shape .sum)) (editionByte (p .edition)) (toBytes-lt 2 (p .shape .sum)) (edition-byte (Below 256) (p .edition) (below-by-test 256 (2 ∷ []) tt) (below-by-test 256 [] tt)) i
 
   frames-bytes : Within p → Bytes (frames p)
   unfolding frames profileFrame
@@ -159,7 +161,7 @@ module _ (p : Profile) where
       let head : (kind i : ℕ) → kind < 256 → i < 256 → Below 256 (kind ∷ i ∷ []) =
       λ kind i small few. below-cons 256 kind (i ∷ []) small (below-cons 256 i [] few (λ j. lit< tt)) in
       let values = all-values (λ f. Below 256 (f .head)) (λ i low. head 4 i (lit< tt) (omega (arith, h .0 .few-chains))) (λ i low. head 5 i (lit< tt) (omega (arith, h .1))) in
-      (below-by-test 256 (71 ∷ 79 ∷ 49 ∷ []) tt, (profile-bytes h, (below-by-test 256 (2 ∷ []) tt, (below-by-test 256 (3 ∷ []) tt, values))))
+      (below-by-test 256 (71 ∷ 79 ∷ 49 ∷ []) tt, (profile-below h, (below-by-test 256 (2 ∷ []) tt, (below-by-test 256 (3 ∷ []) tt, values))))
 
 pub exact : Exact
 unfolding readSheet sheetOf

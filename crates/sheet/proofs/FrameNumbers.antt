@@ -1,17 +1,17 @@
 -- Frame k of a sheet: how many there are, which it is, how many bytes it has, and its fixed bytes.
 use mathlib.Core.Path.{_≡_, refl, sym, ap, _∙_}
-use mathlib.Core.Bool.{Bool, true, false}
+use mathlib.Core.Bool.{Bool, true, false, cond}
 use mathlib.Core.List.{List, [], _∷_, _++_}
 use Prim.Native.Nat.{ℕ, zero, suc, _+_, _-_, _/_, _%_, _^_, _≤_, _<_}
 use native.Mathlib.Nat.{zero-add}
 use native.Mathlib.Omega.{arith}
 use borrow.Author.Tests.{ltb-true, ltb-false}
-use lib.Dec.{ltb, lit≤}
+use lib.Dec.{ltb, eqb, lit≤}
 use lib.ListN.{length, getD, length-append, List·getD-append, List·getD-eq-default}
 use lib.Seq.{getD-append-add}
 use Rattle.words.specs.Bytes.{toBytes}
 use Rattle.profile.specs.declared.Profile.{Profile}
-use Rattle.sheet.specs.Frames.{Frame, sized, firstFrame, profileFrame, leafFrame, randomizerFrame, numbered, frames, textFrame, frameAt}
+use Rattle.sheet.specs.Frames.{Frame, sized, firstFrame, editionByte, profileFrame, leafFrame, randomizerFrame, numbered, frames, textFrame, frameAt}
 use Rattle.sheet.specs.Reader.{HasSize}
 use Rattle.sheet.specs.declared.frames.Size.{Size}
 
@@ -29,7 +29,7 @@ numbered-at kind k (suc n) (suc i) f h =
     rw same (numbered-at kind (suc k) n i f (omega arith))
 
 -- a frame with so many fixed bytes, and so many behind them
-pub sized-size : {f : Frame} {fixed payload : ℕ} {r : Size} → length (f .head) ≡ fixed → f .low ≡ payload → f .high ≡ payload → fixed ≤ 6 → payload ≤ 200
+pub sized-size : {f : Frame} {fixed payload : ℕ} {r : Size} → length (f .head) ≡ fixed → f .low ≡ payload → f .high ≡ payload → fixed ≤ 7 → payload ≤ 200
     → (r .fixed ≡ fixed) × (r .low ≡ payload) × (r .high ≡ payload) → HasSize f r
 sized-size a b c few short e = record { fixed = e .0 ∙ sym a; low = e .1 ∙ sym b; high = e .2 ∙ sym c; few = omega arith; short = omega arith }
 
@@ -63,13 +63,9 @@ module _ (p : Profile) where
         ∙ getD-append-add (numbered 4 0 chains) (numbered 5 0 (p .height)) (k - (4 + chains)) textFrame
         ∙ numbered-at 5 0 (p .height) (k - (4 + chains)) textFrame (omega arith) ∙ rw zero-add
 
-    pub profile-at : k ≡ 1 → frameAt p k .head ≡ 1 ∷ chains ∷ p .shape .width ∷ p .height ∷ toBytes 2 (p .shape .sum)
-    unfolding frames profileFrame
-    profile-at e = ap (λ i. frameAt p i .head) e
-
-    pub profile-long : k ≡ 1 → length (frameAt p k .head) ≡ 6
-    unfolding toBytes
-    profile-long e = ap length (profile-at e)
+    pub profile-at : k ≡ 1 → frameAt p k ≡ profileFrame p
+    unfolding frames
+    profile-at e = ap (frameAt p) e
 
     pub text-at : length (frames p) ≤ k → frameAt p k ≡ textFrame
     text-at h = List·getD-eq-default (frames p) textFrame h
@@ -99,10 +95,39 @@ kind-byte p (suc (suc (suc zero))) zero low high h = refl
 kind-byte p (suc (suc (suc zero))) (suc i) low high h = absurd (omega arith)
 kind-byte p (suc (suc (suc (suc k)))) i low high h = absurd (omega arith)
 
--- the two bytes of the sum
-pub two-bytes : (sum : ℕ) (a b c d : ℕ) → sum ≤ 600 → _≡_ {A = List ℕ} (a ∷ b ∷ c ∷ d ∷ sum / 256 ∷ sum % 256 ∷ []) (a ∷ b ∷ c ∷ d ∷ toBytes 2 sum)
-unfolding toBytes
-two-bytes sum a b c d h =
+-- the profile's frame: how many bytes it has
+pub profile-long : (p : Profile) → length (profileFrame p .head) ≡ 6 + length (editionByte (p .edition))
+unfolding profileFrame toBytes
+profile-long p = omega arith
+
+-- what holds of 02 and of no byte holds of an edition's
+pub edition-byte : (P : List ℕ → Type 0) (edition : ℕ) → P (2 ∷ []) → P [] → P (editionByte edition)
+unfolding editionByte
+edition-byte P edition byte none = by (eqb edition 2)
+  where
+    by : (second : Bool) → P (cond second (2 ∷ []) [])
+    by true = byte
+    by false = none
+
+pub edition-long : (edition : ℕ) → length (editionByte edition) ≤ 1
+edition-long edition = edition-byte (λ l. length l ≤ 1) edition (lit≤ tt) (lit≤ tt)
+
+-- the bytes of the profile's frame, with any behind the sum's
+abbrev headWith : Profile → (last : List ℕ) → List ℕ
+headWith p last = 1 ∷ p .shape .chains ∷ p .shape .width ∷ p .height ∷ (toBytes 2 (p .shape .sum) ++ last)
+
+-- they are those of edition 2, as far as the frame has them
+pub profile-byte : (p : Profile) (i : ℕ) {head : List ℕ} → head ≡ headWith p (editionByte 2) → i < length (profileFrame p .head) → getD head i 0 ≡ getD (profileFrame p .head) i 0
+unfolding profileFrame editionByte toBytes
+profile-byte p i e h =
+    let same = edition-byte (λ last. i < length (headWith p last) → getD (headWith p (editionByte 2)) i 0 ≡ getD (headWith p last) i 0) (p .edition) in
+    ap (λ l. getD l i 0) e ∙ same (λ few. refl) (λ few. List·getD-append (headWith p []) (2 ∷ []) 0 i few) h
+
+-- the two bytes of the sum, with the byte of edition 2 behind them
+pub two-bytes : (sum : ℕ) (a b c d last : ℕ) → sum ≤ 600 → last ≡ 2
+    → _≡_ {A = List ℕ} (a ∷ b ∷ c ∷ d ∷ sum / 256 ∷ sum % 256 ∷ last ∷ []) (a ∷ b ∷ c ∷ d ∷ (toBytes 2 sum ++ editionByte 2))
+unfolding toBytes editionByte
+two-bytes sum a b c d last h second =
     let high : sum / 256 ^ 1 % 256 ≡ sum / 256 = omega arith in
     let low : sum / 256 ^ 0 % 256 ≡ sum % 256 = omega arith in
-    rw (high, low)
+    rw (high, low, second)

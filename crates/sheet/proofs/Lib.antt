@@ -3,6 +3,7 @@ pub mod Exactness
 pub mod Example
 pub mod FrameLaws
 pub mod FrameNumbers
+pub mod OtherProfile
 pub mod ParserLaws
 pub mod PayloadLaws
 pub mod PlaceLaws

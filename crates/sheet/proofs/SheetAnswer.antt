@@ -5,7 +5,7 @@ use mathlib.Core.List.{List, [], _∷_, _++_}
 use Prim.Native.Nat.{ℕ, suc, _+_, _*_, _≤_}
 use native.Mathlib.Omega.{arith}
 use borrow.Author.Tests.{lt-ltb, ltb-false}
-use lib.Dec.{ltb, eqb, lit≤}
+use lib.Dec.{ltb, eqb, lit<, lit≤}
 use lib.ListN.{length, drop}
 use Rattle.refusal.specs.Code.{outcomeCode, firstCause}
 use Rattle.refusal.specs.declared.Refusal.{Refusal}
@@ -97,7 +97,7 @@ module _ (p : Profile) (sheet signature message : List ℕ) where
   unfolding sheetCode
   profile-refused o e r q =
       let some = refused-some (profileCauses p) late o e r q in
-      let other = refused-without (profileCauses p) late o e r q 17 refl (profile-without p 17 (lit≤ tt)) in
+      let other = refused-without (profileCauses p) late o e r q 17 refl (profile-without p 17 (lit≤ tt) (lit< tt)) in
       record {
         code = refused-then (profileCauses p) late o e r q;
         line = rw other;

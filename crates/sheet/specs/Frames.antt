@@ -1,12 +1,14 @@
--- Document 01, Sheet: "one frame a line", and the frames in their order.
+-- Document 01, Sheet: "one frame a line", and the frames in their order; document 02, point 6: the edition's byte.
+use mathlib.Core.Bool.{cond}
 use mathlib.Core.List.{List, [], _∷_, _++_}
 use Prim.Native.Nat.{ℕ, zero, suc, _≤_}
+use lib.Dec.{eqb}
 use lib.ListN.{getD}
 use Rattle.words.specs.Bytes.{toBytes}
 use Rattle.profile.specs.Checks.{InLimits}
 use Rattle.profile.specs.declared.Profile.{Profile}
 
--- a profile within its limits
+-- a profile whose shape and height are within their limits; its edition may be any number
 abbrev pub Within : Profile → Type 0
 Within p = InLimits (p .shape) × (p .height ≤ 10)
 
@@ -30,9 +32,13 @@ firstCharacters = 52 ∷ 55 ∷ 52 ∷ 70 ∷ 51 ∷ 49 ∷ []
 abbrev pub firstFrame : Frame
 firstFrame = sized (71 ∷ 79 ∷ 49 ∷ []) 0
 
--- "01 with l, w, h (1 byte each) and s (2 bytes)"
+-- "frames 01 and 07 gain a last byte, 02, only for edition 2"
+unfoldable pub editionByte : (edition : ℕ) → List ℕ
+editionByte edition = cond (eqb edition 2) (2 ∷ []) []
+
+-- "01 with l, w, h (1 byte each) and s (2 bytes)", and the edition's byte
 unfoldable pub profileFrame : Profile → Frame
-profileFrame p = sized (1 ∷ p .shape .chains ∷ p .shape .width ∷ p .height ∷ toBytes 2 (p .shape .sum)) 0
+profileFrame p = sized (1 ∷ p .shape .chains ∷ p .shape .width ∷ p .height ∷ (toBytes 2 (p .shape .sum) ++ editionByte (p .edition))) 0
 
 -- "02 leaf (4)"
 abbrev pub leafFrame : Frame

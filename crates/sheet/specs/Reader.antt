@@ -22,7 +22,7 @@ pub record HasSize (f : Frame) (r : Size) : Type 0 where
   pub fixed : r .fixed ≡ length (f .head)
   pub low : r .low ≡ f .low
   pub high : r .high ≡ f .high
-  pub few : r .fixed ≤ 6
+  pub few : r .fixed ≤ 7
   pub short : r .high ≤ 200
 
 -- how many bytes a line has, where they are at most so many

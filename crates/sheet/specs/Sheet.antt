@@ -6,11 +6,12 @@ use mathlib.Core.List.{List, [], _∷_, _++_}
 use Prim.Native.Nat.{ℕ, suc, _≤_, _<_}
 use lib.Dec.{eqb}
 use lib.ListN.{length, getD, take, drop}
+use Rattle.refusal.specs.Code.{firstCause}
 use Rattle.hex.specs.Hex.{Line, wrong, right, lineOf, readLine}
 use Rattle.message.specs.Message.{signatureLength}
-use Rattle.profile.specs.Checks.{outside}
+use Rattle.profile.specs.Checks.{outside, profileCauses}
 use Rattle.profile.specs.declared.Profile.{Profile}
-use Rattle.sheet.specs.Frames.{Within, Frame, frames, textFrame}
+use Rattle.sheet.specs.Frames.{Within, Frame, firstFrame, profileFrame, frames, textFrame}
 
 -- the lines of frames, with the bytes behind the fixed ones taken from the front of `bytes`
 unfoldable pub linesOf : List Frame → (bytes : List ℕ) → List ℕ
@@ -75,8 +76,16 @@ pub record Carried (p : Profile) (signature text : List ℕ) : Type 0 where
   pub some-text : 1 ≤ length text
   pub short-text : length text ≤ 200
 
--- for every profile within its limits: what is read is a right sheet, and each right sheet is read as what it carries
+-- for every profile within these limits, in any edition: what is read is a right sheet, and each right sheet is read as what it carries
 abbrev pub Exact : Type 0
 Exact =
     (p : Profile) → Within p → (sheet signature text : List ℕ)
     → (readSheet p sheet ≡ read signature text) ↔ (Carried p signature text × (sheet ≡ sheetOf p signature text))
+
+-- "17 with the number, from 1, of the first line that is wrong", where that is the profile's, behind the right first line; document 02, point 6: its last byte, 02 or none, tells the edition
+pub record ProfileLine : Type 0 where
+  -- any line but the frame of the expected profile, whatever its last byte
+  pub wrong-frame : (p : Profile) (rest : List ℕ) → ((tail : List ℕ) → rest ≡ lineOf (profileFrame p .head) ++ tail → ⊥) → readSheet p (lineOf (firstFrame .head) ++ rest) ≡ wrongLine 2
+  -- so every sheet of another profile that passes its checks, and be it another in its edition alone
+  pub other-profile : (p q : Profile) → firstCause (profileCauses p) ≡ 0 → firstCause (profileCauses q) ≡ 0 → (p ≡ q → ⊥)
+      → (signature text : List ℕ) → readSheet p (sheetOf q signature text) ≡ wrongLine 2

@@ -40,7 +40,7 @@ pub fn ends_at(sheet: &[u8], at: usize) -> bool
 
 // Whether the fixed bytes of frame k stand from an index on.
 fn head_stands(sheet: &[u8], at: usize, p: Profile, k: usize, fixed: usize) -> bool
-    requires { ⌜ (at ≤ length (now sheet)) × Within p × (1 ≤ k) × (fixed ≡ length (frameAt p k .head)) × (fixed ≤ 6) ⌝ }
+    requires { ⌜ (at ≤ length (now sheet)) × Within p × (1 ≤ k) × (fixed ≡ length (frameAt p k .head)) × (fixed ≤ 7) ⌝ }
     ensures { λ r. ⌜ ((low high : ℕ) → readFrame (framed (frameAt p k .head) low high) (drop at (now (sheet .entry))) ≡ cond r (readFrame (framed [] low high) (drop (at + 2 * fixed) (now (sheet .entry)))) wrong) ⌝ }
 {
     let mut i = 0;
@@ -62,7 +62,7 @@ fn head_stands(sheet: &[u8], at: usize, p: Profile, k: usize, fixed: usize) -> b
 
 // The bytes of the line that goes on at an index, where they are at most so many.
 fn line_bytes(sheet: &[u8], at: usize, most: usize) -> Found
-    requires { ⌜ (at ≤ length (now sheet) + 12) × (most ≤ 200) ⌝ }
+    requires { ⌜ (at ≤ length (now sheet) + 14) × (most ≤ 200) ⌝ }
     ensures { λ r. ⌜ r ≡ foundOf most (readLine (drop at (now (sheet .entry)))) ⌝ }
 {
     let mut i = 0;

@@ -1,10 +1,10 @@
 // The frames of a profile's sheet, numbered from 0: how many bytes each has, and its fixed ones.
 ghost use mathlib.Core.Path.{_≡_};
-ghost use mathlib.Core.List.{[], _∷_};
-ghost use Prim.Native.Nat.{_≤_, _<_};
+ghost use mathlib.Core.List.{[], _∷_, _++_};
+ghost use Prim.Native.Nat.{_+_, _≤_, _<_};
 ghost use lib.ListN.{length, getD};
 ghost use Rattle.words.specs.Bytes.{toBytes};
-ghost use Rattle.sheet.specs.Frames.{Within, frames, frameAt};
+ghost use Rattle.sheet.specs.Frames.{Within, editionByte, frames, frameAt};
 ghost use Rattle.sheet.specs.Reader.{HasSize};
 use profile::Profile;
 
@@ -34,14 +34,22 @@ pub fn frame_count(p: Profile) -> usize
     4 + shape.chains as usize + p.height as usize
 }
 
+// How many bytes the profile's frame has: one more in edition 2.
+fn profile_bytes(edition: u32) -> usize
+    ensures { λ n. ⌜ n ≡ 6 + length (editionByte edition) ⌝ }
+{
+    if edition == 2 { 7 } else { 6 }
+}
+
 // The size of frame k: the first line, the profile, the leaf, R, values and siblings, and behind them the text.
 pub fn frame_size(p: Profile, k: usize) -> Size
     ensures { λ r. ⌜ HasSize (frameAt p k) r ⌝ }
 {
     let count = frame_count(p);
+    let edition = p.edition;
     match k {
         0 => sized(3, 0),
-        1 => sized(6, 0),
+        1 => sized(profile_bytes(edition), 0),
         2 => sized(1, 4),
         3 => sized(1, 16),
         _ => {
@@ -58,10 +66,10 @@ pub fn frame_size(p: Profile, k: usize) -> Size
     }
 }
 
-// The fixed bytes of the profile's frame.
-fn profile_head(p: Profile) -> [u8; 6]
+// The fixed bytes of the profile's frame, as in edition 2: in edition 1 the last is left out.
+fn profile_head(p: Profile) -> [u8; 7]
     requires { ⌜ Within p ⌝ }
-    ensures { λ r. ⌜ r ≡ 1 ∷ p .shape .chains ∷ p .shape .width ∷ p .height ∷ toBytes 2 (p .shape .sum) ⌝ }
+    ensures { λ r. ⌜ r ≡ 1 ∷ p .shape .chains ∷ p .shape .width ∷ p .height ∷ (toBytes 2 (p .shape .sum) ++ editionByte 2) ⌝ }
 {
     let shape = p.shape;
     let sum = shape.sum;
@@ -72,6 +80,7 @@ fn profile_head(p: Profile) -> [u8; 6]
         p.height as u8,
         (sum / 256) as u8,
         (sum % 256) as u8,
+        2,
     ]
 }
 

@@ -1,13 +1,12 @@
 -- `sheet::frames::frame_size` meets its contract, frame by frame.
-use mathlib.Core.Path.{_≡_, ap}
+use mathlib.Core.Path.{_≡_, sym, ap, _∙_}
 use Prim.Native.Nat.{ℕ, _≤_}
 use native.Mathlib.Omega.{arith}
 use borrow.Author.Needs.{needs}
 use lib.Dec.{lit≤}
 use lib.ListN.{length}
-use Rattle.words.specs.Bytes.{toBytes}
 use Rattle.sheet.specs.Frames.{profileFrame, frames, frameAt}
-use Rattle.sheet.proofs.FrameNumbers.{sized-size, text-size, numbered-size}
+use Rattle.sheet.proofs.FrameNumbers.{sized-size, text-size, numbered-size, profile-long, edition-long}
 use Rattle.sheet.proofs.frames.frame_size.Statement.{statement}
 use Rattle.sheet.proofs.frames.frame_size.Tie as tie
 
@@ -23,11 +22,14 @@ returns c =
     sized-size (ap (λ k. length (frameAt (a .p) k .head)) e) (ap (λ k. frameAt (a .p) k .low) e) (ap (λ k. frameAt (a .p) k .high) e) (lit≤ tt) (lit≤ tt) (c .sized .ensures)
 
 returns-2 : tie.Need-returns-2
-unfolding frames profileFrame toBytes
+unfolding frames profileFrame
 returns-2 c =
-    let a = c .before .before .before .args in
-    let e = c .before .match .keys2 in
-    sized-size (ap (λ k. length (frameAt (a .p) k .head)) e) (ap (λ k. frameAt (a .p) k .low) e) (ap (λ k. frameAt (a .p) k .high) e) (lit≤ tt) (lit≤ tt) (c .sized2 .ensures)
+    let b = c .before in
+    let a = b .before .before .before .args in
+    let e = b .before .match .keys2 in
+    let long = b .profile-bytes .ensures in
+    sized-size (ap (λ k. length (frameAt (a .p) k .head)) e ∙ profile-long (a .p) ∙ sym long) (ap (λ k. frameAt (a .p) k .low) e) (ap (λ k. frameAt (a .p) k .high) e)
+    (omega (arith, long, edition-long (a .p .edition))) (lit≤ tt) (c .sized2 .ensures)
 
 returns-3 : tie.Need-returns-3
 unfolding frames
@@ -58,7 +60,7 @@ frame-size-spec =
     tie.close
     (tie.spec
     (λ c κs. search needs) (λ c κs. search needs) (λ c κs. search needs) (λ c κs. search needs) (λ c κs. search needs)
-    (λ c κs. search needs)
+    (λ c κs. search needs) (λ c κs. search needs)
     returns
     returns-2
     returns-3

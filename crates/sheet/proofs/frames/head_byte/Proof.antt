@@ -4,19 +4,21 @@ use native.Mathlib.Omega.{arith}
 use borrow.Author.Needs.{needs}
 use lib.ListN.{length, getD}
 use Rattle.words.proofs.Lists.{getD-only}
-use Rattle.sheet.proofs.FrameNumbers.{length-frames, value-at, sibling-at, profile-at, profile-long, text-at, kind-byte}
+use Rattle.sheet.proofs.FrameNumbers.{length-frames, value-at, sibling-at, profile-at, text-at, kind-byte, profile-long, edition-long, profile-byte}
 use Rattle.sheet.proofs.frames.head_byte.Statement.{statement}
 use Rattle.sheet.proofs.frames.head_byte.Tie as tie
 
 array-read-result : tie.Need-array-read-result
 array-read-result c =
     let a = c .before .before .before .before .before in
-    omega (arith, profile-long (a .args .p) (a .args .k) (c .before .if1 .taken), a .pre .2)
+    let long = ap (λ f. length (f .head)) (profile-at (a .args .p) (a .args .k) (c .before .if1 .taken)) ∙ profile-long (a .args .p) in
+    omega (arith, edition-long (a .args .p .edition), a .pre .2)
 
 returns : tie.Need-returns
 returns c =
-    let a = c .before .before .before .before .before .args in
-    ap (λ l. getD l (a .i) 0) (c .profile-head .ensures ∙ sym (profile-at (a .p) (a .k) (c .before .if1 .taken)))
+    let a = c .before .before .before .before .before in
+    let same = profile-at (a .args .p) (a .args .k) (c .before .if1 .taken) in
+    profile-byte (a .args .p) (a .args .i) (c .profile-head .ensures) (omega (arith, ap (λ f. length (f .head)) same, a .pre .2)) ∙ ap (λ f. getD (f .head) (a .args .i) 0) (sym same)
 
 returns-2 : tie.Need-returns-2
 returns-2 c =

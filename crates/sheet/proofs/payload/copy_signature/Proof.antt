@@ -17,7 +17,7 @@ use Rattle.sheet.proofs.payload.copy_signature.Tie as tie
 
 abbrev Inv-loop : tie.InvT-loop
 Inv-loop sheet p signature₀ count at₀ from₀ k₀ signature at from k =
-    (k ≤ length (frames p)) × (at ≤ 413 * k) × Copying sheet (frames p) signature₀ signature at from (drop k (frames p))
+    (k ≤ length (frames p)) × (at ≤ 415 * k) × Copying sheet (frames p) signature₀ signature at from (drop k (frames p))
 
 abbrev μ-loop : tie.MeasureT-loop
 μ-loop sheet p signature₀ count at₀ from₀ k₀ signature at from k = length (frames p) - k
