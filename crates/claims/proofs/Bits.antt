@@ -1,17 +1,18 @@
 -- The bits of a message number, and where Issue and Check answer 19.
 use mathlib.Core.Path.{_≡_, refl, sym, ap, _∙_}
-use mathlib.Core.Bool.{Bool, false, not}
+use mathlib.Core.Bool.{Bool, not}
 use mathlib.Core.List.{List, [], _∷_, _++_, append-assoc}
 use mathlib.Core.Logic.{_↔_}
-use Prim.Native.Nat.{ℕ, _<_, _≤_}
+use Prim.Native.Nat.{ℕ, _<_}
 use native.Mathlib.Omega.{arith}
 use borrow.Author.Tests.{ltb-true, lt-ltb}
-use lib.Dec.{eqb, lit<, lit≤}
+use lib.Dec.{lit<}
 use lib.ListN.{length}
 use Rattle.refusal.specs.Code.{firstCause}
 use Rattle.refusal.proofs.Causes.{Without, Numbered, without-append, smaller-number, first-without, cause-answers}
-use Rattle.profile.specs.Checks.{shapeCauses, profileCauses}
+use Rattle.profile.specs.Checks.{profileCauses}
 use Rattle.profile.specs.declared.Profile.{Profile}
+use Rattle.profile.proofs.Limits.{profile-without}
 use Rattle.counts.specs.Counts.{count}
 use Rattle.counts.specs.Table.{tableCauses}
 use Rattle.counts.proofs.Answer.{count-some}
@@ -35,17 +36,15 @@ numbers-fit =
       earlier = number-of-16-bytes;
     }
 
--- the causes of the table are 1 to 5
-table-without : (k : ℕ) (p : Profile) (words : ℕ) → 5 < k → Without k (tableCauses p words)
-unfolding tableCauses profileCauses shapeCauses
-table-without k p words more =
-    let other : (n : ℕ) → n ≤ 5 → eqb n k ≡ false = λ n low. smaller-number n k (omega arith) in
-    (other 1 (lit≤ tt), (other 2 (lit≤ tt), (other 3 (lit≤ tt), (other 4 (lit≤ tt), (other 5 (lit≤ tt), tt)))))
+-- the causes of the table are 1 to 5, and 22
+table-without : (k : ℕ) (p : Profile) (words : ℕ) → 5 < k → k < 22 → Without k (tableCauses p words)
+unfolding tableCauses
+table-without k p words low high = without-append k (profileCauses p) _ (profile-without p k (omega arith) high) (smaller-number 5 k low, tt)
 
 -- an operation over the table that has no 7 of its own does not answer 7
 never-seven : (p : Profile) (words : ℕ) (own : List (Bool × ℕ)) → Without 7 own → firstCause (tableCauses p words ++ own) ≡ 7 → ⊥
 never-seven p words own other =
-    first-without 7 (tableCauses p words ++ own) (without-append 7 (tableCauses p words) own (table-without 7 p words (lit< tt)) other) (lit< tt)
+    first-without 7 (tableCauses p words ++ own) (without-append 7 (tableCauses p words) own (table-without 7 p words (lit< tt) (lit< tt)) other) (lit< tt)
 
 -- the cause of 19, among others that are not 19
 nineteen : (first own last : List (Bool × ℕ)) (counted : ℕ) → Numbered (first ++ own) → Without 19 (first ++ own) → Without 19 last
@@ -73,7 +72,7 @@ module _ (key : SigningKey) (r message work out : List ℕ) where
   unfolding signing.signCode
   sign-nineteen =
       nineteen sign-first sign-own [] (count (key .profile .shape)) (without-append 0 sign-first sign-own (table-numbered (key .profile) (length work)) (refl, (refl, (refl, tt))))
-      (without-append 19 sign-first sign-own (table-without 19 (key .profile) (length work) (lit< tt)) (refl, (refl, (refl, tt)))) tt
+      (without-append 19 sign-first sign-own (table-without 19 (key .profile) (length work) (lit< tt) (lit< tt)) (refl, (refl, (refl, tt)))) tt
 
 module _ (v : Verifier) (message signature work : List ℕ) where
   abbrev verify-first : List (Bool × ℕ)
@@ -97,7 +96,7 @@ module _ (v : Verifier) (message signature work : List ℕ) where
   verify-nineteen =
       rw verify-causes
       (nineteen verify-first verify-own verify-last (count (v .profile .shape)) (without-append 0 verify-first verify-own (table-numbered (v .profile) (length work)) (refl, (refl, (refl, (refl, tt)))))
-      (without-append 19 verify-first verify-own (table-without 19 (v .profile) (length work) (lit< tt)) (refl, (refl, (refl, (refl, tt))))) (refl, tt))
+      (without-append 19 verify-first verify-own (table-without 19 (v .profile) (length work) (lit< tt) (lit< tt)) (refl, (refl, (refl, (refl, tt))))) (refl, tt))
 
 pub small-counts : SmallCounts
 small-counts = record { sign-seven = sign-seven; verify-seven = verify-seven; sign-nineteen = sign-nineteen; verify-nineteen = verify-nineteen }

@@ -1,24 +1,24 @@
 -- The gate profile's count, its bits, and that 19 never comes there.
 use mathlib.Core.Path.{_≡_, refl}
-use Prim.Native.Nat.{_^_, _≤_, _<_}
+use Prim.Native.Nat.{ℕ, _^_, _≤_, _<_}
 use native.Mathlib.Nat.{le-refl, le-trans, le-antisymm, lt-irrefl, lt-of-lt-of-le}
 use lib.Dec.{lit≤}
 use Rattle.profile.specs.declared.Profile.{Profile}
 use Rattle.counts.specs.Counts.{count}
 use Rattle.counts.proofs.RowByRow.{gate-count}
 use Rattle.message.proofs.NumberLaws.{bits-few, bits-largest}
-use Rattle.claims.specs.Gate.{gate, GateCount}
+use Rattle.claims.specs.Gate.{gateShape, gate, GateCount}
 use Rattle.claims.proofs.Bits.{small-counts}
 
-counted : count (gate .shape) ≡ 1287155674008337910149577743336952677632
+counted : count gateShape ≡ 1287155674008337910149577743336952677632
 unfolding count
 counted = gate-count
 
-large : 2 ^ 128 ≤ count (gate .shape)
+large : 2 ^ 128 ≤ count gateShape
 large = rw counted (lit≤ tt)
 
-not-small : (p : Profile) → p ≡ gate → count (p .shape) < 256 → ⊥
-not-small p e small = lt-irrefl _ (lt-of-lt-of-le (rw e at small) (le-trans (lit≤ tt) large))
+not-small : (p : Profile) (edition : ℕ) → p ≡ gate edition → count (p .shape) < 256 → ⊥
+not-small p edition e small = lt-irrefl _ (lt-of-lt-of-le (rw e at small) (le-trans (lit≤ tt) large))
 
 pub gate-counted : GateCount
 gate-counted =
@@ -26,7 +26,7 @@ gate-counted =
       middle = refl;
       counted = counted;
       large = large;
-      bits = le-antisymm (bits-few (count (gate .shape))) (bits-largest (count (gate .shape)) 128 (le-refl _) large);
-      sign-never-nineteen = λ key r message work out e nineteen. not-small (key .profile) e (small-counts .sign-nineteen key r message work out .0 nineteen .1);
-      verify-never-nineteen = λ v message signature work e nineteen. not-small (v .profile) e (small-counts .verify-nineteen v message signature work .0 nineteen .1);
+      bits = le-antisymm (bits-few (count gateShape)) (bits-largest (count gateShape) 128 (le-refl _) large);
+      sign-never-nineteen = λ key r message work out edition e nineteen. not-small (key .profile) edition e (small-counts .sign-nineteen key r message work out .0 nineteen .1);
+      verify-never-nineteen = λ v message signature work edition e nineteen. not-small (v .profile) edition e (small-counts .verify-nineteen v message signature work .0 nineteen .1);
     }

@@ -57,7 +57,7 @@ module _ (p : Profile) (seed secret : List ℕ) where
     -- its parts, read back from its bytes: a leaf below 2 ^ h has four bytes
     pub made-read : ReadBack d p secret leaf (numberOf leaf (made .r) (one .message)) (made .r) (one .signature)
     made-read =
-        let four : leaf < 2 ^ 32 = omega (arith, next-fits leaf (p .height) (profile-passed p (made .profile) .1) (made .in-tree)) in
+        let four : leaf < 2 ^ 32 = omega (arith, next-fits leaf (p .height) (profile-passed p (made .profile) .low) (made .in-tree)) in
         rw (made .bytes) (read-back d p secret leaf (numberOf leaf (made .r) (one .message)) (made .r) (made .sixteen) four)
 
   -- made with the leaf that it carries

@@ -45,7 +45,7 @@ InTime leaves = (i j : ℕ) → i < length leaves → j < length leaves → getD
 
 -- "One fresh key's issued orders, each arriving once at its fresh cabinet, are all accepted in every arrival order in which each comes before any leaf 32 or
 -- more above it": an arrival order is a permutation of the issued list (`List·Permᴰ` of the logic's library); "Acceptance … is under demand 3's premises on texts and work slices", with its steps
--- and its refused checks in between
+-- and its refused checks in between; in the key's edition, as demand 3
 abbrev pub ArrivalsAccepted : Type 0
 ArrivalsAccepted =
     (p : Profile) (seed secret : List ℕ) (calls : List IssueCall) (arrivals : List Issued)

@@ -31,7 +31,7 @@ pub record NumbersFit : Type 0 where
   pub below : (p : Profile) (leaf : ℕ) (r seed root message : List ℕ) → InLimits (p .shape) → messageNumber p leaf r seed root message < count (p .shape)
   -- with 128 bits it is document 01's: "the first 16 digest bytes, most significant first"
   pub earlier : (p : Profile) (leaf : ℕ) (r seed root message : List ℕ) → 2 ^ 128 ≤ count (p .shape)
-      → messageNumber p leaf r seed root message ≡ fromBytes (take 16 (messageDigest r seed root message))
+      → messageNumber p leaf r seed root message ≡ fromBytes (take 16 (messageDigest (p .edition) leaf r seed root message))
 
 -- what 19 does in 7's place, for every call
 pub record SmallCounts : Type 0 where

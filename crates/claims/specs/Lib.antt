@@ -3,6 +3,7 @@
 pub mod Arrivals
 pub mod Bits
 pub mod Demand3
+pub mod Editions
 pub mod Gate
 pub mod Hashing
 pub mod Judged

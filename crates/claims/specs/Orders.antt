@@ -83,7 +83,8 @@ AllAccepted p v (one ∷ signatures) (next work ∷ checks) =
 AllAccepted p v signatures (other message signature work ∷ checks) =
     (verifyCode v message signature work ≡ 0 → ⊥) → AllAccepted p (verifierAfter v message signature work) signatures checks
 
--- what demand 3 says of a list, for every list: "by a cabinet that starts fresh with that key's profile, public seed and root"
+-- what demand 3 says of a list, for every list: "by a cabinet that starts fresh with that key's profile, public seed and root"; a profile names its edition, so document 02, point 6, is
+-- met too: "under either edition, the cabinet's being the key's"
 abbrev pub OrdersHold : Type 0
 OrdersHold =
     (p : Profile) (seed secret : List ℕ) (calls : List IssueCall)

@@ -6,10 +6,11 @@ ghost use Rattle.sha256.specs.Running.{RunningHash};
 ghost use Rattle.counts.specs.Counts.{CountsFit};
 ghost use Rattle.codewords.specs.Operations.{RankUnrank};
 ghost use Rattle.listing.specs.Listing.{FirstEleven, Example};
-ghost use Rattle.sheet.specs.Sheet.{Exact};
+ghost use Rattle.sheet.specs.Sheet.{Exact, ProfileLine};
 ghost use Rattle.claims.specs.Arrivals.{NoLeafAcceptedTwice, ArrivalsAccepted};
 ghost use Rattle.claims.specs.Bits.{LargestBits, NumbersFit, SmallCounts};
 ghost use Rattle.claims.specs.Demand3.{Demand3};
+ghost use Rattle.claims.specs.Editions.{JudgedByEdition, EditionsShare};
 ghost use Rattle.claims.specs.Gate.{GateFigures, GateCount};
 ghost use Rattle.claims.specs.Hashing.{AbcDigest};
 ghost use Rattle.claims.specs.Judged.{JudgedByRoot};
@@ -93,6 +94,15 @@ pub fn arrivals_accepted()
     ensures { λ _. ⌜ ArrivalsAccepted ⌝ }
 {}
 
+// The editions.
+pub fn judged_by_edition()
+    ensures { λ _. ⌜ JudgedByEdition ⌝ }
+{}
+
+pub fn editions_share()
+    ensures { λ _. ⌜ EditionsShare ⌝ }
+{}
+
 // SHA-256.
 pub fn root_words()
     ensures { λ _. ⌜ RootWords ⌝ }
@@ -109,6 +119,10 @@ pub fn running_hash()
 // The sheet and the listing.
 pub fn sheets_exact()
     ensures { λ _. ⌜ Exact ⌝ }
+{}
+
+pub fn profile_line()
+    ensures { λ _. ⌜ ProfileLine ⌝ }
 {}
 
 pub fn first_eleven()
