@@ -20,8 +20,8 @@
  *
  *   - It returns 0 where it is granted, else the number of the first cause that holds, in the order listed with the
  *     function. Those numbers are enum zarosnik_outcome.
- *   - l, w, s and h may be any uint32_t. Nothing of them is ever cut: a value outside its range is refused by its
- *     number, 1 to 4.
+ *   - l, w, s, h and edition may be any uint32_t. Nothing of them is ever cut: a value outside its range is refused by
+ *     its number, 1 to 4 or 22.
  *   - An answer (digest, number, order, looked, key, root, steps, message_written, line) is written by every call: the
  *     value where granted, zero where refused. Two differ: steps of zarosnik_verify after 15, line of
  *     zarosnik_read_sheet after 17.
@@ -40,6 +40,10 @@
  *     marks after zarosnik_verify and before the order is carried out: a cabinet restored from an older copy would take
  *     an order again. Store them as one write: one old and one new word may do the same, or refuse an order that never
  *     came.
+ *   - A key's desk and its cabinets hold one profile, the edition included: no signature names it. Leaf keys and roots
+ *     are the same in both editions, digests are not. So in practice an order of one edition is refused by 15 in the
+ *     other, and a leaf that has signed in one must sign nothing in the other. No order text should begin with a zero
+ *     byte: a text and the same text behind its leaf's four bytes have one digest in the two (docs/SECURITY.md).
  *   - The library draws no random numbers. The secret seed is 16 random bytes known to the key's holder alone; R is
  *     16 fresh random bytes for each order.
  *   - A profile whose count is below 2^128 is for trials: its orders' numbers have fewer than 128 bits, and another
@@ -64,11 +68,11 @@
  *   PATCH   one more with every other release: a program only needs to be linked again.
  */
 #define ZAROSNIK_VERSION_MAJOR 0
-#define ZAROSNIK_VERSION_MINOR 3
+#define ZAROSNIK_VERSION_MINOR 4
 #define ZAROSNIK_VERSION_PATCH 0
 #define ZAROSNIK_VERSION \
     (ZAROSNIK_VERSION_MAJOR * 1000000 + ZAROSNIK_VERSION_MINOR * 1000 + ZAROSNIK_VERSION_PATCH)
-#define ZAROSNIK_VERSION_STRING "0.3.0"
+#define ZAROSNIK_VERSION_STRING "0.4.0"
 
 /* The compiler warns where the outcome of a call is not looked at: an order must not be carried out, nor a signature
  * handed out, without it. */
@@ -90,13 +94,16 @@ extern "C" {
 #define ZAROSNIK_DIGEST_BYTES 32u
 #define ZAROSNIK_NUMBER_WORDS 5u
 
-/* A profile: l chains, width w, sum s, tree height h. h may be 0, and s is 0 to ZAROSNIK_S_MAX(l, w). */
+/* A profile: l chains, width w, sum s, tree height h, edition. h may be 0, and s is 0 to ZAROSNIK_S_MAX(l, w).
+ * Edition 2 takes the leaf into an order's digest; but for that and a sheet's second line the editions are the same. */
 #define ZAROSNIK_L_MIN 1u
 #define ZAROSNIK_L_MAX 40u
 #define ZAROSNIK_W_MIN 2u
 #define ZAROSNIK_W_MAX 16u
 #define ZAROSNIK_S_MAX(l, w) ((l) * ((w) - 1u))
 #define ZAROSNIK_H_MAX 10u
+#define ZAROSNIK_EDITION_1 1u
+#define ZAROSNIK_EDITION_2 2u
 
 /* The bytes of an order text, and of what zarosnik_hash takes. */
 #define ZAROSNIK_MESSAGE_MIN 1u
@@ -104,13 +111,15 @@ extern "C" {
 #define ZAROSNIK_HASH_MAX 65535u
 
 /* Sizes by profile: words and bytes of the work slice; bytes of the values, of a signature, and of a sheet with its
- * text; leaves of a tree; chain steps of a check. These and ZAROSNIK_S_MAX are meant for unsigned values within the
- * limits above. For others they may wrap round and mean nothing; the call refuses such a profile before any size. */
+ * text, which has two more in edition 2; leaves of a tree; chain steps of a check. These and ZAROSNIK_S_MAX are meant
+ * for unsigned values within the limits above. For others they may wrap round and mean nothing; the call refuses such a
+ * profile before any size. */
 #define ZAROSNIK_TABLE_WORDS(l, s) (5u * ((l) + 1u) * ((s) + 1u))
 #define ZAROSNIK_TABLE_BYTES(l, s) (4u * ZAROSNIK_TABLE_WORDS(l, s))
 #define ZAROSNIK_VALUES_BYTES(l) (16u * (l))
 #define ZAROSNIK_SIGNATURE_BYTES(l, h) (20u + 16u * (l) + 16u * (h))
-#define ZAROSNIK_SHEET_BYTES(l, h, message_len) (69u + 37u * ((l) + (h)) + 2u * (message_len))
+#define ZAROSNIK_SHEET_BYTES(l, h, edition, message_len) \
+    (((edition) == ZAROSNIK_EDITION_2 ? 71u : 69u) + 37u * ((l) + (h)) + 2u * (message_len))
 #define ZAROSNIK_LEAVES(h) (1u << (h))
 #define ZAROSNIK_STEPS(l, w, s) (ZAROSNIK_S_MAX(l, w) - (s))
 
@@ -119,9 +128,9 @@ extern "C" {
 #define ZAROSNIK_TABLE_BYTES_MAX 492820u
 #define ZAROSNIK_VALUES_BYTES_MAX 640u
 #define ZAROSNIK_SIGNATURE_BYTES_MAX 820u
-#define ZAROSNIK_SHEET_BYTES_MAX 2319u
+#define ZAROSNIK_SHEET_BYTES_MAX 2321u
 
-/* The gate profile. */
+/* The gate profile, in either edition. */
 #define ZAROSNIK_GATE_L 34u
 #define ZAROSNIK_GATE_W 16u
 #define ZAROSNIK_GATE_S 255u
@@ -154,7 +163,8 @@ enum zarosnik_outcome {
     ZAROSNIK_REFUSED_MESSAGE_LENGTH = 16,
     ZAROSNIK_REFUSED_SHEET_LINE = 17,
     ZAROSNIK_REFUSED_HASH_TOO_LONG = 18,
-    ZAROSNIK_REFUSED_COUNT_TOO_SMALL = 19
+    ZAROSNIK_REFUSED_COUNT_TOO_SMALL = 19,
+    ZAROSNIK_REFUSED_EDITION = 22
 };
 
 /* How the first of two numbers stands to the second: what zarosnik_compare writes to order. */
@@ -188,6 +198,7 @@ static inline const char *zarosnik_outcome_text(uint32_t outcome)
     case ZAROSNIK_REFUSED_SHEET_LINE: return "wrong, missing or surplus line in the sheet";
     case ZAROSNIK_REFUSED_HASH_TOO_LONG: return "over 65,535 bytes to hash";
     case ZAROSNIK_REFUSED_COUNT_TOO_SMALL: return "count below 256";
+    case ZAROSNIK_REFUSED_EDITION: return "edition neither 1 nor 2";
     default: return "not an outcome of this library";
     }
 }
@@ -206,7 +217,7 @@ uint32_t zarosnik_hash(const uint8_t *data, size_t len, uint8_t digest[ZAROSNIK_
 /*
  * Count: how many rows of l lengths from 0 to w - 1 have the sum s.
  *
- *   l, w, s            in: the profile without its height
+ *   l, w, s            in: the profile without its height and edition
  *   table, table_len   work slice of at least ZAROSNIK_TABLE_WORDS(l, s) words
  *   number             answer: the count
  *
@@ -222,7 +233,7 @@ uint32_t zarosnik_count(uint32_t l, uint32_t w, uint32_t s, uint32_t *table, siz
 /*
  * Spread: the row that has a number, counted from 0 in dictionary order, the first length most significant.
  *
- *   l, w, s            in: the profile without its height
+ *   l, w, s            in: the profile without its height and edition
  *   number             in: the number
  *   table, table_len   work slice of at least ZAROSNIK_TABLE_WORDS(l, s) words
  *   row, row_len       output slice of at least l bytes
@@ -238,7 +249,7 @@ uint32_t zarosnik_unrank(uint32_t l, uint32_t w, uint32_t s, const uint32_t numb
 /*
  * Gather: the number of a row.
  *
- *   l, w, s            in: the profile without its height
+ *   l, w, s            in: the profile without its height and edition
  *   row, row_len       in: the lengths, one byte each
  *   table, table_len   work slice of at least ZAROSNIK_TABLE_WORDS(l, s) words
  *   number             answer: the number
@@ -270,16 +281,16 @@ uint32_t zarosnik_compare(const uint32_t first[ZAROSNIK_NUMBER_WORDS], const uin
 /*
  * Leaf key: the public key of one leaf.
  *
- *   l, w, s, h    in: the profile
- *   public_seed   in: the public seed
- *   secret_seed   in: the secret seed
- *   leaf          in: the leaf, from 0
- *   key           answer: the leaf's key
+ *   l, w, s, h, edition   in: the profile; s and edition have no part in the key
+ *   public_seed           in: the public seed
+ *   secret_seed           in: the secret seed
+ *   leaf                  in: the leaf, from 0
+ *   key                   answer: the leaf's key
  *
- * Refusals: 1, 2, 3, 4; 11 leaf not below 2^h.
+ * Refusals: 1, 2, 3, 4, 22; 11 leaf not below 2^h.
  */
 ZAROSNIK_NODISCARD
-uint32_t zarosnik_leaf_key(uint32_t l, uint32_t w, uint32_t s, uint32_t h,
+uint32_t zarosnik_leaf_key(uint32_t l, uint32_t w, uint32_t s, uint32_t h, uint32_t edition,
                            const uint8_t public_seed[ZAROSNIK_HASH_BYTES],
                            const uint8_t secret_seed[ZAROSNIK_HASH_BYTES], uint32_t leaf,
                            uint8_t key[ZAROSNIK_HASH_BYTES]);
@@ -287,15 +298,15 @@ uint32_t zarosnik_leaf_key(uint32_t l, uint32_t w, uint32_t s, uint32_t h,
 /*
  * Root: the root of a key's tree, which its cabinets hold. Hashes all 2^h leaves.
  *
- *   l, w, s, h    in: the profile
- *   public_seed   in: the public seed
- *   secret_seed   in: the secret seed
- *   root          answer: the root
+ *   l, w, s, h, edition   in: the profile; s and edition have no part in the root
+ *   public_seed           in: the public seed
+ *   secret_seed           in: the secret seed
+ *   root                  answer: the root
  *
- * Refusals: 1, 2, 3, 4.
+ * Refusals: 1, 2, 3, 4, 22.
  */
 ZAROSNIK_NODISCARD
-uint32_t zarosnik_root(uint32_t l, uint32_t w, uint32_t s, uint32_t h,
+uint32_t zarosnik_root(uint32_t l, uint32_t w, uint32_t s, uint32_t h, uint32_t edition,
                        const uint8_t public_seed[ZAROSNIK_HASH_BYTES],
                        const uint8_t secret_seed[ZAROSNIK_HASH_BYTES],
                        uint8_t root[ZAROSNIK_HASH_BYTES]);
@@ -304,21 +315,21 @@ uint32_t zarosnik_root(uint32_t l, uint32_t w, uint32_t s, uint32_t h,
  * Reveal: the l chain values that sign a number with one leaf. It keeps no account of the leaves used: zarosnik_sign
  * does.
  *
- *   l, w, s, h           in: the profile
- *   public_seed          in: the public seed
- *   secret_seed          in: the secret seed
- *   leaf                 in: the leaf, from 0
- *   number               in: the number
- *   table, table_len     work slice of at least ZAROSNIK_TABLE_WORDS(l, s) words
- *   values, values_len   output slice of at least ZAROSNIK_VALUES_BYTES(l) bytes
+ *   l, w, s, h, edition   in: the profile; edition has no part in the values
+ *   public_seed           in: the public seed
+ *   secret_seed           in: the secret seed
+ *   leaf                  in: the leaf, from 0
+ *   number                in: the number
+ *   table, table_len      work slice of at least ZAROSNIK_TABLE_WORDS(l, s) words
+ *   values, values_len    output slice of at least ZAROSNIK_VALUES_BYTES(l) bytes
  *
- * Refusals: 1, 2, 3, 4; 5 work slice too short; 6 values_len under 16 * l; 11 leaf not below 2^h; 7 number not below
- * the count.
+ * Refusals: 1, 2, 3, 4, 22; 5 work slice too short; 6 values_len under 16 * l; 11 leaf not below 2^h; 7 number not
+ * below the count.
  * Granted: the values stand in the first 16 * l bytes of values, and the table of counts in table.
  * Refused: values is untouched, and so is table, except that 7 leaves the table of counts in it.
  */
 ZAROSNIK_NODISCARD
-uint32_t zarosnik_one_time_sign(uint32_t l, uint32_t w, uint32_t s, uint32_t h,
+uint32_t zarosnik_one_time_sign(uint32_t l, uint32_t w, uint32_t s, uint32_t h, uint32_t edition,
                                 const uint8_t public_seed[ZAROSNIK_HASH_BYTES],
                                 const uint8_t secret_seed[ZAROSNIK_HASH_BYTES], uint32_t leaf,
                                 const uint32_t number[ZAROSNIK_NUMBER_WORDS],
@@ -328,22 +339,22 @@ uint32_t zarosnik_one_time_sign(uint32_t l, uint32_t w, uint32_t s, uint32_t h,
  * Recover: the leaf key to which the values of a number lead. For the values that Reveal gave for the same number and
  * leaf it is the leaf's key.
  *
- *   l, w, s, h           in: the profile
- *   public_seed          in: the public seed
- *   leaf                 in: the leaf, from 0
- *   number               in: the number
- *   values, values_len   in: the values, ZAROSNIK_VALUES_BYTES(l) bytes
- *   table, table_len     work slice of at least ZAROSNIK_TABLE_WORDS(l, s) words
- *   key                  answer: the leaf key
- *   steps                answer: the chain steps made, ZAROSNIK_STEPS(l, w, s)
+ *   l, w, s, h, edition   in: the profile; edition has no part in the key
+ *   public_seed           in: the public seed
+ *   leaf                  in: the leaf, from 0
+ *   number                in: the number
+ *   values, values_len    in: the values, ZAROSNIK_VALUES_BYTES(l) bytes
+ *   table, table_len      work slice of at least ZAROSNIK_TABLE_WORDS(l, s) words
+ *   key                   answer: the leaf key
+ *   steps                 answer: the chain steps made, ZAROSNIK_STEPS(l, w, s)
  *
- * Refusals: 1, 2, 3, 4; 5 work slice too short; 13 values_len other than 16 * l; 11 leaf not below 2^h; 7 number not
- * below the count.
+ * Refusals: 1, 2, 3, 4, 22; 5 work slice too short; 13 values_len other than 16 * l; 11 leaf not below 2^h; 7 number
+ * not below the count.
  * Granted: the table of counts stands in table.
  * Refused: table is untouched, except that 7 leaves the table of counts in it.
  */
 ZAROSNIK_NODISCARD
-uint32_t zarosnik_one_time_recover(uint32_t l, uint32_t w, uint32_t s, uint32_t h,
+uint32_t zarosnik_one_time_recover(uint32_t l, uint32_t w, uint32_t s, uint32_t h, uint32_t edition,
                                    const uint8_t public_seed[ZAROSNIK_HASH_BYTES], uint32_t leaf,
                                    const uint32_t number[ZAROSNIK_NUMBER_WORDS],
                                    const uint8_t *values, size_t values_len,
@@ -352,10 +363,11 @@ uint32_t zarosnik_one_time_recover(uint32_t l, uint32_t w, uint32_t s, uint32_t 
 
 /*
  * Issue: signs an order text with the key's next leaf. The order's number is the first b bits of the SHA-256 digest
- * over R, public seed, root and text, where b is the largest value up to 128 with 2^b not above the profile's count. So
- * it is below the count, and no order is refused for its number.
+ * over R, public seed, root and text, in edition 2 with the leaf (4 bytes, most significant first) between root and
+ * text; b is the largest value up to 128 with 2^b not above the profile's count. So it is below the count, and no order
+ * is refused for its number.
  *
- *   l, w, s, h                 in: the key's profile
+ *   l, w, s, h, edition        in: the key's profile
  *   public_seed                in: the key's public seed
  *   secret_seed                in: the key's secret seed
  *   next_leaf                  state: the key's next leaf, any value
@@ -364,7 +376,7 @@ uint32_t zarosnik_one_time_recover(uint32_t l, uint32_t w, uint32_t s, uint32_t 
  *   table, table_len           work slice of at least ZAROSNIK_TABLE_WORDS(l, s) words
  *   signature, signature_len   output slice of at least ZAROSNIK_SIGNATURE_BYTES(l, h) bytes
  *
- * Refusals: 1, 2, 3, 4; 5 work slice too short; 16 text empty or over 200 bytes; 6 signature_len under
+ * Refusals: 1, 2, 3, 4, 22; 5 work slice too short; 16 text empty or over 200 bytes; 6 signature_len under
  * 20 + 16 * l + 16 * h; 12 next leaf not below 2^h; 19 the profile's count below 256, whatever text and R.
  * Granted: the signature stands in the first 20 + 16 * l + 16 * h bytes of signature, the table of counts in table,
  * and next_leaf is 1 more. Store next_leaf before the signature is handed out.
@@ -372,7 +384,7 @@ uint32_t zarosnik_one_time_recover(uint32_t l, uint32_t w, uint32_t s, uint32_t 
  * leaves the table of counts in it.
  */
 ZAROSNIK_NODISCARD
-uint32_t zarosnik_sign(uint32_t l, uint32_t w, uint32_t s, uint32_t h,
+uint32_t zarosnik_sign(uint32_t l, uint32_t w, uint32_t s, uint32_t h, uint32_t edition,
                        const uint8_t public_seed[ZAROSNIK_HASH_BYTES],
                        const uint8_t secret_seed[ZAROSNIK_HASH_BYTES], uint32_t *next_leaf,
                        const uint8_t r[ZAROSNIK_HASH_BYTES], const uint8_t *message, size_t message_len,
@@ -380,10 +392,11 @@ uint32_t zarosnik_sign(uint32_t l, uint32_t w, uint32_t s, uint32_t h,
 
 /*
  * Check: judges the signature of an order text. The order's number is that of zarosnik_sign, from the signature's R and
- * the cabinet's public seed and root. Orders may come in another order than they were issued in: from a fresh cabinet
- * on, each leaf is taken at most once, and only as long as no leaf 32 or more above it was taken.
+ * leaf and the cabinet's edition, public seed and root: nothing asks in which edition the order was signed. Orders may
+ * come in another order than they were issued in: from a fresh cabinet on, each leaf is taken at most once, and only as
+ * long as no leaf 32 or more above it was taken.
  *
- *   l, w, s, h                 in: the cabinet's profile
+ *   l, w, s, h, edition        in: the cabinet's profile
  *   public_seed                in: the cabinet's public seed
  *   root                       in: the cabinet's root, from zarosnik_root
  *   highest_leaf               state: the highest leaf that the cabinet has accepted, any value
@@ -394,7 +407,7 @@ uint32_t zarosnik_sign(uint32_t l, uint32_t w, uint32_t s, uint32_t h,
  *   table, table_len           work slice of at least ZAROSNIK_TABLE_WORDS(l, s) words
  *   steps                      answer: the chain steps made, ZAROSNIK_STEPS(l, w, s) where granted and for 15, else 0
  *
- * Refusals: 1, 2, 3, 4; 5 work slice too short; 16 text empty or over 200 bytes; 13 signature_len other than
+ * Refusals: 1, 2, 3, 4, 22; 5 work slice too short; 16 text empty or over 200 bytes; 13 signature_len other than
  * 20 + 16 * l + 16 * h; 11 the signature's leaf not below 2^h; 14 marks is not 0, and that leaf is 32 or more below
  * highest_leaf, or is not above it and bit highest_leaf - leaf of marks is set; 19 the profile's count below 256,
  * whatever text and signature; 15 the root recovered differs from root.
@@ -407,7 +420,7 @@ uint32_t zarosnik_sign(uint32_t l, uint32_t w, uint32_t s, uint32_t h,
  * counts in it.
  */
 ZAROSNIK_NODISCARD
-uint32_t zarosnik_verify(uint32_t l, uint32_t w, uint32_t s, uint32_t h,
+uint32_t zarosnik_verify(uint32_t l, uint32_t w, uint32_t s, uint32_t h, uint32_t edition,
                          const uint8_t public_seed[ZAROSNIK_HASH_BYTES],
                          const uint8_t root[ZAROSNIK_HASH_BYTES], uint32_t *highest_leaf, uint32_t *marks,
                          const uint8_t *message, size_t message_len,
@@ -418,23 +431,23 @@ uint32_t zarosnik_verify(uint32_t l, uint32_t w, uint32_t s, uint32_t h,
  * Read sheet: the signature and the order text of a sheet, for the profile that is expected. It judges the sheet's
  * form alone; the order is judged by zarosnik_verify.
  *
- *   l, w, s, h                 in: the profile expected
+ *   l, w, s, h, edition        in: the profile expected; a sheet of the other edition is wrong at line 2
  *   sheet, sheet_len           in: the sheet
  *   signature, signature_len   output slice of at least ZAROSNIK_SIGNATURE_BYTES(l, h) bytes
  *   message, message_len       output slice that takes the sheet's text; ZAROSNIK_MESSAGE_MAX bytes are always enough
  *   message_written            answer: the length of the text
  *   line                       answer: after 17 the number, from 1, of the first wrong line; else 0
  *
- * Refusals: 1, 2, 3, 4; 17 a line is wrong or missing, or something stands after the last line; 6 signature_len under
- * 20 + 16 * l + 16 * h; 6 message_len under the text's length.
+ * Refusals: 1, 2, 3, 4, 22; 17 a line is wrong or missing, or something stands after the last line; 6 signature_len
+ * under 20 + 16 * l + 16 * h; 6 message_len under the text's length.
  * Granted: the signature stands in the first 20 + 16 * l + 16 * h bytes of signature, the text in the first
  * message_written bytes of message.
  * Refused: signature and message are untouched.
  */
 ZAROSNIK_NODISCARD
-uint32_t zarosnik_read_sheet(uint32_t l, uint32_t w, uint32_t s, uint32_t h, const uint8_t *sheet, size_t sheet_len,
-                             uint8_t *signature, size_t signature_len, uint8_t *message, size_t message_len,
-                             size_t *message_written, uint32_t *line);
+uint32_t zarosnik_read_sheet(uint32_t l, uint32_t w, uint32_t s, uint32_t h, uint32_t edition,
+                             const uint8_t *sheet, size_t sheet_len, uint8_t *signature, size_t signature_len,
+                             uint8_t *message, size_t message_len, size_t *message_written, uint32_t *line);
 
 #ifdef __cplusplus
 }

@@ -23,17 +23,21 @@
 extern "C" {
 #endif
 
-/* A profile: l chains, width w, sum s, tree height h. */
+/* A profile: l chains, width w, sum s, tree height h, edition. One that is initialised by four numbers has edition 0,
+ * which 22 refuses. */
 struct zarosnik_profile {
     uint32_t l;
     uint32_t w;
     uint32_t s;
     uint32_t h;
+    uint32_t edition;
 };
 
-/* The gate profile, as an initialiser and as a constant. */
-#define ZAROSNIK_GATE_PROFILE {ZAROSNIK_GATE_L, ZAROSNIK_GATE_W, ZAROSNIK_GATE_S, ZAROSNIK_GATE_H}
-static const struct zarosnik_profile zarosnik_gate_profile = ZAROSNIK_GATE_PROFILE;
+/* The gate profile, as an initialiser for an edition and as two constants. None is without one: a program that names no
+ * edition is not to compile with one that nobody chose. */
+#define ZAROSNIK_GATE_PROFILE(edition) {ZAROSNIK_GATE_L, ZAROSNIK_GATE_W, ZAROSNIK_GATE_S, ZAROSNIK_GATE_H, (edition)}
+static const struct zarosnik_profile zarosnik_gate_profile_1 = ZAROSNIK_GATE_PROFILE(ZAROSNIK_EDITION_1);
+static const struct zarosnik_profile zarosnik_gate_profile_2 = ZAROSNIK_GATE_PROFILE(ZAROSNIK_EDITION_2);
 
 /* The public seed of a key, which may be known to all. */
 struct zarosnik_public_seed {
@@ -141,8 +145,8 @@ static inline uint32_t zarosnik_profile_read_sheet(struct zarosnik_profile profi
                                                    uint8_t *message, size_t message_len, size_t *message_written,
                                                    uint32_t *line)
 {
-    return zarosnik_read_sheet(profile.l, profile.w, profile.s, profile.h, sheet, sheet_len, signature, signature_len,
-                               message, message_len, message_written, line);
+    return zarosnik_read_sheet(profile.l, profile.w, profile.s, profile.h, profile.edition, sheet, sheet_len,
+                               signature, signature_len, message, message_len, message_written, line);
 }
 
 /* Recover. */
@@ -153,8 +157,8 @@ static inline uint32_t zarosnik_profile_one_time_recover(struct zarosnik_profile
                                                          size_t values_len, uint32_t *table, size_t table_len,
                                                          struct zarosnik_one_time_key *key, uint32_t *steps)
 {
-    return zarosnik_one_time_recover(profile.l, profile.w, profile.s, profile.h, public_seed.bytes, leaf, number.words,
-                                     values, values_len, table, table_len, key->bytes, steps);
+    return zarosnik_one_time_recover(profile.l, profile.w, profile.s, profile.h, profile.edition, public_seed.bytes,
+                                     leaf, number.words, values, values_len, table, table_len, key->bytes, steps);
 }
 
 /* Leaf key. */
@@ -162,16 +166,16 @@ ZAROSNIK_NODISCARD
 static inline uint32_t zarosnik_key_leaf_key(const struct zarosnik_key *key, uint32_t leaf,
                                              struct zarosnik_one_time_key *leaf_key)
 {
-    return zarosnik_leaf_key(key->profile.l, key->profile.w, key->profile.s, key->profile.h, key->public_seed.bytes,
-                             key->secret_seed.bytes, leaf, leaf_key->bytes);
+    return zarosnik_leaf_key(key->profile.l, key->profile.w, key->profile.s, key->profile.h, key->profile.edition,
+                             key->public_seed.bytes, key->secret_seed.bytes, leaf, leaf_key->bytes);
 }
 
 /* Root. */
 ZAROSNIK_NODISCARD
 static inline uint32_t zarosnik_key_root(const struct zarosnik_key *key, struct zarosnik_tree_root *root)
 {
-    return zarosnik_root(key->profile.l, key->profile.w, key->profile.s, key->profile.h, key->public_seed.bytes,
-                         key->secret_seed.bytes, root->bytes);
+    return zarosnik_root(key->profile.l, key->profile.w, key->profile.s, key->profile.h, key->profile.edition,
+                         key->public_seed.bytes, key->secret_seed.bytes, root->bytes);
 }
 
 /* Reveal. It keeps no account of the leaves used: zarosnik_key_sign does. */
@@ -180,7 +184,7 @@ static inline uint32_t zarosnik_key_one_time_sign(const struct zarosnik_key *key
                                                   struct zarosnik_number number, uint32_t *table, size_t table_len,
                                                   uint8_t *values, size_t values_len)
 {
-    return zarosnik_one_time_sign(key->profile.l, key->profile.w, key->profile.s, key->profile.h,
+    return zarosnik_one_time_sign(key->profile.l, key->profile.w, key->profile.s, key->profile.h, key->profile.edition,
                                   key->public_seed.bytes, key->secret_seed.bytes, leaf, number.words, table, table_len,
                                   values, values_len);
 }
@@ -191,9 +195,9 @@ static inline uint32_t zarosnik_key_sign(struct zarosnik_key *key, struct zarosn
                                          const uint8_t *message, size_t message_len, uint32_t *table, size_t table_len,
                                          uint8_t *signature, size_t signature_len)
 {
-    return zarosnik_sign(key->profile.l, key->profile.w, key->profile.s, key->profile.h, key->public_seed.bytes,
-                         key->secret_seed.bytes, &key->next_leaf, r.bytes, message, message_len, table, table_len,
-                         signature, signature_len);
+    return zarosnik_sign(key->profile.l, key->profile.w, key->profile.s, key->profile.h, key->profile.edition,
+                         key->public_seed.bytes, key->secret_seed.bytes, &key->next_leaf, r.bytes, message, message_len,
+                         table, table_len, signature, signature_len);
 }
 
 /* Check. Store cabinet->highest_leaf and cabinet->marks, as one write, before the order is carried out. */
@@ -203,8 +207,9 @@ static inline uint32_t zarosnik_cabinet_verify(struct zarosnik_cabinet *cabinet,
                                                uint32_t *table, size_t table_len, uint32_t *steps)
 {
     return zarosnik_verify(cabinet->profile.l, cabinet->profile.w, cabinet->profile.s, cabinet->profile.h,
-                           cabinet->public_seed.bytes, cabinet->root.bytes, &cabinet->highest_leaf, &cabinet->marks,
-                           message, message_len, signature, signature_len, table, table_len, steps);
+                           cabinet->profile.edition, cabinet->public_seed.bytes, cabinet->root.bytes,
+                           &cabinet->highest_leaf, &cabinet->marks, message, message_len, signature, signature_len,
+                           table, table_len, steps);
 }
 
 #ifdef __cplusplus

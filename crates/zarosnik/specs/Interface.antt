@@ -34,12 +34,12 @@ use Rattle.verifier.specs.declared.Verdict.{Verdict}
 use Rattle.sheet.specs.Operation.{ReadsSheet}
 use Rattle.sheet.specs.declared.SheetRead.{SheetRead}
 
--- a profile by its four numbers, and its shape by the first three
+-- a profile by its five numbers, and its shape by the first three
 abbrev pub shapeOf : (l w s : ℕ) → Shape
 shapeOf l w s = record { chains = l; width = w; sum = s }
 
-abbrev pub profileOf : (l w s h : ℕ) → Profile
-profileOf l w s h = record { shape = shapeOf l w s; height = h }
+abbrev pub profileOf : (l w s h edition : ℕ) → Profile
+profileOf l w s h edition = record { shape = shapeOf l w s; height = h; edition = edition }
 
 -- a key and a cabinet by their fields
 abbrev pub signingKeyOf : Profile → (seed secret : List ℕ) (next : ℕ) → SigningKey

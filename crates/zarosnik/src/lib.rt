@@ -49,12 +49,13 @@ fn shape(l: u32, w: u32, s: u32) -> Shape
     }
 }
 
-fn profile(l: u32, w: u32, s: u32, h: u32) -> Profile
-    ensures { λ r. ⌜ r ≡ profileOf l w s h ⌝ }
+fn profile(l: u32, w: u32, s: u32, h: u32, edition: u32) -> Profile
+    ensures { λ r. ⌜ r ≡ profileOf l w s h edition ⌝ }
 {
     Profile {
         shape: shape(l, w, s),
         height: h,
+        edition,
     }
 }
 
@@ -157,14 +158,15 @@ pub extern "C" fn zarosnik_leaf_key(
     w: u32,
     s: u32,
     h: u32,
+    edition: u32,
     seed: &[u8; 16],
     secret: &[u8; 16],
     leaf: u32,
     key: &mut [u8; 16],
 ) -> u32
-    ensures { λ r. ⌜ LeafKeyCall (profileOf l w s h) (now (seed .entry)) (now (secret .entry)) leaf (now (key .exit)) r ⌝ }
+    ensures { λ r. ⌜ LeafKeyCall (profileOf l w s h edition) (now (seed .entry)) (now (secret .entry)) leaf (now (key .exit)) r ⌝ }
 {
-    let made = leaf_key(profile(l, w, s, h), *seed, secret, leaf);
+    let made = leaf_key(profile(l, w, s, h, edition), *seed, secret, leaf);
     let found = made.key;
     *key = found;
     let outcome = made.outcome;
@@ -178,13 +180,14 @@ pub extern "C" fn zarosnik_root(
     w: u32,
     s: u32,
     h: u32,
+    edition: u32,
     seed: &[u8; 16],
     secret: &[u8; 16],
     root: &mut [u8; 16],
 ) -> u32
-    ensures { λ r. ⌜ RootCall (profileOf l w s h) (now (seed .entry)) (now (secret .entry)) (now (root .exit)) r ⌝ }
+    ensures { λ r. ⌜ RootCall (profileOf l w s h edition) (now (seed .entry)) (now (secret .entry)) (now (root .exit)) r ⌝ }
 {
-    let made = tree::root(profile(l, w, s, h), *seed, secret);
+    let made = tree::root(profile(l, w, s, h, edition), *seed, secret);
     let found = made.root;
     *root = found;
     let outcome = made.outcome;
@@ -198,6 +201,7 @@ pub extern "C" fn zarosnik_one_time_sign(
     w: u32,
     s: u32,
     h: u32,
+    edition: u32,
     seed: &[u8; 16],
     secret: &[u8; 16],
     leaf: u32,
@@ -205,10 +209,10 @@ pub extern "C" fn zarosnik_one_time_sign(
     table: &mut [u32],
     values: &mut [u8],
 ) -> u32
-    ensures { λ r. ⌜ RevealCall (profileOf l w s h) (now (seed .entry)) (now (secret .entry)) leaf (now (number .entry)) (now (table .entry)) (now (values .entry)) (now (table .exit)) (now (values .exit)) r ⌝ }
+    ensures { λ r. ⌜ RevealCall (profileOf l w s h edition) (now (seed .entry)) (now (secret .entry)) leaf (now (number .entry)) (now (table .entry)) (now (values .entry)) (now (table .exit)) (now (values .exit)) r ⌝ }
 {
     returned(one_time_sign(
-        profile(l, w, s, h),
+        profile(l, w, s, h, edition),
         *seed,
         secret,
         leaf,
@@ -225,6 +229,7 @@ pub extern "C" fn zarosnik_one_time_recover(
     w: u32,
     s: u32,
     h: u32,
+    edition: u32,
     seed: &[u8; 16],
     leaf: u32,
     number: &[u32; 5],
@@ -233,9 +238,16 @@ pub extern "C" fn zarosnik_one_time_recover(
     key: &mut [u8; 16],
     steps: &mut u32,
 ) -> u32
-    ensures { λ r. ⌜ RecoverCall (profileOf l w s h) (now (seed .entry)) leaf (now (number .entry)) (now (values .entry)) (now (table .entry)) (now (table .exit)) (now (key .exit)) (now (steps .exit)) r ⌝ }
+    ensures { λ r. ⌜ RecoverCall (profileOf l w s h edition) (now (seed .entry)) leaf (now (number .entry)) (now (values .entry)) (now (table .entry)) (now (table .exit)) (now (key .exit)) (now (steps .exit)) r ⌝ }
 {
-    let recovered = one_time_recover(profile(l, w, s, h), *seed, leaf, *number, values, table);
+    let recovered = one_time_recover(
+        profile(l, w, s, h, edition),
+        *seed,
+        leaf,
+        *number,
+        values,
+        table,
+    );
     let found = recovered.key;
     *key = found;
     *steps = recovered.steps;
@@ -250,6 +262,7 @@ pub extern "C" fn zarosnik_sign(
     w: u32,
     s: u32,
     h: u32,
+    edition: u32,
     seed: &[u8; 16],
     secret: &[u8; 16],
     next: &mut u32,
@@ -258,10 +271,10 @@ pub extern "C" fn zarosnik_sign(
     table: &mut [u32],
     signature: &mut [u8],
 ) -> u32
-    ensures { λ code. ⌜ SignCall (signingKeyOf (profileOf l w s h) (now (seed .entry)) (now (secret .entry)) (now (next .entry))) (now (r .entry)) (now (message .entry)) (now (table .entry)) (now (signature .entry)) (now (table .exit)) (now (signature .exit)) (now (next .exit)) code ⌝ }
+    ensures { λ code. ⌜ SignCall (signingKeyOf (profileOf l w s h edition) (now (seed .entry)) (now (secret .entry)) (now (next .entry))) (now (r .entry)) (now (message .entry)) (now (table .entry)) (now (signature .entry)) (now (table .exit)) (now (signature .exit)) (now (next .exit)) code ⌝ }
 {
     let key = SigningKey {
-        profile: profile(l, w, s, h),
+        profile: profile(l, w, s, h, edition),
         seed: *seed,
         secret: *secret,
         next: *next,
@@ -280,6 +293,7 @@ pub extern "C" fn zarosnik_verify(
     w: u32,
     s: u32,
     h: u32,
+    edition: u32,
     seed: &[u8; 16],
     root: &[u8; 16],
     highest: &mut u32,
@@ -289,10 +303,10 @@ pub extern "C" fn zarosnik_verify(
     table: &mut [u32],
     steps: &mut u32,
 ) -> u32
-    ensures { λ code. ⌜ VerifyCall (verifierOf (profileOf l w s h) (now (seed .entry)) (now (root .entry)) (now (highest .entry)) (now (marks .entry))) (now (message .entry)) (now (signature .entry)) (now (table .entry)) (now (table .exit)) (now (highest .exit)) (now (marks .exit)) (now (steps .exit)) code ⌝ }
+    ensures { λ code. ⌜ VerifyCall (verifierOf (profileOf l w s h edition) (now (seed .entry)) (now (root .entry)) (now (highest .entry)) (now (marks .entry))) (now (message .entry)) (now (signature .entry)) (now (table .entry)) (now (table .exit)) (now (highest .exit)) (now (marks .exit)) (now (steps .exit)) code ⌝ }
 {
     let verifier = Verifier {
-        profile: profile(l, w, s, h),
+        profile: profile(l, w, s, h, edition),
         seed: *seed,
         root: *root,
         window: Window {
@@ -317,15 +331,16 @@ pub extern "C" fn zarosnik_read_sheet(
     w: u32,
     s: u32,
     h: u32,
+    edition: u32,
     sheet: &[u8],
     signature: &mut [u8],
     message: &mut [u8],
     written: &mut usize,
     line: &mut u32,
 ) -> u32
-    ensures { λ r. ⌜ ReadSheetCall (profileOf l w s h) (now (sheet .entry)) (now (signature .entry)) (now (message .entry)) (now (signature .exit)) (now (message .exit)) (now (written .exit)) (now (line .exit)) r ⌝ }
+    ensures { λ r. ⌜ ReadSheetCall (profileOf l w s h edition) (now (sheet .entry)) (now (signature .entry)) (now (message .entry)) (now (signature .exit)) (now (message .exit)) (now (written .exit)) (now (line .exit)) r ⌝ }
 {
-    let read = read_sheet(profile(l, w, s, h), sheet, signature, message);
+    let read = read_sheet(profile(l, w, s, h, edition), sheet, signature, message);
     *written = read.length as usize;
     *line = read.line;
     let outcome = read.outcome;
