@@ -1,5 +1,6 @@
 """Holds the library to what document 02 says in point 4 of whole lists of checks: one fresh key's
-issued orders, by two routes, at a cabinet that starts fresh and goes from check to check.
+issued orders, by two routes, at a cabinet that starts fresh and goes from check to check. Point 6
+has it so in either edition, the cabinet's being the key's.
 
     python3 tests/arrivals.py --archive FILE    the library in this archive, some seconds
     python3 tests/arrivals.py                   proves the library and writes the archive first
@@ -18,7 +19,7 @@ a cabinet is handed in that no list of checks leads to.
 - Any highest leaf and any marks, of each kind of tests/windows.py.
 
 Every check must report l (w - 1) - s steps where it is accepted or refused by 15, and 0 otherwise.
-Fails too where one of these has not come up.
+Fails too where one of these has not come up in either edition.
 """
 
 import ctypes
@@ -28,23 +29,33 @@ import sys
 import tempfile
 from collections import Counter
 
+import editions
 import windows
 from archived import archive_of, archive_parser, shared_object
 from interface_calls import load
-from signatures import Profile, is_passed, message_number, root_of, signature_length, with_leaf
+from signatures import (
+    EDITIONS,
+    Profile,
+    is_passed,
+    message_number,
+    root_of,
+    signature_length,
+    with_leaf,
+)
 from zarosnik import table_length
 
 # Marks of a cabinet, by the document. The rule is written here once more, so this is no import.
 MARKS = 32
 # Few steps and trees that are cheap to sign under; of 128 and of 256 leaves.
-PROFILES = [Profile(7, 3, 5, 7), Profile(10, 4, 15, 8)]
+SHAPES = [(7, 3, 5, 7), (10, 4, 15, 8)]
+PROFILES = [Profile(*shape, edition) for edition in EDITIONS for shape in SHAPES]
 # A count below 256, which 19 refuses. Table and signature are no longer than those above.
-SCANT = Profile(5, 5, 7, 7)
+SCANT = Profile(5, 5, 7, 7, 1)
 # What stands in an answer before the call.
 STALE = 0xA5A5A5A5
 # How many arrival orders of each drawn kind, and cabinets, for each profile.
-DRAWN_ORDERS = 10
-DRAWN_STATES = 1000
+DRAWN_ORDERS = 6
+DRAWN_STATES = 500
 # From here on distances are far.
 FAR = MARKS + 2
 
@@ -130,8 +141,9 @@ class Key:
             if self.number(order.signature, text) != number:
                 return text
 
-    def number(self, signature, text):
-        return message_number(self.p, signature[4:20], self.seed, self.root, text)
+    def number(self, signature, text, p=None):
+        leaf = int.from_bytes(signature[:4], "big")
+        return message_number(p or self.p, signature[4:20], self.seed, self.root, leaf, text)
 
 
 class Cabinet:
@@ -207,7 +219,9 @@ class Run:
         judged, counted = (14, 14) if self.accepted.passes(order.leaf) else (15, 19)
         text, signature = order.text, order.signature
         past = pick.choice([2**p.h, 2**32 - 1, pick.randrange(2**p.h, 2**32)])
-        scant = SCANT._replace(h=p.h)
+        scant = SCANT._replace(h=p.h, edition=p.edition)
+        crossed = p._replace(edition=editions.other(p.edition))
+        none = pick.choice([0, 3, 2**32 - 1, pick.randrange(3, 2**32)])
         checks = {
             "another text": (judged, Order(key.other_text(pick, order), signature), {}),
             "another value": (judged, Order(text, damaged(pick, signature)), {}),
@@ -223,7 +237,11 @@ class Run:
             "too wide": (2, order, {"p": p._replace(w=17)}),
             "too large a sum": (3, order, {"p": p._replace(s=p.l * (p.w - 1) + 1)}),
             "too high a tree": (4, order, {"p": p._replace(h=11)}),
+            "no edition": (22, order, {"p": p._replace(edition=none)}),
         }
+        # where numbers are few, an order may have the same one in both
+        if key.number(signature, text, crossed) != key.number(signature, text):
+            checks["the other edition"] = judged, order, {"p": crossed}
         what = pick.choice(list(checks))
         outcome, given, other = checks[what]
         self.expect(what, outcome, given, **other)
@@ -231,6 +249,7 @@ class Run:
 
 DISTURBED = {
     **dict.fromkeys(["another text", "another value", "another root"], (14, 15)),
+    **{"the other edition": (14, 15), "no edition": (22,)},
     **{"few rows": (14, 19), "a short work slice": (5,), "no such leaf": (11,)},
     **dict.fromkeys(["no text", "a long text"], (16,)),
     **dict.fromkeys(["a short signature", "a long signature"], (13,)),
@@ -438,23 +457,26 @@ def missing(met):
 
 def main():
     archive = archive_of(archive_parser("Holds lists of checks to point 4.").parse_args())
-    pick, met = random.Random("arrivals"), Counter()
+    pick, met_in = random.Random("arrivals"), {edition: Counter() for edition in EDITIONS}
     with tempfile.TemporaryDirectory() as folder:
         library = load(shared_object(archive, folder))
         for p in PROFILES:
-            key = Key(library, pick, p)
+            key, met = Key(library, pick, p), met_in[p.edition]
             for part in (receive_in_time, receive_too_late, receive_two, hand_in_states):
                 part(pick, key, met)
             met["orders"] += len(key.orders)
-    lacking = missing(met)
-    hold(not lacking, f"has not come up: {lacking}")
+    for edition, met in met_in.items():
+        lacking = missing(met)
+        hold(not lacking, f"has not come up in edition {edition}: {lacking}")
+    met = sum(met_in.values(), Counter())
     accepted, late = met["in time", 0], met["too late", 14]
     disturbed = sum(met[what, told] for what, outcomes in DISTURBED.items() for told in outcomes)
     again = sum(met[f"again {when}", 14] for when in ("at once", "later", "at the end"))
     print(
-        f"tests/arrivals.py: {met['orders']} orders; {met['lists in time']} arrival orders in time,"
-        f" all {accepted} accepted; {met['lists too late']} others, {late} too late and refused by"
-        f" 14, {met['too late', 0]} accepted; {again} replays and {disturbed} other checks refused,"
+        f"tests/arrivals.py: {met['orders']} orders, {met_in[2]['orders']} of them in edition 2;"
+        f" {met['lists in time']} arrival orders in time, all {accepted} accepted;"
+        f" {met['lists too late']} others, {late} too late and refused by 14,"
+        f" {met['too late', 0]} accepted; {again} replays and {disturbed} other checks refused,"
         f" which change nothing; {met['handed in', 0] + met['handed in', 14]} cabinets handed in"
     )
 

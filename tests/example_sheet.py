@@ -10,10 +10,12 @@ import sys
 from pathlib import Path
 
 from sheets import right_sheet
-from signatures import GATE, SigningKey, issue, root_of, signature_length
+from signatures import GATE_2, SigningKey, issue, root_of, signature_length
 from zarosnik import table_length
 
 EXAMPLES = Path(__file__).resolve().parent.parent / "examples"
+# The examples' key is one of edition 2.
+P = GATE_2
 SEED = bytes(range(0x10, 0x20))
 SECRET = bytes(range(0xE0, 0xF0))
 R = bytes(range(0x71, 0x81))
@@ -21,12 +23,12 @@ TEXT = b"sill level 2.4 m until 18:00"
 
 
 def expected_sheet():
-    work = [0] * table_length(GATE.l, GATE.s)
-    key = SigningKey(GATE, SEED, SECRET, 0)
-    outcome, _, signature, _ = issue(key, R, TEXT, work, bytes(signature_length(GATE)))
+    work = [0] * table_length(P.l, P.s)
+    key = SigningKey(P, SEED, SECRET, 0)
+    outcome, _, signature, _ = issue(key, R, TEXT, work, bytes(signature_length(P)))
     if outcome:
         sys.exit(f"tests/example_sheet.py: the order is refused by {outcome}")
-    return right_sheet(GATE, signature, TEXT)
+    return right_sheet(P, signature, TEXT)
 
 
 def root_in(path):
@@ -43,7 +45,7 @@ def main(arguments):
     if (EXAMPLES / "order.sheet").read_bytes() != sheet:
         sys.exit("tests/example_sheet.py: examples/order.sheet is not the expected one")
     for name in ["order.c", "sheet.c"]:
-        if root_in(EXAMPLES / name) != [root_of(GATE, SEED, SECRET)]:
+        if root_in(EXAMPLES / name) != [root_of(P, SEED, SECRET)]:
             sys.exit(f"tests/example_sheet.py: the root in examples/{name} is not the expected one")
     print(f"example sheet: {len(sheet)} bytes and the root as expected")
 

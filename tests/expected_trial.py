@@ -4,8 +4,9 @@
     python3 tests/expected_trial.py --check DIR    succeeds where these files are exactly those
 
 The cases are the document's trial values, the published SHA-256 examples, some values for each
-operation, and what the C interface cannot be given: states of the running hash, counts that no
-profile has, and digests. tests/interface.py has the breadth. Nothing here is taken from the program
+operation, each operation at both editions and at numbers that are neither, and what the C interface
+cannot be given: states of the running hash, counts that no profile has, and digests.
+tests/interface.py has the breadth. Nothing here is taken from the program
 or from the library under test: digests of messages come from hashlib, and all else from the
 implementations in this folder, which are first held to hashlib, to lists of all rows and to binary
 digits.
@@ -18,10 +19,19 @@ import os
 import sys
 from typing import NamedTuple
 
+import editions
 import signatures
 import zarosnik
 from sheets import read_sheet, right_sheet
-from signatures import GATE, LEAST_COUNT, Profile, SigningKey, Verifier, signature_length
+from signatures import (
+    EDITIONS,
+    GATE,
+    LEAST_COUNT,
+    Profile,
+    SigningKey,
+    Verifier,
+    signature_length,
+)
 from zarosnik import (
     MOST_BITS,
     around_powers,
@@ -84,11 +94,17 @@ class Slices(NamedTuple):
     text: bytes = b""
 
 
+# The program has no more room for a label, for the two slices and for the table.
+ROOM = (128, 1024, 256, 44803)
+
+
 def case(operation, label, taken, told, before=Slices(), after=Slices()):
     """What the program reads and what it writes, from what a call takes and tells, and what the
     slices hold before and after it."""
     label = f"{operation} {label}"
     slices = [label.encode("ascii"), before.lent, before.text]
+    if any(len(part) > room for part, room in zip([*slices, before.table], ROOM, strict=True)):
+        sys.exit(f"the program has no room for {label}")
     lengths = words([len(before.table), *map(len, slices)])
     given = lengths + b"".join(slices) + word(OPERATIONS.index(operation)) + taken
     lent = [
@@ -262,31 +278,33 @@ def hash_cases():
 
 # Profiles. The document's starred trial values are proved; here are the others, and some more.
 
-SMALL = Profile(3, 3, 3, 2)
-WIDE = Profile(40, 16, 0, 1)
+SMALL = Profile(3, 3, 3, 2, 1)
+WIDE = Profile(40, 16, 0, 1, 1)
 FLAT = GATE._replace(h=0)
 # Orders have numbers of 8 bits, and of 127. The first has the least count that signs, which is 266.
-FEWEST_BITS = Profile(7, 3, 5, 0)
+FEWEST_BITS = Profile(7, 3, 5, 0, 1)
 NEARLY_ALL_BITS = FLAT._replace(s=204)
 # The largest count that does not sign, which is 255.
-NEARLY_SIGNING = Profile(5, 5, 7, 1)
+NEARLY_SIGNING = Profile(5, 5, 7, 1, 1)
 # Outside the limits, by numbers that the C interface does not take.
 OUTSIDE = [
-    Profile(41, 3, 3, 2),
-    Profile(MASK, 3, 3, 2),
-    Profile(3, MASK, 3, 2),
-    Profile(3, 3, MASK, 2),
-    Profile(256 + 3, 256 + 3, 65536 + 3, 256 + 2),
-    Profile(MASK, MASK, MASK, MASK),
+    Profile(41, 3, 3, 2, 1),
+    Profile(MASK, 3, 3, 2, 1),
+    Profile(3, MASK, 3, 2, 1),
+    Profile(3, 3, MASK, 2, 1),
+    Profile(256 + 3, 256 + 3, 65536 + 3, 256 + 2, 1),
+    Profile(MASK, MASK, MASK, MASK, 1),
 ]
-OUTSIDE_HEIGHT = [Profile(3, 3, 3, 256 + 2), Profile(3, 3, 3, MASK)]
+OUTSIDE_HEIGHT = [SMALL._replace(h=256 + 2), SMALL._replace(h=MASK)]
+# Both editions, and numbers that are neither; one would be edition 2 if it were cut.
+TRIED_EDITIONS = [0, 1, 2, 3, 256 + 2, MASK]
 
 
 GATE_COUNT = zarosnik.ways(GATE.w, GATE.l, GATE.s)
 
 
 def named(p, more=""):
-    return ", ".join(f"{letter} {n}" for letter, n in zip("lwsh", p)) + more
+    return ", ".join(f"{name} {n}" for name, n in zip(Profile._fields, p)) + more
 
 
 def table_of(p, more=0):
@@ -299,85 +317,102 @@ def code_cases():
     wrong = zarosnik.disagreement()
     if wrong:
         sys.exit(f"zarosnik.py is wrong at l, w, s = {wrong}")
-    middle = Profile(17, 5, 30, 0)
+    middle = Profile(17, 5, 30, 0, 1)
     for p in [SMALL, middle, WIDE, GATE, *OUTSIDE]:
-        table = table_of(p, 3)
-        outcome, count, filled = zarosnik.count(*p[:3], table)
-        told = f"outcome {outcome}, {number_told(count)}"
-        yield case("count", named(p[:3]), words(p), told, Slices(table), Slices(filled))
+        yield count_case(p, named(p[:3]))
     numbered = [(SMALL, 0), (SMALL, 5), (SMALL, 7), (middle, 0x123456789), (WIDE, 0), (WIDE, 1)]
     numbered += [(GATE, n) for n in (0, GATE_COUNT - 1, GATE_COUNT, (1 << 128) - 1)]
     for p, n in numbered + [(p, 0) for p in OUTSIDE]:
         yield from round_trip(p, n)
 
 
-def round_trip(p, n):
-    """Spread, and Gather of the row that it left."""
+def count_case(p, label):
+    table = table_of(p, 3)
+    outcome, count, filled = zarosnik.count(*p[:3], table)
+    told = f"outcome {outcome}, {number_told(count)}"
+    return case("count", label, words(p), told, Slices(table), Slices(filled))
+
+
+def round_trip(p, n, numbers=3):
+    """Spread, and Gather of the row that it left. So many numbers of the profile are told."""
+    shown = p[:numbers]
     table, row = table_of(p, 3), stale_bytes(min(p.l, 41) + 3)
     outcome, written, filled = zarosnik.spread(*p[:3], n, table, row)
     taken = words([*p, *number_words(n)])
     before, after = Slices(table, row), Slices(filled, written)
-    yield case("spread", named(p[:3], f", number {n}"), taken, f"outcome {outcome}", before, after)
+    yield case("spread", named(shown, f", number {n}"), taken, f"outcome {outcome}", before, after)
     row = written[:-3]
     outcome, number, filled = zarosnik.gather(*p[:3], row, table)
     told = f"outcome {outcome}, {number_told(number)}"
-    yield case(
-        "gather", named(p[:3]), words(p), told, Slices(table, row), Slices(filled, row)
-    )
+    yield case("gather", named(shown), words(p), told, Slices(table, row), Slices(filled, row))
 
 
 def key_cases():
     """Leaf key and Root. FIPS 205's WOTS+ keys of SLH-DSA-SHA2-128 in layer 0, tree 0 are those of
     l = 35 and w = 16."""
-    fips = Profile(35, 16, 262, 2)
+    fips = Profile(35, 16, 262, 2, 1)
     leaves = [(SMALL, 0), (SMALL, 3), (SMALL, 4), (fips, 3), (WIDE, 1), (GATE, 1023), (SMALL, MASK)]
     for p, leaf in leaves + [(p, 0) for p in OUTSIDE + OUTSIDE_HEIGHT]:
-        outcome, key = signatures.leaf_key(p, SEED, SECRET, leaf)
-        taken = words(p) + SEED + SECRET + word(leaf)
-        told = f"outcome {outcome}, key {key.hex()}"
-        yield case("leaf key", named(p, f", leaf {leaf}"), taken, told)
-    for p in [SMALL, FLAT, WIDE, Profile(4, 2, 2, 10), *OUTSIDE, *OUTSIDE_HEIGHT]:
-        outcome, root = signatures.root(p, SEED, SECRET)
-        told = f"outcome {outcome}, root {root.hex()}"
-        yield case("root", named(p), words(p) + SEED + SECRET, told)
+        yield leaf_key_case(p, leaf)
+    for p in [SMALL, FLAT, WIDE, Profile(4, 2, 2, 10, 1), *OUTSIDE, *OUTSIDE_HEIGHT]:
+        yield root_case(p)
+
+
+def leaf_key_case(p, leaf):
+    outcome, key = signatures.leaf_key(p, SEED, SECRET, leaf)
+    taken = words(p) + SEED + SECRET + word(leaf)
+    told = f"outcome {outcome}, key {key.hex()}"
+    return case("leaf key", named(p, f", leaf {leaf}"), taken, told)
+
+
+def root_case(p):
+    outcome, root = signatures.root(p, SEED, SECRET)
+    told = f"outcome {outcome}, root {root.hex()}"
+    return case("root", named(p), words(p) + SEED + SECRET, told)
 
 
 def value_cases():
     """Reveal, and Recover from what it left; l = 40, w = 16, s = 0 makes 600 steps."""
     shown = [(SMALL, 3, 5), (SMALL, 4, 5), (SMALL, 0, 7), (WIDE, 1, 0), (GATE, 682, (1 << 128) - 1)]
     for p, leaf, n in shown + [(p, 0, 0) for p in OUTSIDE + OUTSIDE_HEIGHT]:
-        table, values = table_of(p), stale_bytes(16 * min(p.l, 41))
-        outcome, left, filled = signatures.reveal(p, SEED, SECRET, leaf, n, table, values)
-        label = named(p, f", leaf {leaf}, number {n}")
-        place = words([leaf, *number_words(n)])
-        taken = words(p) + SEED + SECRET + place
-        before, after = Slices(table, values), Slices(filled, left)
-        yield case("reveal", label, taken, f"outcome {outcome}", before, after)
-        outcome, key, steps, filled = signatures.recover(p, SEED, leaf, n, left, table)
-        told = f"outcome {outcome}, key {key.hex()}, steps {steps}"
-        before, after = Slices(table, left), Slices(filled, left)
-        yield case("recover", label, words(p) + SEED + place, told, before, after)
+        yield from shown_values(p, leaf, n, table_of(p), 16 * min(p.l, 41))
+
+
+def shown_values(p, leaf, n, table, size):
+    values = stale_bytes(size)
+    outcome, left, filled = signatures.reveal(p, SEED, SECRET, leaf, n, table, values)
+    label = named(p, f", leaf {leaf}, number {n}")
+    place = words([leaf, *number_words(n)])
+    taken = words(p) + SEED + SECRET + place
+    before, after = Slices(table, values), Slices(filled, left)
+    yield case("reveal", label, taken, f"outcome {outcome}", before, after)
+    outcome, key, steps, filled = signatures.recover(p, SEED, leaf, n, left, table)
+    told = f"outcome {outcome}, key {key.hex()}, steps {steps}"
+    before, after = Slices(table, left), Slices(filled, left)
+    yield case("recover", label, words(p) + SEED + place, told, before, after)
 
 
 TEXT = b"Gate 7: open 40 cm from 06:15 to 09:30 on 12 March.\n"
 
 
-def issue_case(key, size):
+def issue_case(key, size, text=TEXT, words_lent=None):
     """Two orders, the second with the key that the first handed back. It goes into the slice, and
     with a refusal the first stays there."""
-    p, table, lent, told = key.profile, table_of(key.profile), stale_bytes(size), []
-    before = Slices(table, lent, TEXT)
+    p, lent, told = key.profile, stale_bytes(size), []
+    table = table_of(p) if words_lent is None else stale_words(words_lent)
+    before = Slices(table, lent, text)
     label = named(p, f", next {key.next}")
     taken = words(p) + key.seed + key.secret + word(key.next) + R
     for _ in range(2):
-        outcome, key, lent, table = signatures.issue(key, R, TEXT, table, lent)
+        outcome, key, lent, table = signatures.issue(key, R, text, table, lent)
         told.append(f"outcome {outcome}, next {key.next}")
-    return case("issue", label, taken, ": ".join(told), before, Slices(table, lent, TEXT))
+    return case("issue", label, taken, ": ".join(told), before, Slices(table, lent, text))
 
 
-def check_case(cabinet, signature, text, change=""):
+def check_case(cabinet, signature, text, change="", words_lent=None):
     """Two checks, the second by the cabinet that the first handed back."""
-    p, table, told = cabinet.profile, table_of(cabinet.profile), []
+    p, told = cabinet.profile, []
+    table = table_of(p) if words_lent is None else stale_words(words_lent)
     before = Slices(table, signature, text)
     window = cabinet.highest, cabinet.marks
     label = named(p, ", highest {}, marks {}{}".format(*window, change))
@@ -403,7 +438,7 @@ def scant_cases(p, leaf):
     """19, for an order that would be accepted if its count were taken."""
     yield issue_case(SigningKey(p, SEED, SECRET, leaf), signature_length(p) + 3)
     root = signatures.root_of(p, SEED, SECRET)
-    number = signatures.message_number(p, R, SEED, root, TEXT)
+    number = signatures.message_number(p, R, SEED, root, leaf, TEXT)
     signature = signatures.signature_of(p, SEED, SECRET, leaf, R, number)
     yield check_case(Verifier(p, SEED, root, leaf, 2), signature, TEXT)
 
@@ -450,8 +485,8 @@ def window_cases():
     apart by the leaf, too."""
     p = FEWEST_BITS._replace(h=6)
     root = signatures.root_of(p, SEED, SECRET)
-    number = signatures.message_number(p, R, SEED, root, TEXT)
     for leaf, windows in WINDOWS.items():
+        number = signatures.message_number(p, R, SEED, root, leaf, TEXT)
         signature = signatures.signature_of(p, SEED, SECRET, leaf, R, number)
         for window in windows:
             cabinet = Verifier(p, SEED, root, *window)
@@ -470,8 +505,11 @@ def sheet_case(p, sheet, size, room, change=""):
     return case("sheet", named(p, change), taken, told, before, after)
 
 
+SHEET = Profile(2, 3, 2, 1, 1)
+
+
 def sheet_cases():
-    p, long = Profile(2, 3, 2, 1), signature_length(GATE)
+    p, long = SHEET, signature_length(GATE)
     size = signature_length(p)
     right = right_sheet(p, message(size), TEXT)
     yield sheet_case(p, right, size + 3, len(TEXT) + 3)
@@ -483,6 +521,134 @@ def sheet_cases():
     yield sheet_case(GATE, right_sheet(GATE, message(long), message(200)), long, 200)
     for other in OUTSIDE + OUTSIDE_HEIGHT:
         yield sheet_case(other, right, size, 200)
+
+
+# Editions.
+
+
+def fresh_cabinet(p):
+    return Verifier(p, SEED, signatures.root_of(p, SEED, SECRET), 0, 0)
+
+
+def signed(p, leaf):
+    key, out = SigningKey(p, SEED, SECRET, leaf), stale_bytes(signature_length(p))
+    return signatures.issue(key, R, TEXT, table_of(p), out)[2]
+
+
+def answered(outcome, made):
+    """The cases, each of which must be answered so by the document."""
+    for given, line in made:
+        if f": outcome {outcome}, " not in line:
+            sys.exit(f"not answered by {outcome}: {line}")
+        yield given, line
+
+
+def code_at(p):
+    yield count_case(p, named(p))
+    yield from round_trip(p, 5, len(p))
+
+
+def all_right_at(edition):
+    """The seven operations that a profile's edition is for. Where it is none, the order and the
+    sheet are those of edition 1."""
+    right = edition if edition in EDITIONS else 1
+    p, order, sheet = (
+        q._replace(edition=edition) for q in (SMALL, FEWEST_BITS._replace(h=1), SHEET)
+    )
+    yield leaf_key_case(p, 3)
+    yield root_case(p)
+    yield from shown_values(p, 3, 5, table_of(p), 16 * p.l)
+    yield issue_case(SigningKey(order, SEED, SECRET, 0), signature_length(order))
+    signature = signed(order._replace(edition=right), 1)
+    yield check_case(fresh_cabinet(order), signature, TEXT, ", leaf 1")
+    size = signature_length(sheet)
+    shown = right_sheet(sheet._replace(edition=right), message(size), TEXT)
+    yield sheet_case(sheet, shown, size, 200, ", a right sheet")
+
+
+def all_wrong_at(p):
+    """The same with everything wrong that is tested behind the profile."""
+    yield leaf_key_case(p, MASK)
+    yield root_case(p)
+    yield from shown_values(p, MASK, (1 << 160) - 1, [], 3)
+    yield issue_case(SigningKey(p, SEED, SECRET, MASK), 3, b"", 3)
+    yield check_case(Verifier(p, SEED, R, MASK, MASK), b"\xff" * 5, b"", "", 3)
+    yield sheet_case(p, b"474F31", 3, 3, ", no right line")
+
+
+def any_edition_cases():
+    """Count, Spread and Gather know no edition. Where it is neither of the two, 22 goes before all
+    that is tested later, and behind 4 and 3."""
+    for edition in TRIED_EDITIONS:
+        yield from answered(0, code_at(SMALL._replace(edition=edition)))
+        refused = 0 if edition in EDITIONS else 22
+        yield from answered(refused, all_right_at(edition))
+    for edition in (0, MASK):
+        yield from answered(22, all_wrong_at(SMALL._replace(edition=edition)))
+    yield from answered(4, all_wrong_at(SMALL._replace(h=11, edition=3)))
+    yield from answered(3, all_wrong_at(SMALL._replace(s=7, h=11, edition=3)))
+
+
+def second_edition_cases():
+    """The document's trial values for orders, and the window, in edition 2. Only the digest is
+    another: keys, roots and values are those of edition 1."""
+    for p in [FLAT, FEWEST_BITS, NEARLY_ALL_BITS]:
+        yield from flat_cases(p._replace(edition=2))
+    yield from scant_cases(NEARLY_SIGNING._replace(edition=2), 1)
+    p = WIDE._replace(edition=2)
+    yield from shown_values(p, 1, 0, table_of(p), 16 * p.l)
+    yield leaf_key_case(GATE._replace(edition=2), 1023)
+    yield root_case(FLAT._replace(edition=2))
+    p = FEWEST_BITS._replace(h=6, edition=2)
+    for window in WINDOWS[40][::3]:
+        cabinet = fresh_cabinet(p)._replace(highest=window[0], marks=window[1])
+        yield check_case(cabinet, signed(p, 40), TEXT, ", leaf 40")
+
+
+# A leaf of two bytes that differ: their order in the digest shows. Numbers have 16 bits.
+TWO_BYTES = 0x0203
+TALLEST = Profile(10, 4, 15, 10, 1)
+
+
+def crossed_cases():
+    """An order of one edition is judged by a cabinet of the other by that one's digest alone, which
+    leads to another root. Its own edition takes it."""
+    for p, leaf in [(GATE._replace(h=3), 5), (TALLEST, TWO_BYTES)]:
+        both = [p._replace(edition=edition) for edition in EDITIONS]
+        for own, other in (both, both[::-1]):
+            change = f", edition {own.edition}'s order"
+            crossed = check_case(fresh_cabinet(other), signed(own, leaf), TEXT, change)
+            yield from answered(15, [crossed])
+        second = both[1]
+        order = [
+            issue_case(SigningKey(second, SEED, SECRET, leaf), signature_length(second)),
+            check_case(fresh_cabinet(second), signed(second, leaf), TEXT, f", leaf {leaf}"),
+        ]
+        yield from answered(0, order)
+
+
+# What may stand behind s in frame 01: digits, two a byte.
+LAST = ["", "00", "01", "02", "03", "82", "0202", "0200", "0002", "2"]
+
+
+def edition_sheet_cases():
+    """Frame 01 ends with 02 in edition 2, and with nothing in edition 1."""
+    size = signature_length(SHEET)
+    sheet = right_sheet(SHEET, message(size), TEXT)
+    for edition, last in itertools.product(EDITIONS, LAST):
+        p, change = SHEET._replace(edition=edition), f", frame 01 ends with {last or 'no byte'}"
+        shown = sheet_case(p, editions.with_last(p, sheet, last), size, 200, change)
+        yield from answered(17 if editions.line_to(edition, last) else 0, [shown])
+    p = GATE._replace(edition=2)
+    size = signature_length(p)
+    yield sheet_case(p, right_sheet(p, message(size), message(200)), size, 200)
+
+
+def edition_cases():
+    yield from any_edition_cases()
+    yield from second_edition_cases()
+    yield from crossed_cases()
+    yield from edition_sheet_cases()
 
 
 def bits_case(label, counts):
@@ -521,7 +687,7 @@ def bits_cases():
 def cases():
     hold_to_hashlib()
     groups = [hash_cases, code_cases, key_cases, value_cases, order_cases, sheet_cases, bits_cases]
-    for group in groups:
+    for group in [*groups, edition_cases]:
         yield from group()
 
 

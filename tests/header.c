@@ -31,8 +31,13 @@ static_assert(ZAROSNIK_TABLE_BYTES(ZAROSNIK_L_MAX, S_LARGEST) == ZAROSNIK_TABLE_
 static_assert(ZAROSNIK_TABLE_BYTES_MAX == ZAROSNIK_TABLE_WORDS_MAX * sizeof(uint32_t), "work slice in bytes");
 static_assert(ZAROSNIK_VALUES_BYTES(ZAROSNIK_L_MAX) == ZAROSNIK_VALUES_BYTES_MAX, "values");
 static_assert(ZAROSNIK_SIGNATURE_BYTES(ZAROSNIK_L_MAX, ZAROSNIK_H_MAX) == ZAROSNIK_SIGNATURE_BYTES_MAX, "signature");
-static_assert(ZAROSNIK_SHEET_BYTES(ZAROSNIK_L_MAX, ZAROSNIK_H_MAX, ZAROSNIK_MESSAGE_MAX) == ZAROSNIK_SHEET_BYTES_MAX,
+static_assert(ZAROSNIK_SHEET_BYTES(ZAROSNIK_L_MAX, ZAROSNIK_H_MAX, ZAROSNIK_EDITION_1, ZAROSNIK_MESSAGE_MAX) == 2319,
               "sheet");
+static_assert(ZAROSNIK_SHEET_BYTES(ZAROSNIK_L_MAX, ZAROSNIK_H_MAX, ZAROSNIK_EDITION_2, ZAROSNIK_MESSAGE_MAX)
+                  == ZAROSNIK_SHEET_BYTES_MAX,
+              "sheet");
+
+static_assert(ZAROSNIK_EDITION_1 == 1 && ZAROSNIK_EDITION_2 == 2, "editions");
 
 /* The gate's numbers by operators that bind loosely: what a macro takes stands in parentheses. */
 static_assert(ZAROSNIK_S_MAX(34u & 63u, 16u & 63u) == 510, "parentheses");
@@ -40,7 +45,8 @@ static_assert(ZAROSNIK_TABLE_WORDS(34u & 63u, 255u & 511u) == 44800, "parenthese
 static_assert(ZAROSNIK_TABLE_BYTES(34u & 63u, 255u & 511u) == 179200, "parentheses");
 static_assert(ZAROSNIK_VALUES_BYTES(34u & 63u) == 544, "parentheses");
 static_assert(ZAROSNIK_SIGNATURE_BYTES(34u & 63u, 10u & 15u) == 724, "parentheses");
-static_assert(ZAROSNIK_SHEET_BYTES(34u & 63u, 10u & 15u, 28u & 63u) == 1753, "parentheses");
+static_assert(ZAROSNIK_SHEET_BYTES(34u & 63u, 10u & 15u, 1u & 3u, 28u & 63u) == 1753, "parentheses");
+static_assert(ZAROSNIK_SHEET_BYTES(34u & 63u, 10u & 15u, 2u & 3u, 28u & 63u) == 1755, "parentheses");
 static_assert(ZAROSNIK_LEAVES(10u & 15u) == 1024, "parentheses");
 static_assert(ZAROSNIK_STEPS(34u & 63u, 16u & 63u, 300u - 45u) == 255, "parentheses");
 
@@ -52,17 +58,17 @@ uint32_t header_sizes(uint32_t l, uint32_t w, uint32_t s, uint32_t h)
         + ZAROSNIK_SIGNATURE_BYTES(l, h) + ZAROSNIK_S_MAX(l, w) + ZAROSNIK_LEAVES(h) + ZAROSNIK_STEPS(l, w, s);
 }
 
-size_t header_sheet(uint32_t l, uint32_t h, size_t message_len);
-size_t header_sheet(uint32_t l, uint32_t h, size_t message_len)
+size_t header_sheet(uint32_t l, uint32_t h, uint32_t edition, size_t message_len);
+size_t header_sheet(uint32_t l, uint32_t h, uint32_t edition, size_t message_len)
 {
-    return ZAROSNIK_SHEET_BYTES(l, h, message_len);
+    return ZAROSNIK_SHEET_BYTES(l, h, edition, message_len);
 }
 
 /* The gate's numbers as arguments raise no warning. */
 int header_gate(const uint8_t *public_seed, const uint8_t *secret_seed, uint8_t *root);
 int header_gate(const uint8_t *public_seed, const uint8_t *secret_seed, uint8_t *root)
 {
-    return zarosnik_root(ZAROSNIK_GATE_L, ZAROSNIK_GATE_W, ZAROSNIK_GATE_S, ZAROSNIK_GATE_H, public_seed, secret_seed,
-                         root)
+    return zarosnik_root(ZAROSNIK_GATE_L, ZAROSNIK_GATE_W, ZAROSNIK_GATE_S, ZAROSNIK_GATE_H, ZAROSNIK_EDITION_2,
+                         public_seed, secret_seed, root)
         == ZAROSNIK_GRANTED;
 }

@@ -7,7 +7,8 @@ Both headers compile as C11 and as C++17 with all warnings. The first has the fu
 and types of the crate `zarosnik`, the refusals of the crate `refusal` and the orders of the crate
 `words`. The page's tables have their numbers and names, the words of zarosnik_outcome_text, and for
 each function its refusals in order. The second hands each parameter on as it is named. What must
-not compile does not: one kind of 16 bytes for another, and an outcome that is not looked at.
+not compile does not: one kind of 16 bytes for another, the gate profile without an edition, and an
+outcome that is not looked at.
 
 Neither a compiler nor a proof compares a declaration in C with the Rattle source, so it is done here.
 """
@@ -302,7 +303,7 @@ def check_typed(text, functions):
 # What must not compile.
 
 KINDS = ["public_seed", "secret_seed", "tree_root", "one_time_key", "randomizer"]
-PROFILE = "zarosnik_gate_profile"
+PROFILE = "zarosnik_gate_profile_2"
 # For each call that takes kinds of 16 bytes: what stands before them, these, what stands behind.
 TAKERS = [
     (f"zarosnik_fresh_key({PROFILE}, ", ["public_seed", "secret_seed"], ")"),
@@ -314,6 +315,9 @@ TAKERS = [
         ", 0, number, bytes, 1, words, 1, &one_time_key, words)",
     ),
 ]
+# The gate profile in an edition, and as it was named when there was one edition.
+GATE_PROFILES = ["ZAROSNIK_GATE_PROFILE(ZAROSNIK_EDITION_1)", PROFILE]
+NO_EDITION = ["ZAROSNIK_GATE_PROFILE", "zarosnik_gate_profile"]
 
 
 def taking(before, kinds, behind):
@@ -346,6 +350,21 @@ def refuse_mistaken():
             answer = compiled(compiler, [], source)
             if answer.returncode == 0 or f"zarosnik_{other}" not in answer.stderr:
                 fail(f"{compiler[0]} takes a {other} for a {kind}\n{source}\n{answer.stderr}")
+
+
+def refuse_no_edition():
+    def source(profile):
+        body = f"{{ struct zarosnik_profile p = {profile}; return p; }}\n"
+        head = "struct zarosnik_profile made(void)"
+        return f'#include "zarosnik_types.h"\n{head};\n{head}\n{body}'
+
+    for profile in GATE_PROFILES:
+        must_compile(WARNINGS, source(profile))
+    for profile in NO_EDITION:
+        for compiler in COMPILERS:
+            answer = compiled(compiler, [], source(profile))
+            if answer.returncode == 0 or profile not in answer.stderr:
+                fail(f"{compiler[0]} takes {profile}, which names no edition\n{answer.stderr}")
 
 
 def call_of(name, parameters, form):
@@ -384,6 +403,7 @@ def main():
     check_typed(typed, functions)
     refuse_ignored({**functions, **declared_functions(typed, r"\{")})
     refuse_mistaken()
+    refuse_no_edition()
     same(header_rows(outcomes), page_rows(page), "header", "page")
     same(header_orders(), page_orders(page), "header", "page")
     same(compared, page_compared(page), "header", "page")

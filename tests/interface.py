@@ -14,8 +14,10 @@ past the named length of each slice, numbers compared in each order after each c
 words below being alike or in either order, orders signed and taken at every height of the tree and,
 by tests/shapes.py, with every number of bits from 8 to 128, at the nearest counts on both sides of
 each power of two, both shapes of 255 being refused; orders of earlier days, taken where numbers
-have 128 bits as then, and refused where they have fewer; and, by tests/windows.py, each way in
-which a leaf can stand to the highest leaf and the marks, taken or refused by 14.
+have 128 bits as then, and refused where they have fewer; by tests/windows.py, each way in which a
+leaf can stand to the highest leaf and the marks, taken or refused by 14; and, by tests/editions.py,
+each operation granted in both editions and refused for numbers that are none, orders signed in the
+other edition, and sheets with the other edition's frame 01 and with others.
 """
 
 import itertools
@@ -26,11 +28,12 @@ import time
 from collections import Counter
 
 import comparisons
+import editions
 import shapes
 import signatures
 import windows
 from archived import archive_of, archive_parser, shared_object
-from interface_calls import LENT, STATES, load
+from interface_calls import EDITED, LENT, STATES, load
 from interface_cases import case, subsets, wide_numbers
 from interface_inputs import CAUSES
 from interface_memory import unguarded
@@ -48,9 +51,11 @@ def say(line, stream=sys.stdout):
 class Met:
     """What has come up: the answers of each operation, the causes told and those behind them, wide
     numbers of the profile, slices longer than they must be and states other than 0 with each
-    answer, the kinds of numbers compared, and, of orders, the heights of trees under which they
-    were signed and taken, the shapes with the answers there, the answers to earlier ones, and how
-    the leaf stood to the verifier's where it was taken or passed."""
+    answer, the kinds of numbers compared, the editions with the answers there, what stood behind s
+    in frame 01 with the wrong line, and, of orders, the heights of trees under which they were
+    signed and taken, the shapes with the answers there, the answers to earlier ones, the editions
+    that refused one of the other, and how the leaf stood to the verifier's where it was taken or
+    passed."""
 
     def __init__(self):
         self.outcomes = Counter()
@@ -62,6 +67,9 @@ class Met:
         self.shapes = {operation: set() for operation in STATES}
         self.earlier = set()
         self.windows = set()
+        self.editions = {operation: set() for operation in EDITED}
+        self.sheets = set()
+        self.crossed = set()
 
     def add(self, call):
         operation, outcome, arguments = call.operation, call.outcome, call.arguments
@@ -82,6 +90,14 @@ class Met:
                 self.heights.add((operation, arguments["h"]))
         if call.earlier:
             self.earlier.add(outcome)
+        if operation in EDITED:
+            self.editions[operation].add((arguments["edition"], outcome))
+        if operation == "read_sheet" and outcome in (0, 17):
+            p = signatures.Profile(*(arguments[name] for name in signatures.Profile._fields))
+            found = editions.last_of(p, arguments["sheet"].before)
+            self.sheets.add((p.edition, found, arguments["line"].after_words()[0]))
+        if call.crossed:
+            self.crossed.add((arguments["edition"], outcome))
         if operation == "verify" and outcome in (0, 14):
             window = [arguments[name].words()[0] for name in STATES["verify"]]
             leaf = int.from_bytes(arguments["signature"].before[:4], "big")
@@ -113,6 +129,14 @@ class Met:
             yield f"verify has never answered {outcome} to an order of earlier days"
         for kind in windows.missing_kinds(self.windows):
             yield f"verify has never answered {kind}"
+        for operation, met in self.editions.items():
+            for answer in editions.missing_answers(met):
+                yield f"{operation} has never answered {answer}"
+        for line in editions.missing_lines(self.sheets):
+            yield f"read_sheet has never told {line}"
+        for number in signatures.EDITIONS:
+            if (number, 15) not in self.crossed:
+                yield f"verify has never answered 15 in edition {number} to the other's order"
 
     def missing_kept(self, operation, causes):
         """What must not change is seen only where there is some: past the named length of a slice,

@@ -9,6 +9,7 @@ import sheets
 import signatures
 import zarosnik
 from interface_memory import Memory, Placed, region, words_memory
+from signatures import Profile
 from zarosnik import number_words
 
 # The parameters in order; `name[]` is a pointer and, behind it, a length. What `&name` points to is
@@ -19,17 +20,20 @@ PROTOTYPES = {
     "unrank": "l w s &number table[] row[]",
     "rank": "l w s &row[] table[] number",
     "compare": "&first &second order looked",
-    "leaf_key": "l w s h &public_seed &secret_seed leaf key",
-    "root": "l w s h &public_seed &secret_seed root",
-    "one_time_sign": "l w s h &public_seed &secret_seed leaf &number table[] values[]",
-    "one_time_recover": "l w s h &public_seed leaf &number &values[] table[] key steps",
-    "sign": "l w s h &public_seed &secret_seed next_leaf &r &message[] table[] signature[]",
-    "verify": "l w s h &public_seed &root highest_leaf marks"
+    "leaf_key": "l w s h edition &public_seed &secret_seed leaf key",
+    "root": "l w s h edition &public_seed &secret_seed root",
+    "one_time_sign": "l w s h edition &public_seed &secret_seed leaf &number table[] values[]",
+    "one_time_recover": "l w s h edition &public_seed leaf &number &values[] table[] key steps",
+    "sign": "l w s h edition &public_seed &secret_seed next_leaf &r"
+    " &message[] table[] signature[]",
+    "verify": "l w s h edition &public_seed &root highest_leaf marks"
     " &message[] &signature[] table[] steps",
-    "read_sheet": "l w s h &sheet[] signature[] message[] message_written line",
+    "read_sheet": "l w s h edition &sheet[] signature[] message[] message_written line",
 }
+# The operations that a profile's edition is for.
+EDITED = [name for name, parameters in PROTOTYPES.items() if "edition" in parameters.split()]
 # Every other parameter is a pointer.
-BY_VALUE = dict.fromkeys(["l", "w", "s", "h", "leaf"], ctypes.c_uint32)
+BY_VALUE = dict.fromkeys([*Profile._fields, "leaf"], ctypes.c_uint32)
 # The slices that a call may write, and the cause of refusal where one is too short; Read sheet
 # refuses by 6 for two, and the text's is told apart here.
 TEXT_SLICE = -6
@@ -68,7 +72,8 @@ def load(shared_object):
 class Call:
     """An operation, its arguments by name, and the number that it must answer with. The causes are
     those that were laid on purpose, in the document's order; for wide numbers of the profile, which
-    they are and in what way; and whether an order is one of earlier days."""
+    they are and in what way; and whether an order is one of earlier days, or was signed in the
+    other edition."""
 
     def __init__(self, operation, outcome, shift, arguments):
         self.operation = operation
@@ -78,6 +83,7 @@ class Call:
         self.causes = []
         self.wide = None
         self.earlier = False
+        self.crossed = False
 
     def __str__(self):
         lines = [f"zarosnik_{self.operation} must answer {self.outcome}"]

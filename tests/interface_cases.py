@@ -5,23 +5,36 @@ A run begins with the tallest trees, once for each height, and with an order sig
 at each of the counts on both sides of the powers of two. Every round of cases has, for each
 operation, granted calls, each cause of refusal alone, each two together, and several; numbers to
 compare of many kinds; numbers of the profile that narrower parameters would cut to right ones, or
-that are the ends of what wide ones hold; slices whose length passes 32 bits; orders of earlier
-days; each way in which a leaf can stand to a verifier's highest leaf and marks; and sequences in
-which a fresh key signs and a fresh verifier checks, in the order signed and in any other.
+that are the ends of what wide ones hold; both editions and numbers that are none; slices whose
+length passes 32 bits; orders of earlier days, and orders and sheets of the other edition; each way
+in which a leaf can stand to a verifier's highest leaf and marks; and sequences in which a fresh key
+signs and a fresh verifier checks, in the order signed and in any other.
 """
 
 import itertools
 import random
 from functools import cache, lru_cache, partial
 
+import editions
 import shapes
 import windows
-from interface_calls import STATES, Calls
+from interface_calls import EDITED, STATES, Calls
 from interface_damage import Order, flipped, swapped
 from interface_inputs import CAUSES, CUTS, FAR, WIDE, Inputs, cheap_height, signable_shape
 from interface_memory import Memory
 from sheets import right_sheet
-from signatures import GATE, Profile, SigningKey, Verifier, pieces, root_of, signature_length
+from signatures import (
+    EDITIONS,
+    GATE,
+    Profile,
+    SigningKey,
+    Verifier,
+    message_number,
+    pieces,
+    root_of,
+    signature_length,
+    signature_of,
+)
 from zarosnik import MOST_BITS
 
 SEQUENCES = 8
@@ -39,9 +52,12 @@ def subsets(causes, most):
 
 
 def wide_numbers(operation):
-    """Each set of numbers of the profile, by their causes, with each way in which they are wide."""
+    """Each set of numbers of the profile, by their causes, with each way in which they are wide.
+    The edition is among them alone, with one other, and with all."""
     causes = [cause for cause in CAUSES[operation] if cause in CUTS]
-    return list(itertools.product(subsets(causes, len(causes)), WIDE))
+    sets = subsets(causes, len(causes))
+    some = [laid for laid in sets if 22 not in laid or len(laid) in (1, 2, len(causes))]
+    return list(itertools.product(some, WIDE))
 
 
 class Unsound(Exception):
@@ -76,14 +92,51 @@ def edge(operation, shape, pick):
     low: it has no part in the bits."""
     answer = shapes.answer_at(shape)
     causes = [answer] if answer else []
-    inputs = Inputs(pick, operation, causes, profile=Profile(*shape, pick.randrange(2)))
+    p = Profile(*shape, pick.randrange(2), pick.choice(EDITIONS))
+    inputs = Inputs(pick, operation, causes, profile=p)
     yield caused(operation, causes, getattr(inputs, operation)())
 
 
+def edition(operation, number, pick):
+    """Nothing but the edition may refuse the call."""
+    causes = [22] if editions.answer_to(number) else []
+    inputs = Inputs(pick, operation, causes, edition=number)
+    yield caused(operation, causes, getattr(inputs, operation)())
+
+
+def crossed(operation, number, pick):
+    """Checks, in this edition, an order that was signed in the other. Where numbers are few, both
+    may have the same one: another is drawn then."""
+    while True:
+        p = Profile(*signable_shape(pick), pick.randrange(11), number)
+        order = Order(pick, p)
+        order.sign_as_other_edition()
+        if not order.leads_to_root():
+            break
+    call = caused(operation, [15], Inputs(pick, operation, [15], profile=p).verify(order))
+    call.crossed = True
+    yield call
+
+
+def high_leaf(operation, number, pick):
+    """Signs, in this edition, with a leaf that one byte does not hold, under a tree of short
+    chains; numbers have 16 bits."""
+    p = Profile(10, 4, 15, pick.choice([9, 10]), number)
+    leaf = pick.randrange(1 << 8, 1 << p.h)
+    yield caused(operation, [], Inputs(pick, operation, profile=p).sign(leaf))
+
+
+def last(operation, number, digits, pick):
+    """Reads, expecting this edition, a sheet with these digits behind s in frame 01."""
+    causes = [17] if editions.line_to(number, digits) else []
+    inputs = Inputs(pick, operation, causes, edition=number)
+    yield caused(operation, causes, inputs.read_sheet(digits))
+
+
 def earlier(operation, bits, pick):
-    """Checks an order of earlier days. Where its number has fewer bits today it is refused, though
-    it was taken then; with 128 bits it is the same order."""
-    p = Profile(*pick.choice(shapes.by_bits()[bits]), pick.randrange(11))
+    """Checks an order of earlier days, when there was one edition. Where its number has fewer bits
+    today it is refused, though it was taken then; with 128 bits it is the same order."""
+    p = Profile(*pick.choice(shapes.by_bits()[bits]), pick.randrange(11), 1)
     order, causes = Order(pick, p), [] if bits == MOST_BITS else [15]
     order.sign_as_earlier()
     call = caused(operation, causes, Inputs(pick, operation, causes, profile=p).verify(order))
@@ -96,7 +149,7 @@ def window(operation, kind, answer, pick):
     Not every leaf can stand so."""
     found = None
     while found is None:
-        p = Profile(*signable_shape(pick), pick.randrange(11))
+        p = Profile(*signable_shape(pick), pick.randrange(11), pick.choice(EDITIONS))
         order = Order(pick, p)
         found = windows.state_of(pick, kind, answer, order.leaf)
     causes = [answer] if answer else []
@@ -154,8 +207,15 @@ class Sequence:
                 return call
             self.verifier = verifier
 
+    def other_edition(self, signature, text):
+        """What the key's other edition would sign with the same leaf, R and text."""
+        p = self.p._replace(edition=editions.other(self.p.edition))
+        leaf, r = int.from_bytes(signature[:4], "big"), signature[4:20]
+        number = message_number(p, r, self.key.seed, self.root, leaf, text)
+        return signature_of(p, self.key.seed, self.key.secret, leaf, r, number)
+
     def wrong_check(self, taken):
-        """Damaged, another key's, without the work slice, or replayed."""
+        """Damaged, another key's or edition's, without the work slice, or replayed."""
         pick, (signature, text) = self.pick, self.pick.choice(self.issued)
         head, parts = signature[:20], pieces(signature[20:])
         values, siblings = parts[: self.p.l], parts[self.p.l :]
@@ -169,6 +229,7 @@ class Sequence:
             (signature, b""),
             (signature, text, [5]),
             (foreign.signature(), foreign.text),
+            (self.other_edition(signature, text), text),
         ]
         if len(siblings) > 1:
             checks.append((head + b"".join(values + swapped(pick, siblings)), text))
@@ -209,7 +270,7 @@ class Sequence:
 def sequence(pick):
     l, w, s = signable_shape(pick)
     h = min(cheap_height(pick, l, w), MOST_HEIGHT)
-    yield from Sequence(pick, Profile(l, w, s, h)).run()
+    yield from Sequence(pick, Profile(l, w, s, h, pick.choice(EDITIONS))).run()
 
 
 def tall(p, pick):
@@ -230,9 +291,11 @@ def tall(p, pick):
         yield orders.check(signature, text)
 
 
-# The gate profile, and every height that a sequence has not, at the shape of the shortest chains at
-# which numbers have 128 bits.
-TALL = [GATE, *(Profile(39, 11, 195, h) for h in range(MOST_HEIGHT + 1, GATE.h))]
+# The gate profile; every height that a sequence has not, at the shape of the shortest chains at
+# which numbers have 128 bits, in turn in either edition; and the tallest tree in edition 2, at
+# short chains with numbers of 16 bits.
+TALL = [GATE, *(Profile(39, 11, 195, h, 1 + h % 2) for h in range(MOST_HEIGHT + 1, GATE.h))]
+TALL += [Profile(10, 4, 15, GATE.h, 2)]
 
 
 @cache
@@ -251,6 +314,10 @@ def plan():
         cases += [partial(single, operation, c) for c in granted + 2 * alone + subsets(causes, 2)]
         cases += [partial(several, operation)] * len(causes)
         cases += [partial(single, operation, c, wide=w) for c, w in wide_numbers(operation)]
+    cases += [partial(edition, *tried) for tried in itertools.product(EDITED, editions.TRIED)]
+    cases += [partial(crossed, "verify", number) for number in 4 * EDITIONS]
+    cases += [partial(high_leaf, "sign", number) for number in EDITIONS]
+    cases += [partial(last, "read_sheet", *given) for given in editions.SHEETS]
     cases += [partial(single, operation, causes) for operation, causes in MANIFOLD * 20]
     cases += [partial(earlier, "verify", bits) for bits in EARLIER_BITS]
     cases += [partial(window, "verify", *kind) for kind in windows.KINDS]

@@ -1,5 +1,6 @@
 """Signed orders and sheets, and what may be wrong with them."""
 
+import editions
 from interface_memory import Memory
 from sheets import hex_line, read_frames
 from signatures import (
@@ -47,8 +48,9 @@ class Order:
         self.root = climb_path(self.seed, self.leaf, key, self.siblings)
         self.sign(self.number())
 
-    def number(self):
-        return message_number(self.p, self.r, self.seed, self.root, self.text)
+    def number(self, p=None):
+        """By its own profile, or by another."""
+        return message_number(p or self.p, self.r, self.seed, self.root, self.leaf, self.text)
 
     def sign(self, number):
         self.row = row_of(*self.p[:3], number)
@@ -58,11 +60,15 @@ class Order:
         """By the number of earlier days, the digest's first 128 bits, with an R for which it is
         below the count."""
         while True:
-            digest = order_digest(self.r, self.seed, self.root, self.text)
+            digest = order_digest(self.p, self.r, self.seed, self.root, self.leaf, self.text)
             number = first_bits(digest, MOST_BITS)
             if number < count_of(self.p):
                 return self.sign(number)
             self.r = self.pick.randbytes(16)
+
+    def sign_as_other_edition(self):
+        """Where numbers are few, this may be the same."""
+        self.sign(self.number(self.p._replace(edition=editions.other(self.p.edition))))
 
     def leads_to_root(self):
         key, _ = recovered(self.p, self.seed, self.leaf, self.number(), b"".join(self.values))
@@ -76,7 +82,7 @@ class Order:
         """One thing is other than it was signed. Where numbers are few, another text or R may have
         the same one and do no harm: then one more thing is."""
         changes = [self.flip_bit, self.other_text, self.other_root]
-        changes += [self.flip_value, self.swap_values, self.step_on]
+        changes += [self.flip_value, self.swap_values, self.step_on, self.sign_as_other_edition]
         if self.p.h >= 1:
             changes += [self.flip_sibling, self.other_leaf]
         if self.p.h >= 2:
@@ -175,8 +181,12 @@ def other_frame(pick, sheet):
 
 def wrong_sheet(pick, p, sheet):
     """A sheet with a wrong line. Behind one that was cut off stands the rest."""
+
+    def other_last(pick, sheet):
+        return editions.with_last(p, sheet, pick.choice(editions.LAST))
+
     while True:
-        change = pick.choice([other_byte, cut, more, other_lines, other_frame])
+        change = pick.choice([other_byte, cut, more, other_lines, other_frame, other_last])
         wrong = change(pick, sheet)
         if read_frames(p, wrong)[0]:
             return Memory(wrong, behind=sheet[len(wrong) :] if sheet.startswith(wrong) else b"")

@@ -3,13 +3,14 @@ for: none, one, or several at once, of which the first in the document's order m
 """
 
 import comparisons
+import editions
 import shapes
 import windows
 from interface_calls import LENT, MOST_HASHED, TEXT_SLICE, Calls
 from interface_damage import Order, flipped, wrong_sheet
 from interface_memory import Filling, Memory
 from sheets import right_sheet
-from signatures import Profile, SigningKey, Verifier, revealed, signature_length
+from signatures import EDITIONS, Profile, SigningKey, Verifier, revealed, signature_length
 from zarosnik import MOST_BITS, row_of, table_length, ways
 
 # The causes of each operation in the document's order. Compare is never refused.
@@ -19,13 +20,13 @@ CAUSES = {
     "unrank": [1, 2, 3, 5, 6, 7],
     "rank": [1, 2, 3, 5, 8, 9, 10],
     "compare": [],
-    "leaf_key": [1, 2, 3, 4, 11],
-    "root": [1, 2, 3, 4],
-    "one_time_sign": [1, 2, 3, 4, 5, 6, 11, 7],
-    "one_time_recover": [1, 2, 3, 4, 5, 13, 11, 7],
-    "sign": [1, 2, 3, 4, 5, 16, 6, 12, 19],
-    "verify": [1, 2, 3, 4, 5, 16, 13, 11, 14, 19, 15],
-    "read_sheet": [1, 2, 3, 4, 17, 6, TEXT_SLICE],
+    "leaf_key": [1, 2, 3, 4, 22, 11],
+    "root": [1, 2, 3, 4, 22],
+    "one_time_sign": [1, 2, 3, 4, 22, 5, 6, 11, 7],
+    "one_time_recover": [1, 2, 3, 4, 22, 5, 13, 11, 7],
+    "sign": [1, 2, 3, 4, 22, 5, 16, 6, 12, 19],
+    "verify": [1, 2, 3, 4, 22, 5, 16, 13, 11, 14, 19, 15],
+    "read_sheet": [1, 2, 3, 4, 22, 17, 6, TEXT_SLICE],
 }
 
 # Slices whose length may pass 32 bits, and the cause of refusal where this is too long. Cut to 32
@@ -55,7 +56,7 @@ FAR = [
 PAST_WORD = 1 << 32
 # For each number of the profile, the cause of refusal where it is out of its range, and the bits of
 # the narrowest parameter that holds this range. It would cut wider numbers.
-CUTS = {1: 8, 2: 8, 3: 16, 4: 8}
+CUTS = {1: 8, 2: 8, 3: 16, 4: 8, 22: 8}
 # What wide numbers may be: good but for bits that a cut drops, or these.
 CUT = "cut to good ones"
 WIDE = [CUT, PAST_WORD // 2, PAST_WORD - 1]
@@ -101,10 +102,13 @@ class Inputs:
     """Draws the arguments of one call: one method an operation. Where a number of the profile is to
     be wrong, slices have the sizes that go with it, as far as it can be, or with what a cut makes
     of it: a library that takes such a profile is not saved by a slice that is too short. The wrong
-    numbers may all be asked to be wide, in one way."""
+    numbers may all be asked to be wide, in one way. The edition may be given, right or wrong."""
 
-    def __init__(self, pick, operation, causes=(), far=None, wide=None, profile=None):
+    def __init__(
+        self, pick, operation, causes=(), far=None, wide=None, profile=None, edition=None
+    ):
         self.pick = pick
+        self.edition = edition
         self.operation = operation
         self.causes = set(causes)
         self.far = far
@@ -125,7 +129,9 @@ class Inputs:
             l, w, s = scant_shape(pick) if 19 in self.causes else signable_shape(pick)
         # a library may hash the tree before it refuses by 19, and before no other refusal
         hashed = operation in ("root", "sign") and self.causes <= {19}
-        return Profile(l, w, s, cheap_height(pick, l, w) if hashed else pick.randrange(11))
+        h = cheap_height(pick, l, w) if hashed else pick.randrange(11)
+        right = self.edition in EDITIONS
+        return Profile(l, w, s, h, self.edition if right else pick.choice(EDITIONS))
 
     def given_profile(self):
         """Drawn again where l and w are so large that no s of 32 bits is over their largest sum."""
@@ -137,13 +143,16 @@ class Inputs:
             # one of them has the low byte of the good sum
             s = self.given(3, 0, over, [over, over + (good.s - over) % 256, 65535])
             h = self.given(4, 0, 11, [11, 12, good.h + 32, 255, pick.randrange(11, 256)])
+            edition = self.given(22, 1, 3, [0, 3, 4, 255, pick.randrange(3, 256)])
+            if 22 in self.causes and self.edition is not None:
+                edition = self.edition
             if s is not None:
-                return Profile(l, w, s, h)
+                return Profile(l, w, s, h, edition)
 
     def given(self, cause, low, end, near):
         """A number of the profile. Where it is to be wrong, it is not one from low to end - 1, but
         near to these, or wide. None where there is none."""
-        pick, good, bits = self.pick, self.good[cause - 1], CUTS[cause]
+        pick, good, bits = self.pick, self.good[list(CUTS).index(cause)], CUTS[cause]
         if cause not in self.causes:
             return good
         if isinstance(self.wide, int):
@@ -249,7 +258,7 @@ class Inputs:
 
     def other_sum(self, row):
         """One length is more or less by 1, or the row's sum is another with the same low byte."""
-        (l, w, s, _), at = self.good, self.pick.randrange(len(row))
+        (l, w, s), at = self.good[:3], self.pick.randrange(len(row))
         if s + 256 <= l * (w - 1) and self.pick.random() < 0.5:
             return row_of(l, w, s + 256, self.pick.randrange(ways(w, l, s + 256)))
         by = 1 if row[at] == 0 or row[at] < w - 1 and self.pick.random() < 0.5 else -1
@@ -282,8 +291,10 @@ class Inputs:
         values = self.exact("values", self.padded(values, 16 * self.sized.l), 13)
         return self.calls.one_time_recover(self.p, seed, leaf, number, values, self.table())
 
-    def sign(self):
-        key = SigningKey(self.p, self.seed(), self.seed(), self.leaf(12))
+    def sign(self, leaf=None):
+        """With the next leaf that is drawn, unless it is given."""
+        leaf = self.leaf(12) if leaf is None else leaf
+        key = SigningKey(self.p, self.seed(), self.seed(), leaf)
         signature = self.lent("signature", signature_length(self.sized))
         r = self.pick.randbytes(16)
         return self.calls.sign(key, r, self.message(), self.table(), signature)[0]
@@ -305,12 +316,15 @@ class Inputs:
         message = self.message() if 16 in self.causes else Memory(order.text)
         return self.calls.verify(verifier, message, signature, self.table())[0]
 
-    def read_sheet(self):
+    def read_sheet(self, last=None):
+        """Of a right sheet or a wrong one, unless it is given what stands behind s in frame 01."""
         pick, p = self.pick, self.good
         text = pick.randbytes(pick.choice([1, 200, pick.randrange(1, 201)]))
         sheet = right_sheet(p, pick.randbytes(signature_length(p)), text)
         given = Memory(sheet)
-        if self.far == "sheet":
+        if last is not None:
+            given = Memory(editions.with_last(p, sheet, last))
+        elif self.far == "sheet":
             given = self.exact("sheet", sheet, 17)
         elif 17 in self.causes:
             given = wrong_sheet(pick, p, sheet)

@@ -8,9 +8,10 @@ A wrong function cuts a number or a length; reads just before or behind memory t
 writes what it is to read only; changes a slice or a state where it refuses, for each cause, or a
 slice past its named length where it grants; leaves an old answer where it refuses; compares two
 numbers by another rule, or wrongly for one order and one count of pairs alone; has another rule for
-an order's number or for 19, or a wrong number at just one of the shapes that must come up; or has
+an order's number or for 19, or a wrong number at just one of the shapes that must come up; has
 another rule for 14 or for the highest leaf and the marks, or is wrong for just one of the ways in
-which a leaf can stand to them.
+which a leaf can stand to them; or has another digest, another rule for 22 or for the end of a
+sheet's frame 01, or is wrong for just one of the ends that must come up.
 """
 
 import ctypes
@@ -26,8 +27,9 @@ from comparisons import KINDS
 from interface_calls import BY_VALUE, LENT, PROTOTYPES, STATES, load
 from interface_cases import beginning, edge, plan, window
 from interface_inputs import CAUSES, FAR
+from wrong_editions import right_editions, wrong_editions
 from wrong_orders import right_orders, wrong_orders
-from wrong_windows import right_window, wrong_windows
+from wrong_windows import ALL_KINDS, right_window, wrong_windows
 from zarosnik import EQUAL, GREATER, LESS, WORDS
 
 # Bytes of what has no length of its own; all else has 16.
@@ -225,8 +227,8 @@ def wrong_functions():
 
 
 def mutants():
-    """The same, with the cases in which it must be seen. What is wrong at one shape or for one kind
-    of window alone is seen there."""
+    """The same, with the cases in which it must be seen. What is wrong at one shape, for one kind
+    of window, with one edition or two causes or for one end of frame 01 alone is seen there."""
     for what, operation, wrong in wrong_functions():
         yield what, operation, wrong, cases_of(operation)
     for what, operation, wrong, shape in wrong_orders():
@@ -234,13 +236,18 @@ def mutants():
         yield what, operation, wrong, cases if shape else cases_of(operation) + cases
     for what, wrong, kind in wrong_windows():
         yield what, "verify", wrong, windows_of(kind) if kind else cases_of("verify")
+    for what, operation, wrong, where in wrong_editions():
+        yield what, operation, wrong, cases_at(operation, where)
 
 
 def nothing_wrong():
-    """Each operation as it is; and those that are made again below, by the right rule."""
-    yield from ((operation, None) for operation in PROTOTYPES)
-    yield from right_orders().items()
-    yield "verify", right_window()
+    """Each operation as it is; and those that are made again by the right rule, in the way of the
+    wrong ones. With the cases in which it is tried."""
+    made = [*((operation, None) for operation in PROTOTYPES), *right_orders().items()]
+    for operation, right in [*made, ("verify", right_window())]:
+        yield operation, right, cases_of(operation) + edges_of(operation)
+    for operation, right, where in right_editions():
+        yield operation, right, cases_at(operation, where)
 
 
 class Wrong:
@@ -268,9 +275,14 @@ def edges_of(operation, shape=None):
 
 
 def windows_of(kind):
-    """Where the leaf stands so to the verifier, with this answer."""
+    """Where the leaf stands so to the verifier, with this answer, or in each way."""
     cases = [case for case in cases_of("verify") if case.func == window]
-    return [case for case in cases if case.args[1:] == kind]
+    return [case for case in cases if kind in (ALL_KINDS, case.args[1:])]
+
+
+def cases_at(operation, where):
+    """Of these kinds, each with what a case is given besides the operation."""
+    return [case for case in cases_of(operation) if (case.func.__name__, case.args[1:]) in where]
 
 
 def seen(library, operation, cases, rounds):
@@ -307,8 +319,7 @@ def main():
         drawn_from()
     with tempfile.TemporaryDirectory() as folder:
         library = load(shared_object(archive, folder))
-        for operation, right in nothing_wrong():
-            cases = cases_of(operation) + edges_of(operation)
+        for operation, right, cases in nothing_wrong():
             if seen_apart(library, operation, right, cases, rounds=1):
                 sys.exit(f"tests/interface_mutants.py: {operation} differs with nothing wrong")
         for what, operation, wrong, cases in mutants():

@@ -29,7 +29,7 @@ from archived import archive_of, archive_parser, shared_object
 from interface_calls import STATES, load
 from interface_cases import caused, edge, subsets
 from interface_inputs import CAUSES, CUTS, Inputs
-from signatures import GATE, Profile, count_cause
+from signatures import EDITIONS, GATE, Profile, count_cause
 from zarosnik import number_bits, number_words, row_of, ways
 
 LIMITS = list(itertools.product(range(1, 41), range(2, 17)))
@@ -228,7 +228,7 @@ def ask_counts(library, pick, found):
     """The library counts what the search found, and has a row for each number below that."""
     calls = 0
     for (l, w), size in [*found.items(), (GATE[:2], GATE_COUNT)]:
-        p = Profile(l, w, middle(l, w), 0)
+        p = Profile(l, w, middle(l, w), 0, 1)
         call = Inputs(pick, "count", profile=p).count()
         call.arguments["number"].leave(number_words(size))
         calls += made(library, call)
@@ -241,16 +241,16 @@ def ask_counts(library, pick, found):
 
 
 def ask_orders(library, pick):
-    """Signs and checks at the gate's l, w and s, with every set laid of the causes that can hold
-    there: the first of them is told and never 19, and with none laid the order is granted. Issue
-    hashes its whole tree then, so but for once that is a low one: its height has no part in 19.
-    That 19 would be seen, two shapes show that have 255 rows."""
+    """Signs and checks at the gate's l, w and s, in turn in either edition, with every set laid of
+    the causes that can hold there: the first of them is told and never 19, and with none laid the
+    order is granted. Issue hashes its whole tree then, so but for once that is a low one: its
+    height has no part in 19. That 19 would be seen, two shapes show that have 255 rows."""
     calls = 0
     for turn, operation in itertools.product(range(ROUNDS), STATES):
         causes = [cause for cause in CAUSES[operation] if cause not in CUTS and cause != 19]
         for laid in [(), *subsets(causes, len(causes))]:
             low = turn > 0 and operation == "sign" and not laid
-            p = GATE._replace(h=turn) if low else GATE
+            p = GATE._replace(h=turn if low else GATE.h, edition=EDITIONS[turn % 2])
             inputs = Inputs(pick, operation, laid, profile=p)
             calls += made(library, caused(operation, laid, getattr(inputs, operation)()))
     for operation, shape in itertools.product(STATES, shapes.nearly_signing()):

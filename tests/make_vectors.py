@@ -16,7 +16,7 @@ from pathlib import Path
 import signatures
 import zarosnik
 from comparisons import number_of_words
-from signatures import GATE, Profile
+from signatures import GATE, GATE_2, Profile
 from vector_calls import (
     GATE_SHAPE,
     MOST_HASHED,
@@ -137,37 +137,45 @@ def compare_family():
 SEED_PAIRS = [(SEED, SECRET), (bytes(16), b"\xff" * 16), (derived("public"), derived("secret"))]
 
 
+SAME = "edition 2, the same as edition 1"
+
+
 def leaf_keys_family():
-    for p in (Profile(1, 2, 0, 0), SMALL, Profile(40, 16, 300, 4), GATE):
+    for p in (Profile(1, 2, 0, 0, 1), SMALL, Profile(40, 16, 300, 4, 1), GATE):
         for seed, secret in SEED_PAIRS:
             for leaf in sorted({0, 2**p.h // 3, 2**p.h - 1}):
                 yield leaf_key_vector("a leaf", p, seed, secret, leaf)
     note = "the WOTS+ public key of SLH-DSA-SHA2-128 at layer 0 and tree 0"
     for leaf in (0, 5, 511):
-        yield leaf_key_vector(note, Profile(35, 16, 262, 9), SEED, SECRET, leaf)
+        yield leaf_key_vector(note, Profile(35, 16, 262, 9, 1), SEED, SECRET, leaf)
+    for p, leaf in [(SMALL._replace(edition=2), 1), (GATE_2, 341)]:
+        yield leaf_key_vector(SAME, p, SEED, SECRET, leaf)
 
 
 def roots_family():
     for h in range(5):
         for seed, secret in SEED_PAIRS:
-            yield root_vector(f"height {h}", Profile(3, 3, 3, h), seed, secret)
-    yield root_vector("the sum has no part in a root", Profile(3, 3, 4, 1), SEED, SECRET)
-    yield root_vector("one chain, the highest tree", Profile(1, 2, 1, 10), SEED, SECRET)
-    yield root_vector("the most chains of the largest width", Profile(40, 16, 300, 1), SEED, SECRET)
+            yield root_vector(f"height {h}", Profile(3, 3, 3, h, 1), seed, secret)
+    yield root_vector("the sum has no part in a root", Profile(3, 3, 4, 1, 1), SEED, SECRET)
+    yield root_vector("one chain, the highest tree", Profile(1, 2, 1, 10, 1), SEED, SECRET)
+    longest = Profile(40, 16, 300, 1, 1)
+    yield root_vector("the most chains of the largest width", longest, SEED, SECRET)
     for h in range(4):
-        yield root_vector(f"the gate's shape, height {h}", Profile(*GATE_SHAPE, h), SEED, SECRET)
+        yield root_vector(f"the gate's shape, height {h}", GATE._replace(h=h), SEED, SECRET)
     yield root_vector("the gate profile", GATE, SEED, SECRET)
+    for p in (Profile(3, 3, 3, 2, 2), GATE_2):
+        yield root_vector(SAME, p, SEED, SECRET)
 
 
 def one_time_family():
     for p, leaf in [
         (SMALL, 1),
-        (Profile(4, 2, 2, 0), 0),
-        (Profile(1, 16, 15, 3), 5),
-        (Profile(3, 3, 6, 2), 3),
-        (Profile(40, 16, 0, 1), 1),
-        (Profile(40, 16, 600, 0), 0),
-        (Profile(40, 16, 300, 2), 2),
+        (Profile(4, 2, 2, 0, 1), 0),
+        (Profile(1, 16, 15, 3, 1), 5),
+        (Profile(3, 3, 6, 2, 1), 3),
+        (Profile(40, 16, 0, 1, 1), 1),
+        (Profile(40, 16, 600, 0, 1), 0),
+        (Profile(40, 16, 300, 2, 1), 2),
         (GATE, 700),
     ]:
         words, size = table_length(p.l, p.s), 16 * p.l
@@ -184,6 +192,11 @@ def one_time_family():
             ("any values", derived("values", size)),
         ]:
             yield recover_vector(note, p, SEED, leaf, number, other, words)
+    for p, leaf in [(SMALL._replace(edition=2), 1), (GATE_2, 700)]:
+        words, number = table_length(p.l, p.s), ways(p.w, p.l, p.s) // 3
+        values = signatures.revealed(p, SEED, SECRET, leaf, number)
+        yield reveal_vector(SAME, p, SEED, SECRET, leaf, number, words, 16 * p.l)
+        yield recover_vector(SAME, p, SEED, leaf, number, values, words)
 
 
 FAMILIES = {

@@ -6,7 +6,8 @@
 #     perl tests/orders.pl vectors/*.json
 #
 # Prints a line for each call of Root, Issue, Check, Read sheet and Compare. Fails where one answers other than the
-# file says, and where one of these has no call. Vectors of other operations are passed over.
+# file says, and where one of these has no call, in either edition but for Compare, which knows none. Vectors of other
+# operations are passed over.
 use strict;
 use warnings;
 use Digest::SHA qw(sha256);
@@ -64,12 +65,18 @@ sub count {
     return counts($l, $w, $s)->[$l][$s];
 }
 
+# The bytes that an order's digest is taken of. In edition 2 the leaf's four come behind the root's.
+sub digested {
+    my ($edition, $r, $seed, $root, $leaf, $text) = @_;
+    return join('', $r, $seed, $root, $edition == 2 ? pack('N', $leaf) : (), $text);
+}
+
 # The row of an order, whose message number is the first b bits of its digest.
 sub row_of_order {
-    my ($l, $w, $s, $r, $seed, $root, $text) = @_;
+    my ($l, $w, $s, @order) = @_;
     my $bits = 0;
     $bits++ while $bits < 128 && Math::BigInt->new(2)->bpow($bits + 1) <= count($l, $w, $s);
-    my $digest = unpack('B*', sha256($r . $seed . $root . $text));
+    my $digest = unpack('B*', sha256(digested(@order)));
     my $number = Math::BigInt->from_bin(substr($digest, 0, $bits));
     my $d = counts($l, $w, $s);
     my ($left, @row) = ($s);
@@ -87,13 +94,13 @@ sub row_of_order {
 
 # The desk. Each operation answers with what the file has in `out`.
 sub sign {
-    my ($l, $w, $s, $h, $seed, $secret, $leaf, $r, $text) = @_;
+    my ($l, $w, $s, $h, $edition, $seed, $secret, $leaf, $r, $text) = @_;
     my $refused = sub { (outcome => $_[0], next_leaf => $leaf, signature => 'untouched') };
     return $refused->(16) if length $text < 1 || length $text > 200;
     return $refused->(12) if $leaf >= 2**$h;
     return $refused->(19) if count($l, $w, $s) < 256;
     my @tree = ($l, $w, $seed, $secret);
-    my @row = row_of_order($l, $w, $s, $r, $seed, node(@tree, $h, 0), $text);
+    my @row = row_of_order($l, $w, $s, $edition, $r, $seed, node(@tree, $h, 0), $leaf, $text);
     my @values = map { chain_value($seed, $secret, $leaf, $_, $row[$_]) } 0 .. $l - 1;
     my @siblings = map { node(@tree, $_, ($leaf >> $_) ^ 1) } 0 .. $h - 1;
     my $signature = join('', pack('N', $leaf), $r, @values, @siblings);
@@ -124,7 +131,7 @@ sub with_leaf {
 
 # The cabinet.
 sub verify {
-    my ($l, $w, $s, $h, $seed, $root, $highest, $marks, $text, $signature) = @_;
+    my ($l, $w, $s, $h, $edition, $seed, $root, $highest, $marks, $text, $signature) = @_;
     my $steps = 0;
     my $refused = sub { (outcome => $_[0], highest_leaf => $highest, marks => $marks, steps => $steps) };
     return $refused->(16) if length $text < 1 || length $text > 200;
@@ -135,7 +142,7 @@ sub verify {
     my $below = $highest - $leaf;
     return $refused->(14) if $marks && ($below >= 32 || $below >= 0 && substr(digits($marks), $below, 1));
     return $refused->(19) if count($l, $w, $s) < 256;
-    my @row = row_of_order($l, $w, $s, $r, $seed, $root, $text);
+    my @row = row_of_order($l, $w, $s, $edition, $r, $seed, $root, $leaf, $text);
     for my $c (0 .. $l - 1) {
         for my $k ($row[$c] .. $w - 2) {
             $values[$c] = tweaked_hash($seed, 0, $leaf, $c, $k, $values[$c]);
@@ -153,8 +160,9 @@ sub verify {
 
 # The signature and the text of a sheet, or the number of the first wrong line. Slices were filled with A5 before.
 sub read_sheet {
-    my ($l, $w, $s, $h, $sheet, $signature_len, $text_len) = @_;
-    my @lines = (['474F31', 0, 0], [sprintf('01%02X%02X%02X%04X', $l, $w, $h, $s), 0, 0], ['02', 4, 4], ['03', 16, 16]);
+    my ($l, $w, $s, $h, $edition, $sheet, $signature_len, $text_len) = @_;
+    my $profile = sprintf('01%02X%02X%02X%04X', $l, $w, $h, $s) . ($edition == 2 ? '02' : '');
+    my @lines = (['474F31', 0, 0], [$profile, 0, 0], ['02', 4, 4], ['03', 16, 16]);
     push @lines, map { [sprintf('04%02X', $_), 16, 16] } 0 .. $l - 1;
     push @lines, map { [sprintf('05%02X', $_), 16, 16] } 0 .. $h - 1;
     push @lines, ['06', 1, 200];
@@ -189,7 +197,7 @@ sub compare {
 sub answer {
     my ($operation, $in) = @_;
     return compare(@$in{'first', 'second'}) if $operation eq 'compare';
-    my @profile = @$in{'l', 'w', 's', 'h'};
+    my @profile = @$in{'l', 'w', 's', 'h', 'edition'};
     my ($seed, $secret, $root, $r, $text, $signature, $sheet) =
         map { pack('H*', $in->{$_} // '') } qw(public_seed secret_seed root r message signature sheet);
     return sign(@profile, $seed, $secret, $in->{next_leaf}, $r, $text) if $operation eq 'sign';
@@ -198,22 +206,23 @@ sub answer {
     return (outcome => 0, root => uc unpack('H*', node(@profile[0, 1], $seed, $secret, $profile[3], 0)));
 }
 
-my %made = (root => 0, sign => 0, verify => 0, read_sheet => 0, compare => 0);
+my %made = map { $_ => 0 } 'compare', map { ("$_ of edition 1", "$_ of edition 2") } qw(root sign verify read_sheet);
 my $differing = 0;
 for my $file (@ARGV) {
     open my $handle, '<', $file or die "$file: $!\n";
     my $vectors = decode_json(do { local $/; <$handle> })->{vectors};
-    for my $vector (grep { exists $made{$_->{operation}} } @$vectors) {
+    for my $vector (@$vectors) {
         my ($operation, $in, $out) = @$vector{'operation', 'in', 'out'};
-        # profiles out of their limits and slices too short are the library's to refuse
-        next if $out->{outcome} >= 1 && $out->{outcome} <= 6;
+        my $kind = $operation . (exists $in->{edition} ? " of edition $in->{edition}" : '');
+        # profiles out of their limits, editions that are none and slices too short are the library's to refuse
+        next if $out->{outcome} >= 1 && $out->{outcome} <= 6 || $out->{outcome} == 22 || !exists $made{$kind};
         my %found = answer($operation, $in);
         my @wrong = grep { $found{$_} ne $out->{$_} } sort keys %found;
         my $told = join ', ', map { "$_ $found{$_}" } grep { !/^(signature|message)$/ } sort keys %found;
-        my $profile = exists $in->{l} ? " at @$in{'l', 'w', 's', 'h'}" : '';
+        my $profile = exists $in->{l} ? " at @$in{'l', 'w', 's', 'h', 'edition'}" : '';
         print "$operation$profile, $vector->{note}: $told\n";
         print "  DIFFERS: $_ $found{$_}, expected $out->{$_}\n" for @wrong;
-        $made{$operation}++;
+        $made{$kind}++;
         $differing++ if @wrong;
     }
 }

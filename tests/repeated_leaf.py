@@ -26,7 +26,7 @@ SAMPLES = 200
 SIGNED = (1, 2, 3, 4)
 # What a forger's try takes, in seconds: about one compression.
 TRY = 50e-9
-SMALL = Profile(3, 3, 3, 0)
+SMALL = Profile(3, 3, 3, 0, 1)
 
 
 def floor_of(rows):
@@ -64,7 +64,7 @@ def signable(p, floor, bound):
 
 def hold_to_list():
     """Stops unless the count is that of a plain list, for all pairs of numbers of small profiles."""
-    for p in (SMALL, Profile(4, 3, 4, 0), Profile(3, 4, 5, 0)):
+    for p in (SMALL, Profile(4, 3, 4, 0, 1), Profile(3, 4, 5, 0, 1)):
         count = ways(p.w, p.l, p.s)
         rows = [row_of(p.l, p.w, p.s, n) for n in range(count)]
         for one in rows:
@@ -123,7 +123,7 @@ def forgery():
     shown = {}
     for order in range(4):
         r, text = bytes([order] * 16), b"sill level %d.4 m" % order
-        number = signatures.message_number(p, r, seed, root, text)
+        number = signatures.message_number(p, r, seed, root, 0, text)
         values = signatures.pieces(signatures.revealed(p, seed, secret, 0, number))
         for chain, height in enumerate(row_of(*p[:3], number)):
             if chain not in shown or height < shown[chain][0]:
@@ -132,7 +132,7 @@ def forgery():
     text = b"sill level 9.4 m"
     for tried in range(1, 2**20):
         r = tried.to_bytes(16, "big")
-        row = row_of(*p[:3], signatures.message_number(p, r, seed, root, text))
+        row = row_of(*p[:3], signatures.message_number(p, r, seed, root, 0, text))
         if all(height >= shown[chain][0] for chain, height in enumerate(row)):
             break
     values = [

@@ -19,7 +19,7 @@
 /* The gate profile with a lower tree. */
 #define HEIGHT 2u
 #define LEAF 1u
-#define PROFILE ZAROSNIK_GATE_L, ZAROSNIK_GATE_W, ZAROSNIK_GATE_S, HEIGHT
+#define PROFILE ZAROSNIK_GATE_L, ZAROSNIK_GATE_W, ZAROSNIK_GATE_S, HEIGHT, ZAROSNIK_EDITION_1
 /* With this sum in the gate's place an order's number has 69 bits. */
 #define FEW_BITS_SUM 40u
 #define SIGNATURE_BYTES ZAROSNIK_SIGNATURE_BYTES(ZAROSNIK_GATE_L, HEIGHT)
@@ -127,12 +127,12 @@ void *I_WRAP_SONAME_FNNAME_ZZ(NONE, sha256ZcZcrunningZcZcHashZcZcfinish)(void *f
     return answer;
 }
 
-static void sign_at(uint32_t sum)
+static void sign_at(uint32_t sum, uint32_t edition)
 {
     uint8_t signature[SIGNATURE_BYTES];
     uint32_t next_leaf = LEAF;
-    granted(zarosnik_sign(ZAROSNIK_GATE_L, ZAROSNIK_GATE_W, sum, HEIGHT, public_seed, secret_seed, &next_leaf, r,
-                          (const uint8_t *)order, strlen(order), table, ZAROSNIK_GATE_TABLE_WORDS, signature,
+    granted(zarosnik_sign(ZAROSNIK_GATE_L, ZAROSNIK_GATE_W, sum, HEIGHT, edition, public_seed, secret_seed, &next_leaf,
+                          r, (const uint8_t *)order, strlen(order), table, ZAROSNIK_GATE_TABLE_WORDS, signature,
                           sizeof signature));
     if (finish_calls != DIGEST_CALL) {
         fail("the digest was not met: Hash::finish is no function of its own in this archive, or called otherwise");
@@ -145,20 +145,27 @@ static void sign_at(uint32_t sum)
 
 static void sign_undisclosed(void)
 {
-    sign_at(ZAROSNIK_GATE_S);
+    sign_at(ZAROSNIK_GATE_S, ZAROSNIK_EDITION_1);
 }
 
 static void sign(void)
 {
     disclosed_call = DIGEST_CALL;
-    sign_at(ZAROSNIK_GATE_S);
+    sign_at(ZAROSNIK_GATE_S, ZAROSNIK_EDITION_1);
+}
+
+/* The leaf is hashed too. */
+static void sign_edition_2(void)
+{
+    disclosed_call = DIGEST_CALL;
+    sign_at(ZAROSNIK_GATE_S, ZAROSNIK_EDITION_2);
 }
 
 /* The number is shifted, which one of 128 bits is not. */
 static void sign_few_bits(void)
 {
     disclosed_call = DIGEST_CALL;
-    sign_at(FEW_BITS_SUM);
+    sign_at(FEW_BITS_SUM, ZAROSNIK_EDITION_1);
 }
 
 /* Controls: what memcheck must report. */
@@ -196,6 +203,7 @@ static const struct {
     {"root", root},
     {"one_time_sign", one_time_sign},
     {"sign", sign},
+    {"sign_edition_2", sign_edition_2},
     {"sign_few_bits", sign_few_bits},
     {"sign_undisclosed", sign_undisclosed},
     {"branch", branch},

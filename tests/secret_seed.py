@@ -69,6 +69,7 @@ def expected():
         "root": (f"{root.hex()}\n", None),
         "one_time_sign": (f"{values.hex()}\n", None),
         "sign": (issued(P), None),
+        "sign_edition_2": (issued(P._replace(edition=2)), None),
         "sign_few_bits": (issued(FEW_BITS), None),
         "sign_undisclosed": (issued(P), BRANCH),
         "branch": ("", BRANCH),

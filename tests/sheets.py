@@ -13,7 +13,8 @@ DIGITS = b"0123456789ABCDEF"
 
 
 def profile_frame(p):
-    return bytes([1, p.l, p.w, p.h]) + p.s.to_bytes(2, "big")
+    """The last byte says edition 2, and edition 1 has none."""
+    return bytes([1, p.l, p.w, p.h]) + p.s.to_bytes(2, "big") + b"\x02" * (p.edition == 2)
 
 
 def frames(p, signature, text):

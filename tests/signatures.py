@@ -1,8 +1,8 @@
 """Leaf key, Root, Reveal, Recover, Issue and Check: an implementation of the scope document that is
 independent of the library, over hashlib's SHA-256.
 
-A profile is the four numbers l, w, s, h. No slice is changed: every function answers with the
-number of its refusal, or 0, its value, and the slices as the call leaves them.
+A profile is the four numbers l, w, s, h and its edition. No slice is changed: every function
+answers with the number of its refusal, or 0, its value, and the slices as the call leaves them.
 """
 
 import hashlib
@@ -20,8 +20,10 @@ from zarosnik import (
     work_cause,
 )
 
-Profile = namedtuple("Profile", "l w s h")
-GATE = Profile(34, 16, 255, 10)
+Profile = namedtuple("Profile", "l w s h edition")
+# By the second the leaf is in the digest of an order.
+EDITIONS = (1, 2)
+GATE, GATE_2 = (Profile(34, 16, 255, 10, edition) for edition in EDITIONS)
 # The smallest count of a profile that signs orders.
 LEAST_COUNT = 256
 # So many marks a cabinet has.
@@ -119,7 +121,10 @@ def recovered(p, seed, leaf, number, values):
 
 
 def profile_causes(p):
-    return shape_causes(p.l, p.w, p.s) + [(4, lambda: not 0 <= p.h <= 10)]
+    return shape_causes(p.l, p.w, p.s) + [
+        (4, lambda: not 0 <= p.h <= 10),
+        (22, lambda: p.edition not in EDITIONS),
+    ]
 
 
 def table_causes(p, work):
@@ -187,13 +192,20 @@ def signature_length(p):
     return 20 + 16 * p.l + 16 * p.h
 
 
-def order_digest(r, seed, root, text):
-    return hashlib.sha256(r + seed + root + text).digest()
+def digested(p, r, seed, root, leaf, text):
+    """What an order's digest is taken of. The leaf, which is the one signed with, is in edition 2
+    between root and text, and in edition 1 nowhere."""
+    place = leaf.to_bytes(4, "big") if p.edition == 2 else b""
+    return r + seed + root + place + text
 
 
-def message_number(p, r, seed, root, text):
+def order_digest(p, r, seed, root, leaf, text):
+    return hashlib.sha256(digested(p, r, seed, root, leaf, text)).digest()
+
+
+def message_number(p, r, seed, root, leaf, text):
     """The digest's first b bits: below 2^b, so below the count."""
-    return first_bits(order_digest(r, seed, root, text), number_bits(count_of(p)))
+    return first_bits(order_digest(p, r, seed, root, leaf, text), number_bits(count_of(p)))
 
 
 def signature_of(p, seed, secret, leaf, r, number):
@@ -222,7 +234,7 @@ def issue(key, r, text, work, out):
     refused = count_cause(p)
     if refused:
         return refused, key, out, with_table(p, work)
-    number = message_number(p, r, seed, root_of(p, seed, secret), text)
+    number = message_number(p, r, seed, root_of(p, seed, secret), leaf, text)
     signature = signature_of(p, seed, secret, leaf, r, number)
     written = signature + out[len(signature) :]
     return 0, key._replace(next=leaf + 1), written, with_table(p, work)
@@ -267,7 +279,7 @@ def check(verifier, text, signature, work):
     refused = count_cause(p)
     if refused:
         return refused, verifier, 0, with_table(p, work)
-    number = message_number(p, signature[4:20], seed, root, text)
+    number = message_number(p, signature[4:20], seed, root, leaf, text)
     end = 20 + 16 * p.l
     key, steps = recovered(p, seed, leaf, number, signature[20:end])
     if climb_path(seed, leaf, key, pieces(signature[end:])) != root:

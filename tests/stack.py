@@ -4,10 +4,11 @@ docs/INTERFACE.md states.
     python3 tests/stack.py                  proves the library and writes the archive first
     python3 tests/stack.py --archive FILE   takes this one
 
-Each function is called at the gate profile, and at the largest l, w and h with sums at which most
-is to be done: granted and, where a refusal comes late, refused. It runs on a stack of its own that
-was painted before; a byte may come to be as it was painted, so it runs with two paints. What is
-counted begins at the frame of the caller, and has the arguments and the return address in it.
+Each function is called at the gate profile in both editions, and at the largest l, w and h with sums
+at which most is to be done, in edition 2: granted and, where a refusal comes late, refused. It runs
+on a stack of its own that was painted before; a byte may come to be as it was painted, so it runs
+with two paints. What is counted begins at the frame of the caller, and has the arguments and the
+return address in it.
 """
 
 import ctypes
@@ -19,15 +20,15 @@ from collections import Counter
 from archived import ROOT, archive_of, archive_parser, shared_object
 from interface_calls import BY_VALUE, PROTOTYPES
 from sheets import right_sheet
-from signatures import GATE, LEAST_COUNT, Profile, count_of, signature_length
+from signatures import GATE, GATE_2, LEAST_COUNT, Profile, count_of, signature_length
 from zarosnik import number_words, table_length
 
 PAINTS = (0xA5, 0x5A)
-ARGUMENTS = 15
+ARGUMENTS = 16
 # The most steps; the most of an order, and of one with a number of 128 bits; the largest count; the
 # largest table of an order; the largest table.
 SUMS = (0, 2, 133, 300, 598, 600)
-PROFILES = [GATE, *(Profile(40, 16, s, 10) for s in SUMS)]
+PROFILES = [GATE, GATE_2, *(Profile(40, 16, s, 10, 2) for s in SUMS)]
 PAGE = ROOT / "docs" / "INTERFACE.md"
 
 
@@ -155,7 +156,8 @@ def main():
     for operation in PROTOTYPES:
         numbers = ", ".join(f"{profile[operation]}" for profile in taken)
         print(f"tests/stack.py: zarosnik_{operation}: {numbers} bytes")
-    print("tests/stack.py: at", "; ".join("l {}, w {}, s {}, h {}".format(*p) for p in PROFILES))
+    shown = "; ".join("l {}, w {}, s {}, h {}, edition {}".format(*p) for p in PROFILES)
+    print("tests/stack.py: at", shown)
     most, limit = max(max(profile.values()) for profile in taken), bound()
     print(f"tests/stack.py: at most {most} bytes; docs/INTERFACE.md: less than {limit}")
     sys.exit(0 if most < limit else 1)

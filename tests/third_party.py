@@ -97,8 +97,8 @@ DIGESTS = [
 ]
 
 CHAINS, WIDTH = 35, 16
-# Leaf key and Root do not depend on the sum; the siblings neither.
-SUMS = (0, 262, CHAINS * (WIDTH - 1))
+# Leaf key and Root do not depend on the sum, nor on the edition; the siblings neither.
+SUMS = [(0, 1), (262, 2), (CHAINS * (WIDTH - 1), 1)]
 
 
 def equal(what, found, expected):
@@ -115,7 +115,7 @@ def standard_row(message):
 
 
 ROW = standard_row(MESSAGE)
-SIGNING = Profile(CHAINS, WIDTH, sum(ROW), SIGNED_HEIGHT)
+SIGNING = Profile(CHAINS, WIDTH, sum(ROW), SIGNED_HEIGHT, 1)
 NUMBER = zarosnik.number_of(WIDTH, sum(ROW), ROW)
 
 
@@ -125,11 +125,12 @@ def hold_implementation():
     for data, digest in DIGESTS:
         made += equal(f"digest of {data}", hashlib.sha256(data).hexdigest(), digest)
     for (seed, secret), leaf, key in LEAF_KEYS:
-        p, seeds = Profile(CHAINS, WIDTH, 262, 10), (bytes.fromhex(seed), bytes.fromhex(secret))
+        p, seeds = Profile(CHAINS, WIDTH, 262, 10, 1), (bytes.fromhex(seed), bytes.fromhex(secret))
         outcome, found = signatures.leaf_key(p, *seeds, leaf)
         made += equal(f"key of leaf {leaf}", (outcome, found.hex()), (0, key))
     for (seed, secret), height, root in ROOTS:
-        p, seeds = Profile(CHAINS, WIDTH, 262, height), (bytes.fromhex(seed), bytes.fromhex(secret))
+        p = Profile(CHAINS, WIDTH, 262, height, 1)
+        seeds = bytes.fromhex(seed), bytes.fromhex(secret)
         outcome, found = signatures.root(p, *seeds)
         made += equal(f"root of height {height}", (outcome, found.hex()), (0, root))
     seeds = [bytes.fromhex(seed) for seed in FIRST]
@@ -193,13 +194,13 @@ def hold_hash(library):
 
 def hold_keys(library):
     made = 0
-    for s in SUMS:
+    for s, edition in SUMS:
         for seeds, leaf, key in LEAF_KEYS:
-            p, found = Profile(CHAINS, WIDTH, s, 10), memory(bytes(16))
+            p, found = Profile(CHAINS, WIDTH, s, 10, edition), memory(bytes(16))
             outcome = library.call("leaf_key", *p, *seed_memory(seeds), leaf, found)
             made += equal(f"zarosnik_leaf_key, {leaf}", (outcome, bytes(found).hex()), (0, key))
         for seeds, height, root in ROOTS:
-            p, found = Profile(CHAINS, WIDTH, s, height), memory(bytes(16))
+            p, found = Profile(CHAINS, WIDTH, s, height, edition), memory(bytes(16))
             outcome = library.call("root", *p, *seed_memory(seeds), found)
             made += equal(f"zarosnik_root, {height}", (outcome, bytes(found).hex()), (0, root))
     return made
@@ -236,7 +237,7 @@ def hold_values(library):
 
 def hold_order(library):
     """Issue gives the siblings, and a cabinet with their root takes the order."""
-    p = Profile(CHAINS, WIDTH, 262, SIGNED_HEIGHT)
+    p = Profile(CHAINS, WIDTH, 262, SIGNED_HEIGHT, 2)
     table = words([0] * table_length(p.l, p.s))
     text, signature = memory(b"sill level 2.4 m"), memory(bytes(signature_length(p)))
     next_leaf, r = words([SIGNED_LEAF]), memory(bytes(16))

@@ -11,7 +11,7 @@
 
 #define TABLE_WORDS ZAROSNIK_TABLE_WORDS(EXPECTED_L, EXPECTED_S)
 
-static const struct zarosnik_profile profile = {EXPECTED_L, EXPECTED_W, EXPECTED_S, EXPECTED_H};
+static const struct zarosnik_profile profile = {EXPECTED_L, EXPECTED_W, EXPECTED_S, EXPECTED_H, EXPECTED_EDITION};
 static uint32_t table[TABLE_WORDS];
 static int differences;
 
@@ -201,7 +201,8 @@ static void verify_odd(struct zarosnik_public_seed public_seed, struct zarosnik_
 static void few_rows(struct zarosnik_public_seed public_seed, struct zarosnik_secret_seed secret_seed,
                      struct zarosnik_tree_root root)
 {
-    const struct zarosnik_profile few = {EXPECTED_FEW_L, EXPECTED_FEW_W, EXPECTED_FEW_S, EXPECTED_FEW_H};
+    const struct zarosnik_profile few = {EXPECTED_FEW_L, EXPECTED_FEW_W, EXPECTED_FEW_S, EXPECTED_FEW_H,
+                                         EXPECTED_FEW_EDITION};
     struct zarosnik_key key = zarosnik_fresh_key(few, public_seed, secret_seed);
     struct zarosnik_cabinet cabinet = zarosnik_fresh_cabinet(few, public_seed, root);
     struct zarosnik_randomizer r;
@@ -219,6 +220,73 @@ static void few_rows(struct zarosnik_public_seed public_seed, struct zarosnik_se
            ZAROSNIK_REFUSED_COUNT_TOO_SMALL);
     expect_window("with few rows", &cabinet, 0, 0);
     expect("steps with few rows", steps, 0);
+}
+
+/* A cabinet of the other edition reads no sheet of this one, and takes another digest of the order. */
+static void other_edition(struct zarosnik_public_seed public_seed, struct zarosnik_tree_root root)
+{
+    struct zarosnik_profile other = profile;
+    uint8_t signature[sizeof expected_signature];
+    uint8_t text[ZAROSNIK_MESSAGE_MAX];
+    size_t text_len;
+    uint32_t line;
+    uint32_t steps;
+    other.edition = EXPECTED_OTHER_EDITION;
+    struct zarosnik_cabinet cabinet = zarosnik_fresh_cabinet(other, public_seed, root);
+    expect("read a sheet of the other edition",
+           zarosnik_profile_read_sheet(other, expected_sheet, sizeof expected_sheet, signature, sizeof signature, text,
+                                       sizeof text, &text_len, &line),
+           EXPECTED_OTHER_SHEET);
+    expect("line of the other edition", line, EXPECTED_OTHER_LINE);
+    expect("verify in the other edition",
+           zarosnik_cabinet_verify(&cabinet, expected_text, sizeof expected_text, expected_signature,
+                                   sizeof expected_signature, table, TABLE_WORDS, &steps),
+           EXPECTED_OTHER_OUTCOME);
+    expect("steps in the other edition", steps, EXPECTED_STEPS);
+    expect_window("in the other edition", &cabinet, 0, 0);
+}
+
+/* Every call that takes the height hands the edition on, so that one which is neither 1 nor 2 is refused. */
+static void no_edition(struct zarosnik_public_seed public_seed, struct zarosnik_secret_seed secret_seed,
+                       struct zarosnik_tree_root root, uint32_t edition)
+{
+    struct zarosnik_profile none = profile;
+    none.edition = edition;
+    struct zarosnik_key key = zarosnik_fresh_key(none, public_seed, secret_seed);
+    struct zarosnik_cabinet cabinet = zarosnik_fresh_cabinet(none, public_seed, root);
+    struct zarosnik_one_time_key leaf_key;
+    struct zarosnik_number number;
+    struct zarosnik_randomizer r;
+    uint8_t values[sizeof expected_values];
+    uint8_t signature[sizeof expected_signature];
+    uint8_t text[ZAROSNIK_MESSAGE_MAX];
+    size_t text_len;
+    uint32_t line;
+    uint32_t steps;
+    memcpy(r.bytes, expected_r, sizeof expected_r);
+    expect("count without an edition", zarosnik_profile_count(none, table, TABLE_WORDS, &number), ZAROSNIK_GRANTED);
+    memcpy(number.words, expected_number, sizeof expected_number);
+    expect("leaf key without an edition", zarosnik_key_leaf_key(&key, 0, &leaf_key), ZAROSNIK_REFUSED_EDITION);
+    expect("root without an edition", zarosnik_key_root(&key, &root), ZAROSNIK_REFUSED_EDITION);
+    expect("reveal without an edition",
+           zarosnik_key_one_time_sign(&key, 0, number, table, TABLE_WORDS, values, sizeof values),
+           ZAROSNIK_REFUSED_EDITION);
+    expect("recover without an edition",
+           zarosnik_profile_one_time_recover(none, public_seed, 0, number, expected_values, sizeof expected_values,
+                                             table, TABLE_WORDS, &leaf_key, &steps),
+           ZAROSNIK_REFUSED_EDITION);
+    expect("sign without an edition",
+           zarosnik_key_sign(&key, r, expected_text, sizeof expected_text, table, TABLE_WORDS, signature,
+                             sizeof signature),
+           ZAROSNIK_REFUSED_EDITION);
+    expect("verify without an edition",
+           zarosnik_cabinet_verify(&cabinet, expected_text, sizeof expected_text, expected_signature,
+                                   sizeof expected_signature, table, TABLE_WORDS, &steps),
+           ZAROSNIK_REFUSED_EDITION);
+    expect("read sheet without an edition",
+           zarosnik_profile_read_sheet(none, expected_sheet, sizeof expected_sheet, signature, sizeof signature, text,
+                                       sizeof text, &text_len, &line),
+           ZAROSNIK_REFUSED_EDITION);
 }
 
 int main(void)
@@ -243,10 +311,18 @@ int main(void)
     verify(&cabinet);
     verify_odd(public_seed, root);
     few_rows(public_seed, secret_seed, root);
+    other_edition(public_seed, root);
+    no_edition(public_seed, secret_seed, root, 0);
+    no_edition(public_seed, secret_seed, root, 3);
+    no_edition(public_seed, secret_seed, root, EXPECTED_EDITION + 0x10000);
 
-    /* The gate profile, and one outside the limits that a narrower type would cut to it. */
-    struct zarosnik_profile gate = ZAROSNIK_GATE_PROFILE;
-    expect_bytes("gate profile", &gate, &zarosnik_gate_profile, sizeof gate);
+    /* The gate profile in each edition, and one outside the limits that a narrower type would cut to it. */
+    const struct zarosnik_profile first = ZAROSNIK_GATE_PROFILE(ZAROSNIK_EDITION_1);
+    struct zarosnik_profile gate = ZAROSNIK_GATE_PROFILE(ZAROSNIK_EDITION_2);
+    expect("edition of the first", first.edition, 1);
+    expect_bytes("gate profile of edition 1", &first, &zarosnik_gate_profile_1, sizeof first);
+    expect("edition of the second", gate.edition, 2);
+    expect_bytes("gate profile of edition 2", &gate, &zarosnik_gate_profile_2, sizeof gate);
     struct zarosnik_number number;
     gate.l += 0x10000;
     expect("wide l", zarosnik_profile_count(gate, table, TABLE_WORDS, &number), ZAROSNIK_REFUSED_CHAIN_COUNT);

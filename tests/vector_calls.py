@@ -26,7 +26,7 @@ ORDER = b"sill level 2.4 m until 18:00"
 OTHER_ORDER = b"sill level 9.4 m until 18:00"
 LONG_ORDER = (b"sill level 2.4 m from 06:00, 2.1 m from 09:00, 1.8 m from 12:00, " * 4)[:200]
 
-SMALL = Profile(3, 3, 3, 1)
+SMALL = Profile(3, 3, 3, 1, 1)
 GATE_SHAPE = GATE[:3]
 
 

@@ -1,11 +1,13 @@
 """Test vectors of whole orders: a key signs and a cabinet checks, and what a call hands back goes
 to the next. Orders that are taken; replays; changed texts, signatures, seeds and roots; spent keys;
 numbers of few bits, of many and of 128; counts that are too small; orders of earlier days; orders
-that arrive out of order, and every way in which a leaf can stand to a cabinet.
+that arrive out of order, and every way in which a leaf can stand to a cabinet; orders of edition 2,
+and such as are judged by the other edition.
 
 Each call is said to have an outcome, to which what the implementation answers is held.
 """
 
+import hashlib
 import itertools
 
 import shapes
@@ -14,6 +16,7 @@ import windows
 from sheets import right_sheet
 from signatures import (
     GATE,
+    GATE_2,
     Profile,
     SigningKey,
     Verifier,
@@ -26,7 +29,6 @@ from signatures import (
     signature_of,
 )
 from vector_calls import (
-    GATE_SHAPE,
     LONG_ORDER,
     ORDER,
     OTHER_ORDER,
@@ -48,7 +50,10 @@ from zarosnik import MOST_BITS, first_bits, number_bits, row_of, table_length
 POWERS = (8, 9, 16, 31, 32, 33, 64, 96, 127, 128)
 # Profiles at which orders of earlier days could be signed, and numbers have 127 and 112 bits today:
 # in eight numbers about five were below the count, and in 2^15 one.
-EARLIER = [Profile(34, 16, 204, 2), Profile(*shapes.shortest(shapes.neighbours(113)[0]), 2)]
+EARLIER = [
+    Profile(34, 16, 204, 2, 1),
+    Profile(*shapes.shortest(shapes.neighbours(113)[0]), 2, 1),
+]
 
 
 class Story:
@@ -118,15 +123,15 @@ class Story:
     def onward(self, order):
         """The value of chain 0 one step higher than it is shown, as a forger could make it."""
         text, signature = order
-        number = message_number(self.p, signature[4:20], SEED, self.root, text)
-        height = row_of(*self.p[:3], number)[0]
         leaf = int.from_bytes(signature[:4], "big")
+        number = message_number(self.p, signature[4:20], SEED, self.root, leaf, text)
+        height = row_of(*self.p[:3], number)[0]
         return signatures.climb(SEED, leaf, 0, height, height + 1, signature[20:36])
 
 
-def gate_story():
+def gate_story(p):
     """The key of examples/order.c: its first two leaves, then its last two."""
-    story = Story(GATE)
+    story = Story(p)
     first = story.sign("the first order of a fresh key", ORDER, R)
     second = story.sign("a text of 200 bytes", LONG_ORDER, derived("gate 1"))
     story.key = story.key._replace(next=1022)
@@ -163,9 +168,9 @@ def order_shapes():
     return [shapes.shortest(count) for count in counts if count >= signatures.LEAST_COUNT]
 
 
-def bits_story(shape):
+def bits_story(shape, edition):
     """One order at h = 0, with a number of few bits or of many, then 12."""
-    p = Profile(*shape, 0)
+    p = Profile(*shape, 0, edition)
     count = count_of(p)
     story = Story(p)
     note = f"the count is {count}, the number has {number_bits(count)} bits"
@@ -180,24 +185,24 @@ def bits_story(shape):
 def same_number_story():
     """Where numbers have 8 bits, a text soon has the number of another, and is taken with its
     signature: such a profile is for trials."""
-    p = Profile(*order_shapes()[0], 0)
+    p = Profile(*order_shapes()[0], 0, 1)
     story = Story(p)
     order = story.sign("an order whose number has 8 bits", ORDER, R)
-    number = message_number(p, R, SEED, story.root, ORDER)
+    number = message_number(p, R, SEED, story.root, 0, ORDER)
     texts = (b"sill level %d.4 m until 18:00" % level for level in itertools.count(3))
-    other = next(t for t in texts if message_number(p, R, SEED, story.root, t) == number)
+    other = next(t for t in texts if message_number(p, R, SEED, story.root, 0, t) == number)
     story.verify("another text that has the same number", (other, order[1]))
     return story.vectors
 
 
-def scant_story(shape):
+def scant_story(shape, edition):
     """A count of 255: what 7 bits would sign is refused."""
-    p = Profile(*shape, 1)
+    p = Profile(*shape, 1, edition)
     story = Story(p)
     story.key = story.key._replace(next=1)
     story.sign("19: the count is 255", ORDER, R, 19)
     story.sign("19, whatever the text and R are", OTHER_ORDER, derived("scant"), 19)
-    number = message_number(p, R, SEED, story.root, ORDER)
+    number = message_number(p, R, SEED, story.root, 1, ORDER)
     signature = signature_of(p, SEED, SECRET, 1, R, number)
     story.verify("19: a number of 7 bits leads to the root", (ORDER, signature), 19)
     story.verify("19: it does not lead to the root", (ORDER, flipped(signature, -1)), 19)
@@ -207,7 +212,7 @@ def scant_story(shape):
 
 
 def earlier_number(story, r):
-    return first_bits(order_digest(r, SEED, story.root, ORDER), MOST_BITS)
+    return first_bits(order_digest(story.p, r, SEED, story.root, 0, ORDER), MOST_BITS)
 
 
 def earlier_order(story):
@@ -258,7 +263,7 @@ def full_story(p, name):
 
 
 # The shape of few steps with the least count that signs, under a tree of 128 leaves.
-WINDOW_PROFILE = Profile(7, 3, 5, 7)
+WINDOW_PROFILE = Profile(7, 3, 5, 7, 1)
 # Leaves in the order of their arrival by two routes, with what is answered and why.
 ARRIVALS = [
     (31, 0, "the first to arrive, though not the first signed"),
@@ -290,9 +295,9 @@ def window_orders(story):
         yield leaf, story.sign(f"leaf {leaf}", text, derived(f"two routes {leaf}"))
 
 
-def arrivals_story():
+def arrivals_story(p):
     """Each check goes on with the cabinet that the one before left."""
-    story = Story(WINDOW_PROFILE, derived("two routes"))
+    story = Story(p, derived("two routes"))
     orders = dict(window_orders(story))
     for leaf, outcome, note in ARRIVALS:
         story.verify(f"leaf {leaf}, {note}", orders[leaf], outcome)
@@ -362,18 +367,76 @@ def windows_story():
     return story.vectors
 
 
+# A leaf with two bytes that differ, so that their order shows.
+TWO_BYTES = 0x0203
+
+
+def misplaced(leaf):
+    """Digests of which each is taken over the leaf in a wrong way, or without it."""
+    root, place = root_of(GATE, SEED, SECRET), leaf.to_bytes(4, "big")
+    return {
+        "without the leaf": R + SEED + root + ORDER,
+        "with the leaf's least byte first": R + SEED + root + place[::-1] + ORDER,
+        "with two bytes of the leaf": R + SEED + root + place[2:] + ORDER,
+        "with the leaf in front of R": place + R + SEED + root + ORDER,
+        "with the leaf in front of the public seed": R + place + SEED + root + ORDER,
+        "with the leaf in front of the root": R + SEED + place + root + ORDER,
+        "with the leaf behind the text": R + SEED + root + ORDER + place,
+        "with the next leaf": R + SEED + root + (leaf + 1).to_bytes(4, "big") + ORDER,
+    }
+
+
+def crossed_story():
+    """One leaf signs in both editions, as no desk may. A cabinet judges by its own digest alone. So
+    it refuses an order of the other edition by 15; but a text that begins with the leaf's four
+    bytes has in edition 1 the digest that the bytes behind them have in edition 2."""
+    leaf, stories = TWO_BYTES, [Story(p) for p in (GATE, GATE_2)]
+    place = leaf.to_bytes(4, "big")
+    for story in stories:
+        story.key = story.key._replace(next=leaf)
+    orders = [story.sign(f"leaf {leaf}", ORDER, R) for story in stories]
+    for story, own, other in [(stories[0], *orders), (stories[1], *orders[::-1])]:
+        story.verify("the other edition's order", other, 15)
+        story.verify("its own edition's order", own)
+        story.verify("the other edition's order, now with a leaf that is marked", other, 14)
+    first, second = stories
+    first.key = first.key._replace(next=leaf)
+    spelt = first.sign("a text that begins with the leaf's four bytes", place + ORDER, R)
+    second.judge("this order in edition 2, the text without the leaf", (ORDER, spelt[1]), 0)
+    second.judge("this order in edition 2, the text as it is", spelt)
+    with_leaf = place + ORDER, orders[1][1]
+    first.judge("edition 2's order, the leaf in front of its text", with_leaf, 0)
+    for note, digested in misplaced(leaf).items():
+        number = first_bits(hashlib.sha256(digested).digest(), MOST_BITS)
+        signature = signature_of(GATE_2, SEED, SECRET, leaf, R, number)
+        second.judge(f"signed by the digest {note}", (ORDER, signature))
+    return first.vectors + second.vectors
+
+
+def second_edition():
+    """What the first has, at fewer shapes."""
+    yield from gate_story(GATE_2)
+    for shape in order_shapes()[::6]:
+        yield from bits_story(shape, 2)
+    yield from scant_story(shapes.nearly_signing()[0], 2)
+    yield from arrivals_story(WINDOW_PROFILE._replace(edition=2))
+    yield from full_story(Profile(40, 11, 200, 1, 2), "narrow")
+
+
 def orders_family():
-    yield from gate_story()
+    yield from gate_story(GATE)
     yield from worked_story()
     for shape in order_shapes():
-        yield from bits_story(shape)
+        yield from bits_story(shape, 1)
     yield from same_number_story()
     for shape in shapes.nearly_signing():
-        yield from scant_story(shape)
+        yield from scant_story(shape, 1)
     for p in [*EARLIER, GATE]:
         yield from earlier_story(p)
-    yield from arrivals_story()
+    yield from arrivals_story(WINDOW_PROFILE)
     yield from windows_story()
-    yield from full_story(Profile(*GATE_SHAPE, 0), "one leaf")
-    yield from full_story(Profile(40, 11, 200, 1), "narrow")
-    yield from full_story(Profile(40, 16, 300, 2), "longest")
+    yield from full_story(GATE._replace(h=0), "one leaf")
+    yield from full_story(Profile(40, 11, 200, 1, 1), "narrow")
+    yield from full_story(Profile(40, 16, 300, 2, 1), "longest")
+    yield from second_edition()
+    yield from crossed_story()

@@ -50,21 +50,25 @@ LOW_GATE = GATE._replace(h=1)
 CAUSES = {name: list(dict.fromkeys(map(abs, causes))) for name, causes in DRAWN.items()}
 
 # Numbers of a profile that would be the gate's if they were cut to 8 bits, or s to 16.
-CUT = {"l": 290, "w": 272, "s": 65791, "h": 266}
+CUT = {"l": 290, "w": 272, "s": 65791, "h": 266, "edition": 257}
 # Numbers out of their range in the gate profile, and the cause of each.
 WRONG = {
     "l": (1, [0, 41, CUT["l"], PAST_WORD - 1]),
     "w": (2, [0, 1, 17, CUT["w"], PAST_WORD - 1]),
     "s": (3, [511, CUT["s"], PAST_WORD - 1]),
     "h": (4, [11, CUT["h"], PAST_WORD - 1]),
+    "edition": (22, [0, 3, CUT["edition"], CUT["edition"] + 1, PAST_WORD - 1]),
 }
+# No editions: the one that comes up with other causes, and others that do so with some.
+NO_EDITION, NO_EDITIONS = 3, (0, PAST_WORD - 1)
 
 
-def profile_with(p, causes):
+def profile_with(p, causes, no_edition=NO_EDITION):
     l = 41 if 1 in causes else p.l
     w = 17 if 2 in causes else p.w
     s = l * (w - 1) + 1 if 3 in causes else p.s
-    return Profile(l, w, s, 11 if 4 in causes else p.h)
+    h = 11 if 4 in causes else p.h
+    return Profile(l, w, s, h, no_edition if 22 in causes else p.edition)
 
 
 class Refused:
@@ -72,9 +76,9 @@ class Refused:
     the wrong profile, or with the gate where the profile is given: a library that takes it is not
     saved by a slice that is too short."""
 
-    def __init__(self, note, good, causes, given=None):
+    def __init__(self, note, good, causes, given=None, no_edition=NO_EDITION):
         self.note, self.good, self.causes = note, good, causes
-        self.p = given or profile_with(good, causes)
+        self.p = given or profile_with(good, causes, no_edition)
         sized = good if given else self.p
         self.chains = sized.l
         self.words = table_length(sized.l, sized.s) - (5 in causes)
@@ -138,7 +142,7 @@ class Refused:
     def verify(self):
         p, leaf, root = self.good, self.leaf(11), root_of(self.good, SEED, SECRET)
         # where the count is too small, what the rule would sign if it were not
-        number = message_number(p, R, SEED, root, ORDER)
+        number = message_number(p, R, SEED, root, 2**p.h - 1, ORDER)
         signed = signature_of(p, SEED, SECRET, 2**p.h - 1, R, number)
         size = self.signature_size - (13 in self.causes)
         signature = (leaf.to_bytes(4, "big") + signed[4:] + bytes(self.signature_size))[:size]
@@ -155,11 +159,32 @@ class Refused:
         return sheet_vector(self.note, self.p, sheet, size, len(ORDER))
 
 
-def refused(operation, note, causes, good=None, given=None):
+def right_profile(operation, causes):
     """The small profile's count is too small for an order, the gate's is not."""
     signs = operation in ("sign", "verify") and 19 not in causes
-    good = good or (LOW_GATE if signs else SMALL)
-    return getattr(Refused(note, good, causes, given), operation)()
+    return LOW_GATE if signs else SMALL
+
+
+def refused(operation, note, causes, good=None, **wrong):
+    good = good or right_profile(operation, causes)
+    return getattr(Refused(note, good, causes, **wrong), operation)()
+
+
+def refusals_by_edition(operation):
+    """Pairs as below: further numbers that are no edition, with 4, and with all that is tested
+    after 22; and each other cause in edition 2."""
+    causes = CAUSES[operation]
+    for number in NO_EDITIONS:
+        note = f"4, and edition {number}"
+        yield 4, refused(operation, note, [4, 22], no_edition=number)
+        if causes[-1] != 22:
+            note = f"22: edition {number}, and every cause tested after it"
+            later = causes[causes.index(22) :]
+            yield 22, refused(operation, note, later, no_edition=number)
+    for cause in causes:
+        if cause != 22:
+            second = right_profile(operation, [cause])._replace(edition=2)
+            yield cause, refused(operation, f"{cause} alone, in edition 2", [cause], second)
 
 
 def refusals_of(operation):
@@ -174,7 +199,9 @@ def refusals_of(operation):
         for number in numbers if cause in causes else []:
             note = f"{cause}: the gate profile with {name} = {number}"
             given = GATE._replace(**{name: number})
-            yield cause, refused(operation, note, [cause], GATE, given)
+            yield cause, refused(operation, note, [cause], GATE, given=given)
+    if 22 in causes:
+        yield from refusals_by_edition(operation)
 
 
 def long_inputs():

@@ -1,9 +1,10 @@
-"""Test vectors of Read sheet: right sheets, and sheets with a line that is wrong, missing or too
-many.
+"""Test vectors of Read sheet: right sheets of both editions, sheets of one where the other is
+expected, and sheets with a line that is wrong, missing or too many.
 """
 
+import editions
 from sheets import hex_line, profile_frame, right_sheet
-from signatures import GATE, SigningKey, issue, signature_length
+from signatures import GATE, GATE_2, SigningKey, issue, signature_length
 from vector_calls import (
     LONG_ORDER,
     ORDER,
@@ -20,6 +21,7 @@ from zarosnik import table_length
 
 # What the lines of the small profile's sheet carry.
 LINES = ["first line", "profile", "leaf", "R", "value", "value", "value", "sibling", "text"]
+PROFILE_BYTES = ["l", "w", "h", "high byte of s", "low byte of s"]
 
 
 def with_line(lines, at, changed):
@@ -52,7 +54,7 @@ def wrong_lines(lines):
             for note, other in [("less", frame[:-1]), ("more", frame + b"\0")]:
                 changed = with_line(lines, at, hex_line(other))
                 yield f"line {at + 1}, {name}, with a byte {note}", changed
-    for at, name in enumerate(["l", "w", "h", "high byte of s", "low byte of s"]):
+    for at, name in enumerate(PROFILE_BYTES):
         changed = with_line(lines, 1, hex_line(flipped(profile_frame(SMALL), at + 1)))
         yield f"line 2, profile, another {name}", changed
     for at, name in [(4, "chain"), (7, "height")]:
@@ -95,16 +97,69 @@ def right_sheets(p, signature):
     yield sheet_vector("6: text slice too short", p, sheet, size, len(ORDER) - 1)
 
 
+def gate_sheet(p):
+    """The first order, and the length of its signature."""
+    size, words = signature_length(p), table_length(p.l, p.s)
+    signature = issue(SigningKey(p, SEED, SECRET, 0), R, ORDER, [0] * words, filled(size))[2]
+    return right_sheet(p, signature, ORDER), size
+
+
 def gate_sheets():
-    size, words = signature_length(GATE), table_length(GATE.l, GATE.s)
-    key = SigningKey(GATE, SEED, SECRET, 0)
-    signature = issue(key, R, ORDER, [0] * words, filled(size))[2]
-    sheet = right_sheet(GATE, signature, ORDER)
+    sheet, size = gate_sheet(GATE)
     lines = sheet.splitlines(keepends=True)
     yield sheet_vector("the first order of the gate profile", GATE, sheet, size, 200)
     no_path = b"".join(lines[:38] + lines[48:])
     yield sheet_vector("without siblings", GATE, no_path, size, 200)
     yield sheet_vector("a line behind the last", GATE, sheet + lines[-1], size, 200)
+
+
+def wrong_at(line, made):
+    """The vector, which must be refused by 17 with this line, or with any where it is None."""
+    if made["out"]["outcome"] != 17 or line not in (None, made["out"]["line"]):
+        raise ValueError(f"not refused by 17 with line {line}: {made}")
+    return made
+
+
+def last_bytes(signature):
+    """What frame 01 may end with, for either edition."""
+    sheet = right_sheet(SMALL, signature, ORDER)
+    for edition, last in editions.SHEETS:
+        p, line = SMALL._replace(edition=edition), editions.line_to(edition, last)
+        given = p, editions.with_last(p, sheet, last), len(signature), 200
+        made = sheet_vector(editions.told(edition, last), *given)
+        yield wrong_at(line, made) if line else made
+
+
+def crossed_sheets():
+    """A sheet of one edition where the other is expected; with more that is wrong, before and
+    after."""
+    for p, other in [(GATE, GATE_2), (GATE_2, GATE)]:
+        sheet, size = gate_sheet(p)
+        told = f"the sheet of edition {p.edition}, edition {other.edition} expected"
+        yield wrong_at(2, sheet_vector(told, other, sheet, size, 200))
+        no_end = sheet_vector(f"{told}, the last line without 0A", other, sheet[:-1], size, 200)
+        yield wrong_at(2, no_end)
+        no_first = sheet_vector(f"{told}, in lower case", other, sheet.lower(), size, 200)
+        yield wrong_at(1, no_first)
+        yield wrong_at(2, sheet_vector(f"{told}, slices too short", other, sheet, 3, 3))
+
+
+def second_edition(signature):
+    """Right sheets; line 2 other than it must be; and an end too early or too late."""
+    p, size = SMALL._replace(edition=2), signature_length(SMALL)
+    yield from right_sheets(p, signature)
+    lines = right_sheet(p, signature, ORDER).splitlines(keepends=True)
+    for note, changed in spelt_otherwise(lines[1]).items():
+        if changed != lines[1]:
+            sheet = with_line(lines, 1, changed)
+            yield wrong_at(None, sheet_vector(f"line 2, profile, {note}", p, sheet, size, 200))
+    for at, name in enumerate([*PROFILE_BYTES, "last byte"]):
+        sheet = with_line(lines, 1, hex_line(flipped(profile_frame(p), at + 1)))
+        yield wrong_at(2, sheet_vector(f"line 2, profile, another {name}", p, sheet, size, 200))
+    for note, sheet in wrong_ends(lines):
+        yield wrong_at(None, sheet_vector(note, p, sheet, size, 200))
+    sheet, size = gate_sheet(GATE_2)
+    yield sheet_vector("the first order of the gate profile", GATE_2, sheet, size, 200)
 
 
 def sheets_family():
@@ -114,10 +169,10 @@ def sheets_family():
     sheet = right_sheet(SMALL, signature, ORDER)
     lines = sheet.splitlines(keepends=True)
     for note, wrong in [*wrong_lines(lines), *wrong_ends(lines)]:
-        made = sheet_vector(note, SMALL, wrong, size, 200)
-        if made["out"]["outcome"] != 17:
-            raise ValueError(f"not refused by 17: {made}")
-        yield made
+        yield wrong_at(None, sheet_vector(note, SMALL, wrong, size, 200))
     other = SMALL._replace(h=2)
     yield sheet_vector("the sheet of another profile", other, sheet, size + 16, 200)
     yield from gate_sheets()
+    yield from second_edition(signature)
+    yield from last_bytes(signature)
+    yield from crossed_sheets()

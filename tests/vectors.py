@@ -7,7 +7,9 @@ programs link, and compares the answer, the states and all memory lent.
 Fails where a call differs, and where something has no vector: a family, an operation granted, a
 refusal that docs/INTERFACE.md lists for an operation, a kind of numbers compared, a count at which
 orders must be signed and checked, a way in which a leaf can stand to a cabinet's highest leaf and
-marks, or a number of a profile that would be the gate's if it were cut.
+marks, an operation granted in either edition, an order or a sheet of one edition where the other is
+expected, a number that is no edition, or a number of a profile that would be the gate's if it were
+cut.
 The vectors themselves are held to the independent implementation by tests/make_vectors.py, the
 page's worked values by tests/worked_order.py.
 """
@@ -19,22 +21,24 @@ import tempfile
 from collections import Counter
 
 import comparisons
+import editions
 import shapes
 import windows
 from archived import archive_of, archive_parser, shared_object
 from header import NO_REFUSALS
-from interface_calls import PROTOTYPES, STATES, Call, load
+from interface_calls import EDITED, PROTOTYPES, STATES, Call, load
 from interface_memory import Memory, words_memory
 from make_vectors import FAMILIES, FOLDER
+from signatures import EDITIONS, Profile, Verifier, check
 from vector_calls import FILL, FILL_WORD
 from vector_orders import WINDOW_KINDS, order_shapes
 from vector_refusals import CUT
-from zarosnik import filled, number_words
+from zarosnik import filled, number_words, table_length
 
 PAGE = FOLDER.parent / "docs" / "INTERFACE.md"
 WORDS = ("next_leaf", "highest_leaf", "marks", "steps", "line", "order", "looked")
 NUMBERS = ("number", "first", "second")
-BY_VALUE = ("l", "w", "s", "h", "leaf")
+BY_VALUE = (*Profile._fields, "leaf")
 
 
 def say(line):
@@ -140,6 +144,45 @@ def window_kinds(vectors):
                 yield kind, outcome
 
 
+def profile_of(given):
+    return Profile(*(given[name] for name in Profile._fields))
+
+
+def taken_by_other(given):
+    """Whether the other edition takes the order of a check."""
+    p = profile_of(given)
+    p = p._replace(edition=editions.other(p.edition))
+    names = ("public_seed", "root", "message", "signature")
+    seed, root, text, signature = (bytes.fromhex(given[name]) for name in names)
+    verifier, work = Verifier(p, seed, root, 0, 0), [0] * table_length(p.l, p.s)
+    return check(verifier, text, signature, work)[0] == 0
+
+
+def missing_editions(vectors):
+    for operation in EDITED:
+        calls = [vector for vector in vectors if vector["operation"] == operation]
+        met = {(call["in"]["edition"], call["out"]["outcome"]) for call in calls}
+        for answer in editions.missing_answers(met):
+            yield f"no vector: {operation} answers {answer}"
+    refused = [
+        vector["in"]
+        for vector in vectors
+        if (vector["operation"], vector["out"]["outcome"]) == ("verify", 15)
+    ]
+    for edition in EDITIONS:
+        if not any(given["edition"] == edition and taken_by_other(given) for given in refused):
+            yield f"no vector: verify answers 15 in edition {edition} to the other's order"
+    read = [vector for vector in vectors if vector["operation"] == "read_sheet"]
+    lasts = [
+        (editions.last_of(profile_of(call["in"]), bytes.fromhex(call["in"]["sheet"])), call)
+        for call in read
+        if call["out"]["outcome"] in (0, 17)
+    ]
+    met = {(call["in"]["edition"], last, call["out"]["line"]) for last, call in lasts}
+    for line in editions.missing_lines(met):
+        yield f"no vector: read_sheet tells {line}"
+
+
 def missing(vectors):
     """In lines: what has no vector."""
     outcomes = {(vector["operation"], vector["out"]["outcome"]) for vector in vectors}
@@ -156,6 +199,7 @@ def missing(vectors):
         for name, number in CUT.items():
             if name in parameters.split() and all(given[name] != number for given in calls):
                 yield f"no vector: {operation} with {name} = {number}"
+    yield from missing_editions(vectors)
     for operation in STATES:
         calls = [vector for vector in vectors if vector["operation"] == operation]
         met = {

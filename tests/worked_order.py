@@ -1,6 +1,6 @@
 """The worked values of docs/INTERFACE.md: the small table of counts, a digest's number at several
-counts, the table of the window, and the worked order, from the implementation in this folder that is
-independent of the library.
+counts, the table of the window, and the worked order in both editions, from the implementation in
+this folder that is independent of the library.
 
     python3 tests/worked_order.py           compares the page's blocks and that table with these values
     python3 tests/worked_order.py --print   prints them, as they must stand in the page
@@ -14,6 +14,7 @@ from pathlib import Path
 
 from sheets import right_sheet
 from signatures import (
+    EDITIONS,
     LEAST_COUNT,
     Profile,
     SigningKey,
@@ -35,7 +36,8 @@ from zarosnik import first_bits, number_bits, row_of, table_length, ways
 PAGE = Path(__file__).resolve().parent.parent / "docs" / "INTERFACE.md"
 # The gate's shape, at which numbers have 128 bits, under the lowest tree that shows a node with an
 # index other than 0. The path of leaf 2 has a right sibling, then a left one.
-WORKED = Profile(*GATE_SHAPE, 2)
+WORKED = Profile(*GATE_SHAPE, 2, 1)
+SECOND = WORKED._replace(edition=2)
 LEAF = 2
 CHAIN = 5
 # The search for a length is shown at so many places.
@@ -47,7 +49,7 @@ BITS = [(5, 5, 7), (7, 3, 5), (6, 4, 9), (34, 16, 204), GATE_SHAPE]
 # The window: a cabinet's highest leaf and marks, where they are not those that the row above left; an
 # order's leaf; and what it shows. The orders are signed at a profile whose tree has leaves enough.
 WINDOW = "The window"
-WINDOW_PROFILE = Profile(7, 3, 5, 7)
+WINDOW_PROFILE = Profile(7, 3, 5, 7, 1)
 WINDOW_ROWS = [
     ((0, 0), 5, "fresh: any leaf is taken"),
     (None, 6, "1 above"),
@@ -88,7 +90,7 @@ def counts_block():
 
 def key_block():
     p = WORKED
-    yield f"l = {p.l}, w = {p.w}, s = {p.s}, h = {p.h}"
+    yield f"l = {p.l}, w = {p.w}, s = {p.s}, h = {p.h}, edition = {p.edition}"
     yield f"public seed = {hexed(SEED)}"
     yield f"secret seed = {hexed(SECRET)}"
     yield f"next leaf = {LEAF}"
@@ -103,7 +105,7 @@ def tree_block():
 
 
 def bits_block(root):
-    digest = order_digest(R, SEED, root, ORDER)
+    digest = order_digest(WORKED, R, SEED, root, LEAF, ORDER)
     yield from long("digest", digest)
     for l, w, s in BITS:
         count = ways(w, l, s)
@@ -129,18 +131,27 @@ def window_table():
         yield f"| {state(before)} | {leaf} | {outcome} | {state(after)} | {shows} |"
 
 
+def worked_number(p, root):
+    return message_number(p, R, SEED, root, LEAF, ORDER)
+
+
+def number_lines(p, root, label, message):
+    """What is hashed is joined here, and the number is that of the profile's edition."""
+    yield from long(label, message)
+    yield from long("digest", hashlib.sha256(message).digest())
+    yield f"message number = {number_hex(worked_number(p, root))}"
+
+
 def digest_block(root):
-    message = R + SEED + root + ORDER
     yield f"R = {hexed(R)}"
     yield f"order text = {ORDER.decode()}"
-    yield from long("R, public seed, root, order text", message)
-    yield from long("digest", hashlib.sha256(message).digest())
-    yield f"message number = {number_hex(message_number(WORKED, R, SEED, root, ORDER))}"
+    joined = R + SEED + root + ORDER
+    yield from number_lines(WORKED, root, "R, public seed, root, order text", joined)
 
 
 def row_block(number):
     """The search at the first places, then the whole row."""
-    l, w, s, _ = WORKED
+    l, w, s = WORKED[:3]
     row = row_of(l, w, s, number)
     yield f"count, D({l}, {s}) = {number_hex(ways(w, l, s))}"
     for place in range(PLACES):
@@ -174,22 +185,41 @@ def leaf_block():
     yield f"address of the root = {hexed(address(2, 0, 2, 0))}"
 
 
+def signed(p):
+    work, out = [0] * table_length(p.l, p.s), bytes(signature_length(p))
+    return issue(SigningKey(p, SEED, SECRET, LEAF), R, ORDER, work, out)[2]
+
+
+def checked(p, root, signature):
+    work = [0] * table_length(p.l, p.s)
+    return check(Verifier(p, SEED, root, 0, 0), ORDER, signature, work)
+
+
 def verdict_block(root, signature):
-    cabinet = Verifier(WORKED, SEED, root, 0, 0)
-    work = [0] * table_length(WORKED.l, WORKED.s)
-    outcome, after, steps, _ = check(cabinet, ORDER, signature, work)
+    outcome, after, steps, _ = checked(WORKED, root, signature)
     yield f"verdict = {outcome}"
     yield f"chain steps = {steps}"
     yield f"highest leaf = {after.highest}"
     yield f"marks = 0x{after.marks:08X}"
 
 
+def second_block(root):
+    """The order in edition 2: what differs, and what a cabinet of each edition says to it."""
+    p, signature = SECOND, signed(SECOND)
+    joined = R + SEED + root + LEAF.to_bytes(4, "big") + ORDER
+    yield from number_lines(p, root, "R, public seed, root, leaf, order text", joined)
+    yield f"row = {', '.join(map(str, row_of(p.l, p.w, p.s, worked_number(p, root))))}"
+    yield f"line 2 of the sheet = {right_sheet(p, signature, ORDER).decode().splitlines()[1]}"
+    for edition in EDITIONS:
+        outcome, _, steps, _ = checked(p._replace(edition=edition), root, signature)
+        yield f"cabinet of edition {edition}: verdict = {outcome}, chain steps = {steps}"
+
+
 def blocks():
     """The page's blocks in order: a section's heading and the lines."""
     root = root_of(WORKED, SEED, SECRET)
-    number = message_number(WORKED, R, SEED, root, ORDER)
-    work, out = [0] * table_length(WORKED.l, WORKED.s), bytes(signature_length(WORKED))
-    signature = issue(SigningKey(WORKED, SEED, SECRET, LEAF), R, ORDER, work, out)[2]
+    number = worked_number(WORKED, root)
+    signature = signed(WORKED)
     sheet = right_sheet(WORKED, signature, ORDER).decode().splitlines()
     yield "Counts and rows", list(counts_block())
     yield "Digest and message number", list(bits_block(root))
@@ -204,6 +234,7 @@ def blocks():
         long("signature", signature),
         sheet,
         verdict_block(root, signature),
+        second_block(root),
     ]:
         yield "A worked order", list(block)
 

@@ -64,8 +64,14 @@ def is_scant(given):
     return not first_cause(profile_causes(p)) and count_of(p) < LEAST_COUNT
 
 
-def sign_by(rule):
-    """Issue by a rule, which gives a refusal or 0, and a number, from the count and the digest."""
+def right_digest(given, p, *order):
+    return order_digest(p, *order)
+
+
+def sign_by(rule, digests=(right_digest,)):
+    """Issue by a rule, which gives a refusal or 0, and a number, from the count and the digest; and
+    by one digest."""
+    (digest_of,) = digests
 
     def wrong(right, given):
         leaf, before = given.words("next_leaf")[0], content(given, "signature")
@@ -74,7 +80,8 @@ def sign_by(rule):
             return outcome
         p, r = profile_of(given), content(given, "r")
         seeds = content(given, "public_seed"), content(given, "secret_seed")
-        digest = order_digest(r, seeds[0], root_of(p, *seeds), content(given, "message"))
+        root, text = root_of(p, *seeds), content(given, "message")
+        digest = digest_of(given, p, r, seeds[0], root, leaf, text)
         refused, number = rule(count_of(p), digest)
         given.words("next_leaf")[0] = leaf if refused else leaf + 1
         put(given, "signature", before if refused else signature_of(p, *seeds, leaf, r, number))
@@ -83,12 +90,12 @@ def sign_by(rule):
     return wrong
 
 
-def judge(given, rule):
+def judge(given, rule, digest_of=right_digest):
     """The refusal of a signature by a rule, or 0, and the steps."""
     p, signature = profile_of(given), content(given, "signature")
     seed, root = content(given, "public_seed"), content(given, "root")
     leaf, end = leaf_of(given), 20 + 16 * p.l
-    digest = order_digest(signature[4:20], seed, root, content(given, "message"))
+    digest = digest_of(given, p, signature[4:20], seed, root, leaf, content(given, "message"))
     refused, number = rule(count_of(p), digest)
     if refused:
         return refused, 0
@@ -96,16 +103,18 @@ def judge(given, rule):
     return 0 if climb_path(seed, leaf, key, pieces(signature[end:])) == root else 15, steps
 
 
-def verify_by(*rules):
-    """Check by a rule; by several, what the first says that takes the order, else the last."""
+def verify_by(*rules, digests=(right_digest,)):
+    """Check by a rule and a digest; by several, what the first says that takes the order, else the
+    last."""
 
     def wrong(right, given):
         window = window_of(given)
         outcome = right(*given.values.values())
         if outcome not in JUDGED:
             return outcome
-        for rule in rules:
-            refused, given.words("steps")[0] = judge(given, rule)
+        put_window(given, window)
+        for rule, digest_of in itertools.product(rules, digests):
+            refused, given.words("steps")[0] = judge(given, rule, digest_of)
             if not refused:
                 window = with_leaf(*window, leaf_of(given))
                 break

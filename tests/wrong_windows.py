@@ -11,6 +11,7 @@ from signatures import WINDOW, is_passed, with_leaf
 from windows import ALL_MARKS, KINDS, LAST_MARK, MOST_WORD, answer_to, kinds, told
 from wrong_orders import MOST_TABLE, content, leaf_of, put, put_window, window_of
 
+ALL_KINDS = "all kinds"
 # By these every leaf of a tree is taken, and every one is passed.
 TAKES_ALL, PASSES_ALL = (0, 0), (MOST_WORD, 1)
 
@@ -54,10 +55,13 @@ def seeing(seen):
 
 def leaving(kind, left):
     """Something else is left where there is no mark, where the leaf is above the highest, or where
-    it is not: by the highest leaf, the marks and how far the leaf is above or below."""
+    it is not: by the highest leaf, the marks and how far the leaf is above or below. A leaf that is
+    passed may be too far below for a mark."""
 
     def rule(highest, marks, leaf):
         passed, after = right_rule(highest, marks, leaf)
+        if passed:
+            return passed, after
         stands = "first" if not marks else "above" if leaf > highest else "older"
         away = leaf - highest if stands == "above" else highest - leaf
         return passed, left(highest, marks, away) if stands == kind else after
@@ -255,9 +259,10 @@ def right_window():
 
 
 def wrong_windows():
-    """What is wrong, the wrong Check, and the kind and answer for which alone, or None."""
+    """What is wrong, the wrong Check, and the kind and answer for which alone; all kinds, where
+    another rule shows in one of them; or None."""
     for what, rule in rules():
-        yield what, verify_by_window(rule), None
+        yield what, verify_by_window(rule), ALL_KINDS
     yield "marked by 15", verify_by_window(right_rule, marking=(0, 15)), None
     causes = CAUSES["verify"]
     for cause in causes[: causes.index(14)]:

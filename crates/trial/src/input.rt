@@ -36,5 +36,6 @@ pub fn profile() -> Profile {
             sum: word(),
         },
         height: word(),
+        edition: word(),
     }
 }
