@@ -281,15 +281,17 @@ static int number_bits(const uint32_t count[5])
 
 /* The codeword of the order's number, by the table, which is filled first: 0 if the count is below 256. */
 static int codeword(struct profile p, const uint8_t r[16], const uint8_t seed[16], const uint8_t root[16],
-                    const uint8_t *message, size_t message_len, uint32_t *table, uint8_t *lengths)
+                    uint32_t leaf, const uint8_t *message, size_t message_len, uint32_t *table, uint8_t *lengths)
 {
-    uint8_t bytes[48 + 200], digest[16];
+    uint8_t bytes[52 + 200], digest[16];
     uint32_t count[5];
+    size_t before = p.edition == 2 ? 52 : 48;
     memcpy(bytes, r, 16);
     memcpy(bytes + 16, seed, 16);
     memcpy(bytes + 32, root, 16);
-    memcpy(bytes + 48, message, message_len);
-    hash_on(INITIAL, 0, bytes, 48 + message_len, digest, 4);
+    put32(bytes + 48, leaf);
+    memcpy(bytes + before, message, message_len);
+    hash_on(INITIAL, 0, bytes, before + message_len, digest, 4);
     u128 n = 0;
     for (int i = 0; i < 16; i += 4)
         n = n << 32 | get32(digest + i);
@@ -320,7 +322,7 @@ static int baseline_sign(struct profile p, const uint8_t public_seed[16], const 
     uint32_t state[8];
     seed_state(public_seed, state);
     tree(p, state, secret_seed, root, leaf, values + VALUE * p.l);
-    if (!codeword(p, r, public_seed, root, message, message_len, table, lengths))
+    if (!codeword(p, r, public_seed, root, leaf, message, message_len, table, lengths))
         return 0;
     put32(signature, leaf);
     memcpy(signature + 4, r, 16);
@@ -338,7 +340,7 @@ static int baseline_verify(struct profile p, const uint8_t public_seed[16], cons
     uint8_t lengths[40], tops[ADDRESS + 40 * VALUE], node[VALUE];
     uint32_t state[8];
     *steps = 0;
-    if (!codeword(p, signature + 4, public_seed, root, message, message_len, table, lengths))
+    if (!codeword(p, signature + 4, public_seed, root, leaf, message, message_len, table, lengths))
         return 0;
     seed_state(public_seed, state);
     memcpy(tops + ADDRESS, value, VALUE * p.l);

@@ -7,7 +7,7 @@
 
 /* A profile within its limits, as the library's parameters of the same names. */
 struct profile {
-    uint32_t l, w, s, h;
+    uint32_t l, w, s, h, edition;
 };
 
 /* What one compiler makes of baseline.c. Parameters as in the library's functions; every slice is long enough. */

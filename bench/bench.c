@@ -1,6 +1,7 @@
 /* Times the library against the baseline at the gate profile, and verify at the profile where it takes longest with
- * numbers of 128 bits, after checking that both give the same bytes, there and where an order's number has fewer bits;
- * with --check, only checks; with --growth, times the library alone as one number of the profile varies.
+ * numbers of 128 bits, in edition 1, after checking that both give the same bytes, there, where an order's number has
+ * fewer bits, and in edition 2; with --check, only checks; with --growth, times the library alone as one number of the
+ * profile varies.
  *
  *   bench [--check] [--growth] [--lines FILE] [--repeats N]
  *
@@ -49,7 +50,7 @@ static FILE *lines;
 static int repeats, missed;
 
 #define SHAPE in.p.l, in.p.w, in.p.s
-#define PROFILE SHAPE, in.p.h
+#define PROFILE SHAPE, in.p.h, in.p.edition
 #define TABLE ours.table, ZAROSNIK_TABLE_WORDS_MAX
 
 static void our_hash(void) { ours.refused = zarosnik_hash(in.data, sizeof in.data, ours.digest); }
@@ -190,15 +191,16 @@ static const struct comparison {
 enum { COMPARISONS = sizeof comparisons / sizeof *comparisons };
 static const struct comparison dearest_verify = {"verify, dearest", NULL, {our_verify, plain_verify}, 0};
 
-/* Numbers of 69 bits, to be checked alone. */
-static const struct profile few_bits = {ZAROSNIK_GATE_L, ZAROSNIK_GATE_W, 40, 2};
+/* To be checked alone: numbers of 69 bits, and the other edition. */
+static const struct profile few_bits = {ZAROSNIK_GATE_L, ZAROSNIK_GATE_W, 40, 2, ZAROSNIK_EDITION_1};
+static const struct profile second = {ZAROSNIK_GATE_L, ZAROSNIK_GATE_W, ZAROSNIK_GATE_S, 2, ZAROSNIK_EDITION_2};
 
 /* The profile whose checks take longest among those whose orders have numbers of 128 bits; the others are for trials. At
  * the largest l, w and h it has the least s with a count of 2^128. One more of s would save a chain step and cost l + 1
  * cells of the table, which take less. */
 static struct profile dearest(void)
 {
-    in.p = (struct profile){ZAROSNIK_L_MAX, ZAROSNIK_W_MAX, 0, ZAROSNIK_H_MAX};
+    in.p = (struct profile){ZAROSNIK_L_MAX, ZAROSNIK_W_MAX, 0, ZAROSNIK_H_MAX, ZAROSNIK_EDITION_1};
     for (our_count(); ours.number[4] == 0; our_count())
         in.p.s++;
     return in.p;
@@ -233,18 +235,20 @@ static void check_all(struct profile gate, struct profile other)
     check_at(gate, GATE_MESSAGE);
     check_at(other, ZAROSNIK_MESSAGE_MAX);
     check_at(few_bits, GATE_MESSAGE);
+    check_at(second, GATE_MESSAGE);
 }
 
 static void check(struct profile gate)
 {
-    const struct profile other = dearest(), others[] = {other, few_bits};
+    const struct profile other = dearest(), others[] = {other, few_bits, second};
     check_all(gate, other);
     printf("bench: the same bytes as plain C of");
     for (int b = 0; b < BASELINES; b++)
         printf("%s %s", b ? " and" : "", baselines[b]->name);
-    printf(", at the gate profile");
-    for (int i = 0; i < 2; i++)
-        printf(" and at l = %u, w = %u, s = %u, h = %u", others[i].l, others[i].w, others[i].s, others[i].h);
+    printf(", at the gate profile in edition %u", gate.edition);
+    for (int i = 0; i < 3; i++)
+        printf(" and at l = %u, w = %u, s = %u, h = %u, edition %u", others[i].l, others[i].w, others[i].s,
+               others[i].h, others[i].edition);
     printf("\n");
 }
 
@@ -361,7 +365,8 @@ static void set_bytes(uint8_t *bytes, size_t len, unsigned start)
 
 int main(int argc, char **argv)
 {
-    const struct profile gate = {ZAROSNIK_GATE_L, ZAROSNIK_GATE_W, ZAROSNIK_GATE_S, ZAROSNIK_GATE_H};
+    const struct profile gate = {ZAROSNIK_GATE_L, ZAROSNIK_GATE_W, ZAROSNIK_GATE_S, ZAROSNIK_GATE_H,
+                                 ZAROSNIK_EDITION_1};
     void (*job)(struct profile) = compare;
     for (int i = 1; i < argc; i++) {
         if (strcmp(argv[i], "--growth") == 0)

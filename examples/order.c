@@ -1,6 +1,7 @@
 /*
  * A desk signs two orders, and a cabinet checks them as they arrive by two routes, the later one first, at the gate
- * profile. Every value is compared with what is expected; the exit status is 0 where all agree.
+ * profile in edition 2. Then a desk and a cabinet that are older than that go on in edition 1. Every value is compared
+ * with what is expected; the exit status is 0 where all agree.
  *
  * Seeds and R are fixed here so that every run prints the same. A desk draws its secret seed once and R for each order
  * at random.
@@ -21,7 +22,13 @@ static const struct zarosnik_randomizer r = {{0x71, 0x72, 0x73, 0x74, 0x75, 0x76
 static const struct zarosnik_randomizer later_r = {{0x91, 0x92, 0x93, 0x94, 0x95, 0x96, 0x97, 0x98,
                                                     0x99, 0x9A, 0x9B, 0x9C, 0x9D, 0x9E, 0x9F, 0xA0}};
 
-/* The root of these seeds, as the independent implementation in tests/ gives it. */
+/* The seeds of another key, that of the older desk. */
+static const struct zarosnik_public_seed older_seed = {{0x20, 0x21, 0x22, 0x23, 0x24, 0x25, 0x26, 0x27,
+                                                        0x28, 0x29, 0x2A, 0x2B, 0x2C, 0x2D, 0x2E, 0x2F}};
+static const struct zarosnik_secret_seed older_secret = {{0xD0, 0xD1, 0xD2, 0xD3, 0xD4, 0xD5, 0xD6, 0xD7,
+                                                          0xD8, 0xD9, 0xDA, 0xDB, 0xDC, 0xDD, 0xDE, 0xDF}};
+
+/* The root of the first seeds, as the independent implementation in tests/ gives it. */
 static const struct zarosnik_tree_root expected_root = {{0x0B, 0xF8, 0x71, 0x2F, 0x91, 0x28, 0x4B, 0x04,
                                                          0x87, 0x40, 0x6F, 0x3D, 0x43, 0x24, 0x75, 0x07}};
 
@@ -68,10 +75,22 @@ static void check(const char *name, struct zarosnik_cabinet *cabinet, const char
     expect("marks", cabinet->marks, marks_after);
 }
 
+/* Desk and cabinet of edition 1, which have signed and taken the leaves 0 to 6, go on with what they have stored. */
+static void go_on_in_edition_1(void)
+{
+    struct zarosnik_key key = {zarosnik_gate_profile_1, older_seed, older_secret, 7};
+    struct zarosnik_tree_root root;
+    expect("outcome of the older root", zarosnik_key_root(&key, &root), ZAROSNIK_GRANTED);
+    struct zarosnik_cabinet cabinet = {zarosnik_gate_profile_1, older_seed, root, 6, 0x7F};
+    uint8_t signature[ZAROSNIK_GATE_SIGNATURE_BYTES];
+    sign("sign in edition 1", &key, r, order, signature, 8);
+    check("older cabinet", &cabinet, order, signature, ZAROSNIK_GRANTED, ZAROSNIK_GATE_STEPS, 7, 0xFF);
+}
+
 int main(void)
 {
-    /* The desk makes its key, and the root that its cabinets hold. */
-    struct zarosnik_key key = zarosnik_fresh_key(zarosnik_gate_profile, public_seed, secret_seed);
+    /* The desk makes its key, and the root that its cabinets hold. All of them know edition 2. */
+    struct zarosnik_key key = zarosnik_fresh_key(zarosnik_gate_profile_2, public_seed, secret_seed);
     struct zarosnik_tree_root root;
     uint32_t made_root = zarosnik_key_root(&key, &root);
     printf("root: %" PRIu32 " (%s), ", made_root, zarosnik_outcome_text(made_root));
@@ -91,14 +110,18 @@ int main(void)
     /* The later order comes by radio, before the other by cable, and both are taken, each once. Mark 0 is that of the
      * highest leaf, 1, and mark 1 that of the leaf below it. The cabinet stores highest_leaf and marks, as one write,
      * before it moves the gate. */
-    struct zarosnik_cabinet cabinet = zarosnik_fresh_cabinet(zarosnik_gate_profile, public_seed, root);
+    struct zarosnik_cabinet cabinet = zarosnik_fresh_cabinet(zarosnik_gate_profile_2, public_seed, root);
     check("later, by radio", &cabinet, later_order, later_signature, ZAROSNIK_GRANTED, ZAROSNIK_GATE_STEPS, 1, 0x1);
     check("first, by cable", &cabinet, order, signature, ZAROSNIK_GRANTED, ZAROSNIK_GATE_STEPS, 1, 0x3);
     check("replay", &cabinet, order, signature, ZAROSNIK_REFUSED_LEAF_PASSED, 0, 1, 0x3);
 
-    /* A cabinet that would still take the leaf, so that the root decides. */
-    struct zarosnik_cabinet other = zarosnik_fresh_cabinet(zarosnik_gate_profile, public_seed, root);
+    /* A cabinet that would still take the leaf, so that the root decides; and one that was set up in the other edition,
+     * which takes another digest of the same order. */
+    struct zarosnik_cabinet other = zarosnik_fresh_cabinet(zarosnik_gate_profile_2, public_seed, root);
     check("changed text", &other, other_order, signature, ZAROSNIK_REFUSED_ROOT_DIFFERS, ZAROSNIK_GATE_STEPS, 0, 0);
+    struct zarosnik_cabinet wrong = zarosnik_fresh_cabinet(zarosnik_gate_profile_1, public_seed, root);
+    check("other edition", &wrong, order, signature, ZAROSNIK_REFUSED_ROOT_DIFFERS, ZAROSNIK_GATE_STEPS, 0, 0);
 
+    go_on_in_edition_1();
     return differences == 0 ? EXIT_SUCCESS : EXIT_FAILURE;
 }

@@ -1,6 +1,6 @@
 /*
- * From sheet to verdict: reads a sheet from the file named, or from standard input, at the gate profile, and prints its
- * order text and what a fresh cabinet says to it.
+ * From sheet to verdict: reads a sheet from the file named, or from standard input, at the gate profile in edition 2,
+ * and prints its order text and what a fresh cabinet says to it. A sheet of edition 1 is refused at line 2.
  *
  *     sheet [FILE]
  *
@@ -24,7 +24,8 @@ static const struct zarosnik_tree_root root = {{0x0B, 0xF8, 0x71, 0x2F, 0x91, 0x
 static uint32_t table[ZAROSNIK_GATE_TABLE_WORDS];
 
 /* One byte more than the longest sheet: with it a longer one is refused at the same line as the whole would be. */
-static uint8_t sheet[ZAROSNIK_SHEET_BYTES(ZAROSNIK_GATE_L, ZAROSNIK_GATE_H, ZAROSNIK_MESSAGE_MAX) + 1];
+static uint8_t sheet[ZAROSNIK_SHEET_BYTES(ZAROSNIK_GATE_L, ZAROSNIK_GATE_H, ZAROSNIK_EDITION_2, ZAROSNIK_MESSAGE_MAX)
+                     + 1];
 
 /* The number of bytes read, or 0 with *failed set. */
 static size_t read_file(const char *path, int *failed)
@@ -65,7 +66,7 @@ int main(int argc, char **argv)
         return NOT_READ;
     }
 
-    struct zarosnik_cabinet cabinet = zarosnik_fresh_cabinet(zarosnik_gate_profile, public_seed, root);
+    struct zarosnik_cabinet cabinet = zarosnik_fresh_cabinet(zarosnik_gate_profile_2, public_seed, root);
     uint8_t signature[ZAROSNIK_GATE_SIGNATURE_BYTES];
     uint8_t text[ZAROSNIK_MESSAGE_MAX];
     size_t text_len;
