@@ -6,10 +6,9 @@
 The cases are the document's trial values, the published SHA-256 examples, some values for each
 operation, each operation at both editions and at numbers that are neither, and what the C interface
 cannot be given: states of the running hash, counts that no profile has, and digests.
-tests/interface.py has the breadth. Nothing here is taken from the program
-or from the library under test: digests of messages come from hashlib, and all else from the
-implementations in this folder, which are first held to hashlib, to lists of all rows and to binary
-digits.
+tests/interface.py has the breadth. Nothing here is taken from the program or from the library under
+test: digests of messages come from hashlib, and all else from the implementations in this folder,
+which are first held to hashlib, to lists of all rows and to binary digits.
 """
 
 import hashlib
@@ -286,7 +285,7 @@ FEWEST_BITS = Profile(7, 3, 5, 0, 1)
 NEARLY_ALL_BITS = FLAT._replace(s=204)
 # The largest count that does not sign, which is 255.
 NEARLY_SIGNING = Profile(5, 5, 7, 1, 1)
-# Outside the limits, by numbers that the C interface does not take.
+# Outside the limits, also by numbers that narrower types would cut to right ones.
 OUTSIDE = [
     Profile(41, 3, 3, 2, 1),
     Profile(MASK, 3, 3, 2, 1),

@@ -13,6 +13,7 @@ import sys
 import tempfile
 from pathlib import Path
 
+import editions
 import signatures
 from archived import ROOT, archive_of, archive_parser
 from header import COMPILERS, INCLUDE, WARNINGS
@@ -80,7 +81,7 @@ def windows(p, root, signature, later):
 
 def other_edition(p, root, signature, sheet):
     """The other edition, and what a cabinet of it says to the signature and to its sheet."""
-    other = p._replace(edition=sum(EDITIONS) - p.edition)
+    other = p._replace(edition=editions.other(p.edition))
     outcome, _ = checked(Verifier(other, SEED, root, 0, 0), TEXT, signature)
     slices = bytes(len(signature)), bytes(len(TEXT))
     refused, line, *_ = read_sheet(other, sheet, *slices)
