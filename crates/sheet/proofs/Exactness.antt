@@ -1,35 +1,18 @@
 -- The right sheets are those that are read, each as what it carries.
 use mathlib.Core.Path.{_≡_, refl, sym, ap, _∙_}
 use mathlib.Core.List.{List, [], _∷_, _++_, append-assoc, append-nil}
-use Prim.Native.Nat.{ℕ, zero, suc, _+_, _*_, _≤_, _<_}
+use Prim.Native.Nat.{ℕ, suc, _≤_}
 use native.Mathlib.Omega.{arith}
 use lib.Dec.{lit<}
 use lib.ListN.{length, take, drop, length-append, length-drop, take-append-drop}
 use lib.Seq.{take-at, drop-at, length-take-le}
-use Rattle.words.specs.Bytes.{toBytes}
-use Rattle.words.proofs.ByteLaws.{toBytes-lt}
-use Rattle.words.proofs.Lists.{Below, below-by-test, below-cons, below-append, below-take, below-drop}
-use Rattle.words.proofs.Pairs.{Each, each-append}
-use Rattle.profile.specs.declared.Profile.{Profile}
+use Rattle.words.proofs.Lists.{Below, below-by-test, below-append, below-take, below-drop}
 use Rattle.hex.specs.Hex.{Line, wrong, right, lineOf}
-use Rattle.message.specs.Message.{signatureLength}
-use Rattle.sheet.specs.Frames.{Within, Frame, sized, editionByte, profileFrame, numbered, frames, textFrame}
-use Rattle.sheet.specs.Sheet.{linesOf, sheetOf, Reading, wrongLine, read, readFrame, inFront, followed, ended, readFrames, readSheet, Carried, Exact}
-use Rattle.sheet.proofs.FrameLaws.{frame-read, Framed, read-frame}
-use Rattle.sheet.proofs.FrameNumbers.{edition-byte}
-
--- each has one number of bytes behind its fixed ones
-abbrev Sized : List Frame → Type 0
-Sized fs = Each (λ f. f .low ≡ f .high) fs
-
--- the fixed ones are bytes
-abbrev pub Bytes : List Frame → Type 0
-Bytes fs = Each (λ f. Below 256 (f .head)) fs
-
--- how many bytes stand behind the fixed ones
-abbrev pub total : List Frame → ℕ
-total [] = 0
-total (f ∷ fs) = f .high + total fs
+use Rattle.frames.specs.Frames.{Frame, frames, textFrame}
+use Rattle.frames.specs.Lines.{linesOf, sheetOf, readFrame}
+use Rattle.frames.proofs.FrameLaws.{frame-read, Framed, read-frame}
+use Rattle.frames.proofs.FrameList.{Sized, Bytes, total, frames-sized, frames-total, frames-bytes}
+use Rattle.sheet.specs.Sheet.{Reading, wrongLine, read, inFront, followed, ended, readFrames, readSheet, Carried, Exact}
 
 -- the lines of frames with their bytes, and the text's line, are read as they are
 lines-read : (fs : List Frame) (line : ℕ) (bytes text : List ℕ) → Sized fs → Bytes fs → length bytes ≡ total fs → Below 256 bytes
@@ -115,53 +98,6 @@ read-lines (f ∷ fs) line sheet signature text s e =
         → ((rest more text′ : List ℕ) → readFrames fs (suc line) rest ≡ read more text′ → Apart fs rest more text′) → Apart (f ∷ fs) sheet signature text
     by wrong q e inner = not-read line signature text e
     by (right bytes rest) q e inner = next bytes rest (read-frame f sheet bytes rest q) (readFrames fs (suc line) rest) e (inner rest)
-
-all-numbered : (P : Frame → Type 0) (kind k n : ℕ) → ((i : ℕ) → i < k + n → P (sized (kind ∷ i ∷ []) 16)) → Each P (numbered kind k n)
-unfolding numbered
-all-numbered P kind k zero each = tt
-all-numbered P kind k (suc n) each = (each k (omega arith), all-numbered P kind (suc k) n (λ i h. each i (omega arith)))
-
-total-append : (fs gs : List Frame) → total (fs ++ gs) ≡ total fs + total gs
-total-append [] gs = omega arith
-total-append (f ∷ fs) gs = omega (arith, total-append fs gs)
-
-total-numbered : (kind k n : ℕ) → total (numbered kind k n) ≡ 16 * n
-unfolding numbered
-total-numbered kind k zero = refl
-total-numbered kind k (suc n) = omega (arith, total-numbered kind (suc k) n)
-
-module _ (p : Profile) where
-  -- the frames 04 and 05
-  all-values : (P : Frame → Type 0) → ((i : ℕ) → i < p .shape .chains → P (sized (4 ∷ i ∷ []) 16)) → ((i : ℕ) → i < p .height → P (sized (5 ∷ i ∷ []) 16))
-      → Each P (numbered 4 0 (p .shape .chains) ++ numbered 5 0 (p .height))
-  all-values P value sibling =
-      each-append P (numbered 4 0 (p .shape .chains)) (numbered 5 0 (p .height)) (all-numbered P 4 0 (p .shape .chains) (λ i h. value i (omega arith)))
-      (all-numbered P 5 0 (p .height) (λ i h. sibling i (omega arith)))
-
-  pub frames-sized : Sized (frames p)
-  unfolding frames profileFrame
-  frames-sized = (refl, (refl, (refl, (refl, all-values (λ f. f .low ≡ f .high) (λ i h. refl) (λ i h. refl)))))
-
-  pub frames-total : total (frames p) ≡ signatureLength p
-  unfolding frames profileFrame signatureLength
-  frames-total =
-      omega (arith, total-append (numbered 4 0 (p .shape .chains)) (numbered 5 0 (p .height)), total-numbered 4 0 (p .shape .chains), total-numbered 5 0 (p .height))
-
-  pub profile-below : Within p → Below 256 (profileFrame p .head)
-  unfolding profileFrame
-  profile-below h zero = lit< tt
-  profile-below h (suc zero) = omega (arith, h .0 .few-chains)
-  profile-below h (suc (suc zero)) = omega (arith, h .0 .narrow)
-  profile-below h (suc (suc (suc zero))) = omega (arith, h .1)
-  profile-below h (suc (suc (suc (suc i)))) = below-append 256 (toBytes 2 (p .shape .sum)) (editionByte (p .edition)) (toBytes-lt 2 (p .shape .sum)) (edition-byte (Below 256) (p .edition) (below-by-test 256 (2 ∷ []) tt) (below-by-test 256 [] tt)) i
-
-  frames-bytes : Within p → Bytes (frames p)
-  unfolding frames profileFrame
-  frames-bytes h =
-      let head : (kind i : ℕ) → kind < 256 → i < 256 → Below 256 (kind ∷ i ∷ []) =
-      λ kind i small few. below-cons 256 kind (i ∷ []) small (below-cons 256 i [] few (λ j. lit< tt)) in
-      let values = all-values (λ f. Below 256 (f .head)) (λ i low. head 4 i (lit< tt) (omega (arith, h .0 .few-chains))) (λ i low. head 5 i (lit< tt) (omega (arith, h .1))) in
-      (below-by-test 256 (71 ∷ 79 ∷ 49 ∷ []) tt, (profile-below h, (below-by-test 256 (2 ∷ []) tt, (below-by-test 256 (3 ∷ []) tt, values))))
 
 pub exact : Exact
 unfolding readSheet sheetOf

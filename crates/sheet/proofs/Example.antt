@@ -7,8 +7,9 @@ use lib.ListN.{replicate, take, drop}
 use Rattle.words.specs.Bytes.{toBytes}
 use Rattle.hex.specs.Hex.{hexOf, hexDigit, digitOf, behind, lineEnd, lineOf, readLine}
 use Rattle.profile.specs.declared.Profile.{Profile}
-use Rattle.sheet.specs.Frames.{firstCharacters, editionByte, profileFrame, numbered, frames}
-use Rattle.sheet.specs.Sheet.{linesOf, sheetOf, wrongLine, read, without, within, readFrame, inFront, followed, ended, readFrames, readSheet}
+use Rattle.frames.specs.Frames.{firstCharacters, editionByte, profileFrame, numbered, frames}
+use Rattle.frames.specs.Lines.{linesOf, sheetOf, without, within, readFrame}
+use Rattle.sheet.specs.Sheet.{wrongLine, read, inFront, followed, ended, readFrames, readSheet}
 
 abbrev small : (edition : ℕ) → Profile
 small edition = record { shape = record { chains = 2; width = 3; sum = 259 }; height = 1; edition = edition }

@@ -1,8 +1,6 @@
 -- What the crate proves for others to cite: the right sheets are those that are read; and the laws of its functions.
 pub mod Exactness
 pub mod Example
-pub mod FrameLaws
-pub mod FrameNumbers
 pub mod OtherProfile
 pub mod ParserLaws
 pub mod PayloadLaws

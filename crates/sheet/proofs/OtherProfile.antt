@@ -15,10 +15,11 @@ use Rattle.profile.specs.declared.Profile.{Profile}
 use Rattle.profile.proofs.Limits.{profile-passed, profile-limits, sum-small}
 use Rattle.hex.specs.Hex.{Line, wrong, right, lineOf, readLine}
 use Rattle.hex.proofs.HexLaws.{read-line-of}
-use Rattle.sheet.specs.Frames.{firstFrame, editionByte, profileFrame, leafFrame, randomizerFrame, numbered, frames, textFrame}
-use Rattle.sheet.specs.Sheet.{linesOf, sheetOf, wrongLine, readFrame, inFront, followed, readFrames, readSheet, ProfileLine}
-use Rattle.sheet.proofs.FrameLaws.{frame-read, read-frame}
-use Rattle.sheet.proofs.Exactness.{profile-below}
+use Rattle.frames.specs.Frames.{firstFrame, editionByte, profileFrame, leafFrame, randomizerFrame, numbered, frames, textFrame}
+use Rattle.frames.specs.Lines.{linesOf, sheetOf, readFrame}
+use Rattle.frames.proofs.FrameLaws.{frame-read, read-frame}
+use Rattle.frames.proofs.FrameList.{profile-below}
+use Rattle.sheet.specs.Sheet.{wrongLine, inFront, followed, readFrames, readSheet, ProfileLine}
 
 -- the first line is read, and the next is looked at
 first-read : (rest : List ℕ) → readFrame firstFrame (lineOf (firstFrame .head) ++ rest) ≡ right [] rest

@@ -16,10 +16,11 @@ use Rattle.hex.specs.Hex.{Line, wrong, right, behind, lineEnd, readLine}
 use Rattle.hex.specs.Digits.{byteAt}
 use Rattle.hex.specs.declared.Digits.the-variants as digits
 use Rattle.hex.proofs.Reading.{line-ends, line-byte, line-wrong}
-use Rattle.sheet.specs.Frames.{Frame, framed}
-use Rattle.sheet.specs.Sheet.{without, within, readFrame}
-use Rattle.sheet.specs.Reader.{HasSize, foundOf, stepOf}
-use Rattle.sheet.specs.declared.frames.Size.{Size}
+use Rattle.frames.specs.Frames.{Frame, framed}
+use Rattle.frames.specs.Lines.{without, within, readFrame}
+use Rattle.frames.specs.Size.{HasSize}
+use Rattle.frames.specs.declared.Size.{Size}
+use Rattle.sheet.specs.Reader.{foundOf, stepOf}
 use Rattle.sheet.specs.declared.frame.Found.{Found}
 use Rattle.sheet.specs.declared.frame.Found.the-variants as found
 use Rattle.sheet.specs.declared.frame.Step.the-variants as step

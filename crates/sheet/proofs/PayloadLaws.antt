@@ -15,11 +15,13 @@ use Rattle.hex.specs.Digits.{byteAt}
 use Rattle.hex.specs.declared.Digits.the-variants.{Byte}
 use Rattle.hex.proofs.HexLaws.{digit-hex, length-hexOf, hexOf-append}
 use Rattle.hex.proofs.Reading.{byte-right}
-use Rattle.sheet.specs.Frames.{Frame, frames, textFrame}
-use Rattle.sheet.specs.Sheet.{linesOf}
-use Rattle.sheet.specs.Payload.{byteOr, bytesIn, behindFrame, behindAll, payloads}
-use Rattle.sheet.proofs.FrameLaws.{line-behind, line-within}
-use Rattle.sheet.proofs.Exactness.{total, Apart}
+use Rattle.frames.specs.Frames.{Frame, frames, textFrame}
+use Rattle.frames.specs.Lines.{linesOf}
+use Rattle.frames.specs.Lines.{behindFrame, behindAll}
+use Rattle.frames.proofs.FrameLaws.{line-behind, line-within}
+use Rattle.frames.proofs.FrameList.{total}
+use Rattle.sheet.specs.Payload.{byteOr, bytesIn, payloads}
+use Rattle.sheet.proofs.Exactness.{Apart}
 
 length-bytesIn : (sheet : List ℕ) (at n : ℕ) → length (bytesIn sheet at n) ≡ n
 unfolding bytesIn

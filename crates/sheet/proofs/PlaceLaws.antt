@@ -12,13 +12,14 @@ use Rattle.words.proofs.Lists.{below-by-test}
 use Rattle.hex.specs.Hex.{hexDigit, hexOf, lineEnd, Line, wrong, right, lineOf}
 use Rattle.hex.proofs.Reading.{ending-within}
 use Rattle.profile.specs.declared.Profile.{Profile}
-use Rattle.sheet.specs.Frames.{Frame, firstCharacters, firstFrame, frames, textFrame, frameAt}
-use Rattle.sheet.specs.Sheet.{Reading, wrongLine, read, readFrame, inFront, followed, ended, readFrames, readSheet}
+use Rattle.frames.specs.Frames.{Frame, firstCharacters, firstFrame, frames, textFrame, frameAt}
+use Rattle.frames.specs.Lines.{readFrame}
+use Rattle.frames.proofs.FrameLaws.{frame-read, read-frame, line-behind, line-within}
+use Rattle.sheet.specs.Sheet.{Reading, wrongLine, read, inFront, followed, ended, readFrames, readSheet}
 use Rattle.sheet.specs.Operation.{lineIn, textIn}
 use Rattle.sheet.specs.Reader.{stepOf, start, Stands, behindLine, taken, readAt, judgement}
 use Rattle.sheet.specs.declared.frame.Step.the-variants as step
 use Rattle.sheet.specs.declared.place.Place.{Place}
-use Rattle.sheet.proofs.FrameLaws.{frame-read, read-frame, line-behind, line-within}
 
 judgement-front : (bytes : List ℕ) (r : Reading) → judgement (inFront bytes r) ≡ judgement r
 unfolding judgement lineIn textIn inFront

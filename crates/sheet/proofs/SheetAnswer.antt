@@ -17,12 +17,15 @@ use Rattle.profile.specs.declared.Profile.{Profile}
 use Rattle.profile.proofs.Limits.{profile-numbered, profile-without}
 use Rattle.hex.specs.Hex.{Line, wrong, right}
 use Rattle.message.specs.Message.{signatureLength}
-use Rattle.sheet.specs.Frames.{Within, Frame, frames, textFrame}
-use Rattle.sheet.specs.Sheet.{Reading, wrongLine, read, readFrame, inFront, followed, ended, readFrames, readSheet}
+use Rattle.frames.specs.Frames.{Within, Frame, frames, textFrame}
+use Rattle.frames.specs.Lines.{readFrame}
+use Rattle.frames.specs.Lines.{behindAll}
+use Rattle.frames.proofs.FrameList.{frames-sized}
+use Rattle.frames.proofs.FrameNumbers.{length-frames}
+use Rattle.sheet.specs.Sheet.{Reading, wrongLine, read, inFront, followed, ended, readFrames, readSheet}
 use Rattle.sheet.specs.Operation.{lineIn, signatureIn, textIn, isWrong, sheetCauses, sheetCode, ReadsSheet}
-use Rattle.sheet.specs.Payload.{bytesIn, behindAll, payloads}
-use Rattle.sheet.proofs.Exactness.{Apart, read-lines, frames-sized}
-use Rattle.sheet.proofs.FrameNumbers.{length-frames}
+use Rattle.sheet.specs.Payload.{bytesIn, payloads}
+use Rattle.sheet.proofs.Exactness.{Apart, read-lines}
 use Rattle.sheet.proofs.PayloadLaws.{signature-here, text-here}
 
 -- a sheet that is read, with so long a text

@@ -5,7 +5,8 @@ use lib.ListN.{length}
 use Rattle.hex.specs.Digits.{byteAt}
 use Rattle.hex.specs.declared.Digits.{Digits}
 use Rattle.hex.specs.declared.Digits.the-variants.{Wrong, Byte}
-use Rattle.sheet.specs.Frames.{Frame}
+use Rattle.frames.specs.Frames.{Frame}
+use Rattle.frames.specs.Lines.{behindFrame}
 
 -- the byte that two characters are; 0 where they are none
 unfoldable pub byteOr : Digits → ℕ
@@ -16,15 +17,6 @@ byteOr (Byte b) = b
 unfoldable pub bytesIn : (sheet : List ℕ) (at n : ℕ) → List ℕ
 bytesIn sheet at zero = []
 bytesIn sheet at (suc n) = byteOr (byteAt sheet at) ∷ bytesIn sheet (at + 2) n
-
--- the place behind a frame's line that begins at `at`
-abbrev pub behindFrame : (at : ℕ) → Frame → ℕ
-behindFrame at f = at + 2 * (length (f .head) + f .high) + 1
-
--- the place behind the lines of frames
-unfoldable pub behindAll : (at : ℕ) → List Frame → ℕ
-behindAll at [] = at
-behindAll at (f ∷ fs) = behindAll (behindFrame at f) fs
 
 -- the bytes behind the fixed ones, frame after frame
 unfoldable pub payloads : (sheet : List ℕ) (at : ℕ) → List Frame → List ℕ

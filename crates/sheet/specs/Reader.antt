@@ -1,29 +1,20 @@
 -- What the inner steps of the reader answer: "The reader takes the sheet frame after frame, each call picking up behind the last".
-use mathlib.Core.Path.{_≡_}
 use mathlib.Core.Bool.{true, false, cond}
 use mathlib.Core.List.{List}
 use Prim.Native.Nat.{ℕ, _+_, _*_, _≤_}
 use lib.Dec.{leb}
 use lib.ListN.{length, drop}
 use Rattle.hex.specs.Hex.{Line, wrong, right}
-use Rattle.sheet.specs.Frames.{Frame}
-use Rattle.sheet.specs.Sheet.{Reading, wrongLine, readFrame, readFrames}
+use Rattle.frames.specs.Frames.{Frame}
+use Rattle.frames.specs.Lines.{readFrame}
+use Rattle.sheet.specs.Sheet.{Reading, wrongLine, readFrames}
 use Rattle.sheet.specs.Operation.{lineIn, textIn}
-use Rattle.sheet.specs.declared.frames.Size.{Size}
 use Rattle.sheet.specs.declared.frame.Found.{Found}
 use Rattle.sheet.specs.declared.frame.Found.the-variants as found
 use Rattle.sheet.specs.declared.frame.Step.{Step}
 use Rattle.sheet.specs.declared.frame.Step.the-variants as step
 use Rattle.sheet.specs.declared.place.Place.{Place}
 use Rattle.sheet.specs.declared.judge.Judged.{Judged}
-
--- how many bytes a frame has: the fixed ones, and behind them
-pub record HasSize (f : Frame) (r : Size) : Type 0 where
-  pub fixed : r .fixed ≡ length (f .head)
-  pub low : r .low ≡ f .low
-  pub high : r .high ≡ f .high
-  pub few : r .fixed ≤ 7
-  pub short : r .high ≤ 200
 
 -- how many bytes a line has, where they are at most so many
 unfoldable pub foundOf : (most : ℕ) → Line → Found

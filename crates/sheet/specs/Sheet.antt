@@ -1,48 +1,22 @@
--- Document 01, Sheet and Read sheet: the right sheet of a signature and a text, and what any bytes are read as.
+-- Document 01, Read sheet: what any bytes are read as, and that these are the right sheets.
 use mathlib.Core.Path.{_≡_}
-use mathlib.Core.Bool.{cond}
 use mathlib.Core.Logic.{_↔_}
 use mathlib.Core.List.{List, [], _∷_, _++_}
 use Prim.Native.Nat.{ℕ, suc, _≤_, _<_}
-use lib.Dec.{eqb}
-use lib.ListN.{length, getD, take, drop}
+use lib.ListN.{length, getD}
 use Rattle.refusal.specs.Code.{firstCause}
-use Rattle.hex.specs.Hex.{Line, wrong, right, lineOf, readLine}
+use Rattle.hex.specs.Hex.{Line, wrong, right, lineOf}
 use Rattle.message.specs.Message.{signatureLength}
-use Rattle.profile.specs.Checks.{outside, profileCauses}
+use Rattle.profile.specs.Checks.{profileCauses}
 use Rattle.profile.specs.declared.Profile.{Profile}
-use Rattle.sheet.specs.Frames.{Within, Frame, firstFrame, profileFrame, frames, textFrame}
-
--- the lines of frames, with the bytes behind the fixed ones taken from the front of `bytes`
-unfoldable pub linesOf : List Frame → (bytes : List ℕ) → List ℕ
-linesOf [] bytes = []
-linesOf (f ∷ fs) bytes = lineOf (f .head ++ take (f .high) bytes) ++ linesOf fs (drop (f .high) bytes)
-
--- the right sheet: the signature's bytes, in their order, through the frames, and then the text
-unfoldable pub sheetOf : Profile → (signature text : List ℕ) → List ℕ
-sheetOf p signature text = linesOf (frames p) signature ++ lineOf (textFrame .head ++ text)
+use Rattle.frames.specs.Frames.{Within, Frame, firstFrame, profileFrame, frames, textFrame}
+use Rattle.frames.specs.Lines.{sheetOf, readFrame}
 
 -- what a sheet is read as
 pub data Reading : Type 0 where
   -- "the number, from 1, of the first line that is wrong or missing, or stands after the last frame"
   wrongLine : (line : ℕ) → Reading
   read : (signature text : List ℕ) → Reading
-
--- the bytes behind a head: "bad … kind, order, profile, chain or height" where the line begins otherwise
-unfoldable pub without : (head : List ℕ) → Line → Line
-without [] line = line
-without (h ∷ head) wrong = wrong
-without (h ∷ head) (right [] rest) = wrong
-without (h ∷ head) (right (b ∷ bytes) rest) = cond (eqb b h) (without head (right bytes rest)) wrong
-
--- "bad … length": fewer than `low` or more than `high` bytes
-unfoldable pub within : (low high : ℕ) → Line → Line
-within low high wrong = wrong
-within low high (right bytes rest) = cond (outside low high (length bytes)) wrong (right bytes rest)
-
--- the first line, as what stands in a frame behind its fixed bytes
-unfoldable pub readFrame : Frame → List ℕ → Line
-readFrame f sheet = within (f .low) (f .high) (without (f .head) (readLine sheet))
 
 -- bytes in front of a signature
 unfoldable pub inFront : List ℕ → Reading → Reading

@@ -1,14 +1,14 @@
 // A whole sheet, judged.
 ghost use mathlib.Core.Path.{_≡_};
 ghost use mathlib.Core.List.{[]};
-ghost use Rattle.sheet.specs.Frames.{Within};
+ghost use Rattle.frames.specs.Frames.{Within};
 ghost use Rattle.sheet.specs.Sheet.{readSheet};
 ghost use Rattle.sheet.specs.Reader.{Stands, readAt, judgement};
-use super::frames::frame_count;
-use super::frames::frame_size;
 use super::place::Place;
 use super::place::first_line;
 use super::reader::next_place;
+use frames::frame_count;
+use frames::frame_size;
 use profile::Profile;
 
 // How a sheet is judged: its first wrong line, 0 where none is, and else the length of its text.

@@ -5,7 +5,6 @@ ghost use Rattle.profile.specs.Checks.{profileCauses};
 ghost use Rattle.sheet.specs.Operation.{ReadsSheet};
 
 mod frame;
-mod frames;
 mod judge;
 mod payload;
 mod place;

@@ -3,11 +3,12 @@ ghost use mathlib.Core.Path.{_≡_};
 ghost use mathlib.Core.Bool.{true, false};
 ghost use Prim.Native.Nat.{_≤_};
 ghost use lib.ListN.{take};
-ghost use Rattle.sheet.specs.Frames.{Within, firstCharacters, firstFrame, frameAt};
+ghost use Rattle.frames.specs.Frames.{Within, firstFrame, frameAt};
 ghost use Rattle.sheet.specs.Reader.{start, Stands, taken};
 use super::frame::Step;
 use super::frame::ends_at;
 use super::frame::frame;
+use frames::first_characters;
 use profile::Profile;
 
 // Where the reader stands: at the index where the next line begins, with its number, or at the first line that is not right.
@@ -15,13 +16,6 @@ pub struct Place {
     pub at: usize,
     pub line: usize,
     pub right: bool,
-}
-
-// The six characters of the first line.
-pub fn first_characters() -> [u8; 6]
-    ensures { λ r. ⌜ r ≡ firstCharacters ⌝ }
-{
-    *b"474F31"
 }
 
 // Whether a sheet begins with six characters.

@@ -6,8 +6,8 @@ use borrow.Author.Needs.{needs}
 use denote.Ref.{now}
 use lib.ListN.{length, drop}
 use Rattle.hex.specs.Hex.{readLine}
-use Rattle.sheet.specs.Frames.{frameAt}
-use Rattle.sheet.specs.Sheet.{readFrame}
+use Rattle.frames.specs.Frames.{frameAt}
+use Rattle.frames.specs.Lines.{readFrame}
 use Rattle.sheet.specs.Reader.{stepOf}
 use Rattle.sheet.specs.declared.frame.Step.the-variants as step
 use Rattle.sheet.proofs.ParserLaws.{found-few, parsed-other, parsed-none, parsed-found}

@@ -5,7 +5,7 @@ use native.Mathlib.Omega.{arith}
 use borrow.Author.Needs.{needs}
 use denote.Ref.{now}
 use Rattle.hex.specs.declared.Digits.the-variants.{Byte}
-use Rattle.sheet.specs.Frames.{frameAt}
+use Rattle.frames.specs.Frames.{frameAt}
 use Rattle.sheet.proofs.ParserLaws.{HeadLeft, head-start, head-next, head-differs, head-ends, head-all}
 use Rattle.sheet.proofs.frame.head_stands.Statement.{statement}
 use Rattle.sheet.proofs.frame.head_stands.Tie as tie

@@ -5,9 +5,9 @@ use native.Mathlib.Omega.{arith}
 use borrow.Author.Needs.{needs}
 use denote.Ref.{now}
 use lib.ListN.{length}
-use Rattle.sheet.specs.Frames.{textFrame, frameAt}
+use Rattle.frames.specs.Frames.{textFrame, frameAt}
+use Rattle.frames.proofs.FrameNumbers.{length-frames, text-at}
 use Rattle.sheet.specs.Reader.{taken}
-use Rattle.sheet.proofs.FrameNumbers.{length-frames, text-at}
 use Rattle.sheet.proofs.PlaceLaws.{end-wrong, end-room, end-more, end-right}
 use Rattle.sheet.proofs.judge.judge.Statement.{statement}
 use Rattle.sheet.proofs.judge.judge.Tie as tie

@@ -3,7 +3,7 @@ use Prim.Native.Nat.{_-_, _≤_}
 use native.Mathlib.Omega.{arith}
 use borrow.Author.Needs.{needs}
 use denote.Ref.{now}
-use Rattle.sheet.proofs.FrameNumbers.{length-frames}
+use Rattle.frames.proofs.FrameNumbers.{length-frames}
 use Rattle.sheet.proofs.PlaceLaws.{Reached, reached-first, reached-next, reached-text}
 use Rattle.sheet.proofs.judge.take_frames.Statement.{statement}
 use Rattle.sheet.proofs.judge.take_frames.Tie as tie

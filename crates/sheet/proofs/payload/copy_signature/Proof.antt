@@ -2,15 +2,13 @@
 use mathlib.Core.Path.{_≡_}
 use mathlib.Core.List.{[], _∷_}
 use Prim.Native.Nat.{_+_, _-_, _*_, _≤_}
-use native.Mathlib.Numerals.{add-one}
 use native.Mathlib.Omega.{arith}
 use borrow.Author.Needs.{needs}
 use denote.Ref.{now}
 use lib.ListN.{length, drop, drop-of-length-le}
-use lib.Seq.{drop-cons}
-use Rattle.sheet.specs.Frames.{frames, textFrame, frameAt}
-use Rattle.sheet.proofs.Exactness.{frames-total}
-use Rattle.sheet.proofs.FrameNumbers.{length-frames}
+use Rattle.frames.specs.Frames.{frames, frameAt}
+use Rattle.frames.proofs.FrameList.{frames-total}
+use Rattle.frames.proofs.FrameNumbers.{frames-few, frames-cut}
 use Rattle.sheet.proofs.PayloadLaws.{Copying, copying-start, copying-next, copying-all}
 use Rattle.sheet.proofs.payload.copy_signature.Statement.{statement}
 use Rattle.sheet.proofs.payload.copy_signature.Tie as tie
@@ -27,16 +25,13 @@ left : (c : tie.After-frame-size Inv-loop μ-loop) → let l = c .before .before
     Copying (now (a .sheet)) (frames (a .p)) (now (a .signature)) (l .loop .signature) (l .loop .at) (l .loop .from) (frameAt (a .p) (l .loop .k) ∷ drop (l .loop .k + 1) (frames (a .p)))
 left c =
     let l = c .before .before in
-    let p = l .before .before .before .before .args .p in
-    let cut : drop (l .loop .k) (frames p) ≡ frameAt p (l .loop .k) ∷ drop (l .loop .k + 1) (frames p) =
-    rw add-one (drop-cons (frames p) (l .loop .k) textFrame (omega (arith, l .before .frame-count .ensures))) in
-    rw cut at (l .loop .inv .2)
+    rw (frames-cut (l .before .before .before .before .args .p) (l .loop .k) (omega (arith, l .before .frame-count .ensures))) at (l .loop .inv .2)
 
 small : (c : tie.After-frame-size Inv-loop μ-loop) → c .before .before .loop .k ≤ 54
 small c =
     let l = c .before .before in
     let s = l .before .before .before .before in
-    omega (arith, length-frames (s .args .p), s .pre .0 .0 .few-chains, s .pre .0 .1, l .loop .inv .0)
+    omega (arith, frames-few (s .args .p) (s .pre .0), l .loop .inv .0)
 
 room : (c : tie.After-frame-size Inv-loop μ-loop) → c .before .before .loop .from + c .frame-size .result .high ≤ length (c .before .before .loop .signature)
 room c =

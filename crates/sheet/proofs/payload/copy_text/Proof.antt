@@ -4,8 +4,8 @@ use native.Mathlib.Nat.{zero-add}
 use native.Mathlib.Omega.{arith}
 use borrow.Author.Needs.{needs}
 use lib.ListN.{length}
-use Rattle.sheet.specs.Frames.{textFrame}
-use Rattle.sheet.proofs.FrameNumbers.{text-at}
+use Rattle.frames.specs.Frames.{textFrame}
+use Rattle.frames.proofs.FrameNumbers.{text-at}
 use Rattle.sheet.proofs.payload.copy_text.Statement.{statement}
 use Rattle.sheet.proofs.payload.copy_text.Tie as tie
 

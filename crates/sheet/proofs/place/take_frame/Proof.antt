@@ -2,7 +2,7 @@
 use mathlib.Core.Path.{sym, _∙_}
 use borrow.Author.Needs.{needs}
 use denote.Ref.{now}
-use Rattle.sheet.specs.Frames.{frameAt}
+use Rattle.frames.specs.Frames.{frameAt}
 use Rattle.sheet.proofs.PlaceLaws.{taken-wrong, taken-next, taken-kept}
 use Rattle.sheet.proofs.place.take_frame.Statement.{statement}
 use Rattle.sheet.proofs.place.take_frame.Tie as tie

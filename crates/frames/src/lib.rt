@@ -1,0 +1,135 @@
+// The frames of a profile's sheet, numbered from 0: how many bytes each has, and its fixed ones. The reader and the writer
+// take them from here.
+ghost use mathlib.Core.Path.{_≡_};
+ghost use mathlib.Core.List.{[], _∷_, _++_};
+ghost use Prim.Native.Nat.{_+_, _≤_, _<_};
+ghost use lib.ListN.{length, getD};
+ghost use Rattle.words.specs.Bytes.{toBytes};
+ghost use Rattle.frames.specs.Frames.{Within, firstCharacters, editionByte, frames, frameAt};
+ghost use Rattle.frames.specs.Lines.{behindAll};
+ghost use Rattle.frames.specs.Size.{HasSize};
+use profile::Profile;
+
+// How many bytes a frame has: the fixed ones, and behind them at least and at most so many.
+pub struct Size {
+    pub fixed: usize,
+    pub low: usize,
+    pub high: usize,
+}
+
+// The size of a frame with so many bytes behind the fixed ones.
+fn sized(fixed: usize, payload: usize) -> Size
+    ensures { λ r. ⌜ (r .fixed ≡ fixed) × (r .low ≡ payload) × (r .high ≡ payload) ⌝ }
+{
+    Size {
+        fixed,
+        low: payload,
+        high: payload,
+    }
+}
+
+// The six characters of the first line.
+pub fn first_characters() -> [u8; 6]
+    ensures { λ r. ⌜ r ≡ firstCharacters ⌝ }
+{
+    *b"474F31"
+}
+
+// How many frames stand in front of the text, the first line among them.
+pub fn frame_count(p: Profile) -> usize
+    ensures { λ r. ⌜ r ≡ length (frames p) ⌝ }
+{
+    let shape = p.shape;
+    4 + shape.chains as usize + p.height as usize
+}
+
+// How many bytes the profile's frame has: one more in edition 2.
+fn profile_bytes(edition: u32) -> usize
+    ensures { λ n. ⌜ n ≡ 6 + length (editionByte edition) ⌝ }
+{
+    if edition == 2 { 7 } else { 6 }
+}
+
+// How many bytes the lines in front of the text have: of 3 bytes, the profile's, 5, 17, and 18 for each value and sibling.
+pub fn lines_length(p: Profile) -> usize
+    ensures { λ n. ⌜ n ≡ behindAll 0 (frames p) ⌝ }
+{
+    let shape = p.shape;
+    let edition = p.edition;
+    54 + 2 * profile_bytes(edition) + 37 * (shape.chains as usize + p.height as usize)
+}
+
+// The size of frame k: the first line, the profile, the leaf, R, values and siblings, and behind them the text.
+pub fn frame_size(p: Profile, k: usize) -> Size
+    ensures { λ r. ⌜ HasSize (frameAt p k) r ⌝ }
+{
+    let count = frame_count(p);
+    let edition = p.edition;
+    match k {
+        0 => sized(3, 0),
+        1 => sized(profile_bytes(edition), 0),
+        2 => sized(1, 4),
+        3 => sized(1, 16),
+        _ => {
+            if k < count {
+                sized(2, 16)
+            } else {
+                Size {
+                    fixed: 1,
+                    low: 1,
+                    high: 200,
+                }
+            }
+        }
+    }
+}
+
+// The fixed bytes of the profile's frame, as in edition 2: in edition 1 the last is left out.
+fn profile_head(p: Profile) -> [u8; 7]
+    requires { ⌜ Within p ⌝ }
+    ensures { λ r. ⌜ r ≡ 1 ∷ p .shape .chains ∷ p .shape .width ∷ p .height ∷ (toBytes 2 (p .shape .sum) ++ editionByte 2) ⌝ }
+{
+    let shape = p.shape;
+    let sum = shape.sum;
+    [
+        1,
+        shape.chains as u8,
+        shape.width as u8,
+        p.height as u8,
+        (sum / 256) as u8,
+        (sum % 256) as u8,
+        2,
+    ]
+}
+
+// Byte i of a head of a kind and a number.
+fn numbered_byte(kind: u8, number: usize, i: usize) -> u8
+    requires { ⌜ (number < 256) × (i < 2) ⌝ }
+    ensures { λ r. ⌜ r ≡ getD (kind ∷ number ∷ []) i 0 ⌝ }
+{
+    if i == 0 { kind } else { number as u8 }
+}
+
+// Byte i of the fixed ones of frame k, behind the first line. The kinds 02 and 03 stand in the frames of these numbers.
+pub fn head_byte(p: Profile, k: usize, i: usize) -> u8
+    requires { ⌜ Within p × (1 ≤ k) × (i < length (frameAt p k .head)) ⌝ }
+    ensures { λ r. ⌜ r ≡ getD (frameAt p k .head) i 0 ⌝ }
+{
+    let shape = p.shape;
+    let values = 4 + shape.chains as usize;
+    let count = frame_count(p);
+    if k == 1 {
+        let head = profile_head(p);
+        return head[i];
+    }
+    if k < 4 {
+        return k as u8;
+    }
+    if k < values {
+        return numbered_byte(4, k - 4, i);
+    }
+    if k < count {
+        return numbered_byte(5, k - values, i);
+    }
+    6
+}
