@@ -11,5 +11,6 @@ pub mod LeafLaws
 pub mod Made
 pub mod OrdersProved
 pub mod ReadBack
+pub mod Sheets
 pub mod Source
 pub mod SymmetricChains

@@ -11,4 +11,5 @@ pub mod Largest
 pub mod OneTime
 pub mod Orders
 pub mod Rows
+pub mod Sheets
 pub mod Trial

@@ -17,6 +17,7 @@ ghost use Rattle.claims.specs.Judged.{JudgedByRoot};
 ghost use Rattle.claims.specs.Largest.{LargestCode};
 ghost use Rattle.claims.specs.OneTime.{RecoversRevealed, ClimbsToRoot};
 ghost use Rattle.claims.specs.Rows.{Ordered, RankExact};
+ghost use Rattle.claims.specs.Sheets.{WrittenIsRead, ReadIsWritten};
 ghost use Rattle.claims.specs.Trial.{TrialValues};
 
 // Demand 3.
@@ -123,6 +124,14 @@ pub fn sheets_exact()
 
 pub fn profile_line()
     ensures { λ _. ⌜ ProfileLine ⌝ }
+{}
+
+pub fn written_is_read()
+    ensures { λ _. ⌜ WrittenIsRead ⌝ }
+{}
+
+pub fn read_is_written()
+    ensures { λ _. ⌜ ReadIsWritten ⌝ }
 {}
 
 pub fn first_eleven()

@@ -13,7 +13,8 @@ use Rattle.words.proofs.Pairs.{Each, each-append}
 use Rattle.profile.specs.declared.Profile.{Profile}
 use Rattle.message.specs.Message.{signatureLength}
 use Rattle.frames.specs.Frames.{Within, Frame, sized, firstFrame, editionByte, profileFrame, leafFrame, randomizerFrame, numbered, frames}
-use Rattle.frames.specs.Lines.{frameLine, linesOf, behindFrame, behindAll}
+use Rattle.frames.specs.Lines.{frameLine, linesOf}
+use Rattle.frames.specs.Size.{behindFrame, behindAll}
 use Rattle.frames.proofs.FrameLaws.{line-long}
 use Rattle.frames.proofs.FrameNumbers.{edition-byte, profile-long}
 

@@ -1,7 +1,7 @@
 -- Document 01, Sheet: a frame as a line, the right sheet of a signature and a text, and what one line is read as.
 use mathlib.Core.Bool.{cond}
 use mathlib.Core.List.{List, [], _∷_, _++_}
-use Prim.Native.Nat.{ℕ, _+_, _*_}
+use Prim.Native.Nat.{ℕ}
 use lib.Dec.{eqb}
 use lib.ListN.{length, take, drop}
 use Rattle.hex.specs.Hex.{Line, wrong, right, lineOf, readLine}
@@ -21,15 +21,6 @@ linesOf (f ∷ fs) bytes = frameLine f (take (f .high) bytes) ++ linesOf fs (dro
 -- the right sheet: the signature's bytes, in their order, through the frames, and then the text
 unfoldable pub sheetOf : Profile → (signature text : List ℕ) → List ℕ
 sheetOf p signature text = linesOf (frames p) signature ++ frameLine textFrame text
-
--- the place behind a frame's line that begins at `at`
-abbrev pub behindFrame : (at : ℕ) → Frame → ℕ
-behindFrame at f = at + 2 * (length (f .head) + f .high) + 1
-
--- the place behind the lines of frames
-unfoldable pub behindAll : (at : ℕ) → List Frame → ℕ
-behindAll at [] = at
-behindAll at (f ∷ fs) = behindAll (behindFrame at f) fs
 
 -- the bytes behind a head: "bad … kind, order, profile, chain or height" where the line begins otherwise
 unfoldable pub without : (head : List ℕ) → Line → Line

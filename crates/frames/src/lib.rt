@@ -6,8 +6,7 @@ ghost use Prim.Native.Nat.{_+_, _≤_, _<_};
 ghost use lib.ListN.{length, getD};
 ghost use Rattle.words.specs.Bytes.{toBytes};
 ghost use Rattle.frames.specs.Frames.{Within, firstCharacters, editionByte, frames, frameAt};
-ghost use Rattle.frames.specs.Lines.{behindAll};
-ghost use Rattle.frames.specs.Size.{HasSize};
+ghost use Rattle.frames.specs.Size.{HasSize, behindAll};
 use profile::Profile;
 
 // How many bytes a frame has: the fixed ones, and behind them at least and at most so many.
@@ -50,7 +49,8 @@ fn profile_bytes(edition: u32) -> usize
     if edition == 2 { 7 } else { 6 }
 }
 
-// How many bytes the lines in front of the text have: of 3 bytes, the profile's, 5, 17, and 18 for each value and sibling.
+// How many bytes the lines in front of the text have. A line of n bytes has 2 n + 1; n is 3 for the first, then the
+// profile's, 5 for the leaf, 17 for R, and 18 for each value and sibling.
 pub fn lines_length(p: Profile) -> usize
     ensures { λ n. ⌜ n ≡ behindAll 0 (frames p) ⌝ }
 {

@@ -6,7 +6,7 @@ ghost use lib.ListN.{length, take, drop};
 ghost use Rattle.hex.specs.Digits.{byteAt};
 ghost use Rattle.message.specs.Message.{signatureLength};
 ghost use Rattle.frames.specs.Frames.{Within, frames, textFrame};
-ghost use Rattle.frames.specs.Lines.{behindAll};
+ghost use Rattle.frames.specs.Size.{behindAll};
 ghost use Rattle.sheet.specs.Payload.{byteOr, bytesIn, payloads};
 use frames::frame_count;
 use frames::frame_size;

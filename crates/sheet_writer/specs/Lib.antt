@@ -1,0 +1,2 @@
+-- Write sheet.
+pub mod Writing
