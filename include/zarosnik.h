@@ -22,13 +22,13 @@
  *     function. Those numbers are enum zarosnik_outcome.
  *   - l, w, s, h and edition may be any uint32_t. Nothing of them is ever cut: a value outside its range is refused by
  *     its number, 1 to 4 or 22.
- *   - An answer (digest, number, order, looked, key, root, steps, message_written, line) is written by every call: the
- *     value where granted, zero where refused. Two differ: steps of zarosnik_verify after 15, line of
+ *   - An answer (digest, number, order, looked, key, root, steps, message_written, line, sheet_written) is written by
+ *     every call: the value where granted, zero where refused. Two differ: steps of zarosnik_verify after 15, line of
  *     zarosnik_read_sheet after 17.
  *   - A state (next_leaf; highest_leaf and marks) changes only where the call is granted.
- *   - A lent slice (table, row, values, signature, message) is untouched by a refusal, except that 7, 15 and 19 leave
- *     the table of counts in the work slice `table`, as every granted call with a work slice does. What lies past the
- *     length that is named with the function never changes.
+ *   - A lent slice (table, row, values, signature, message, sheet) is untouched by a refusal, except that 7, 15 and 19
+ *     leave the table of counts in the work slice `table`, as every granted call with a work slice does. What lies past
+ *     the length that is named with the function never changes.
  *
  * What the caller keeps and draws:
  *
@@ -69,10 +69,10 @@
  */
 #define ZAROSNIK_VERSION_MAJOR 0
 #define ZAROSNIK_VERSION_MINOR 4
-#define ZAROSNIK_VERSION_PATCH 0
+#define ZAROSNIK_VERSION_PATCH 1
 #define ZAROSNIK_VERSION \
     (ZAROSNIK_VERSION_MAJOR * 1000000 + ZAROSNIK_VERSION_MINOR * 1000 + ZAROSNIK_VERSION_PATCH)
-#define ZAROSNIK_VERSION_STRING "0.4.0"
+#define ZAROSNIK_VERSION_STRING "0.4.1"
 
 /* The compiler warns where the outcome of a call is not looked at: an order must not be carried out, nor a signature
  * handed out, without it. */
@@ -448,6 +448,29 @@ ZAROSNIK_NODISCARD
 uint32_t zarosnik_read_sheet(uint32_t l, uint32_t w, uint32_t s, uint32_t h, uint32_t edition,
                              const uint8_t *sheet, size_t sheet_len, uint8_t *signature, size_t signature_len,
                              uint8_t *message, size_t message_len, size_t *message_written, uint32_t *line);
+
+/*
+ * Write sheet: a signature and its order text as a sheet. For the same profile, zarosnik_read_sheet takes it and gives
+ * the same signature and text. Any signature of the right length is written, whatever its leaf: 11 is not tested, and
+ * the order is judged by zarosnik_verify.
+ *
+ *   l, w, s, h, edition        in: the profile
+ *   signature, signature_len   in: the signature, ZAROSNIK_SIGNATURE_BYTES(l, h) bytes
+ *   message, message_len       in: the order text
+ *   sheet, sheet_len           output slice of at least ZAROSNIK_SHEET_BYTES(l, h, edition, message_len) bytes;
+ *                              ZAROSNIK_SHEET_BYTES_MAX bytes are always enough
+ *   sheet_written              answer: the number of bytes written, ZAROSNIK_SHEET_BYTES(l, h, edition, message_len)
+ *
+ * Refusals: 1, 2, 3, 4, 22; 16 text empty or over 200 bytes; 13 signature_len other than 20 + 16 * l + 16 * h; 6
+ * sheet_len under ZAROSNIK_SHEET_BYTES(l, h, edition, message_len).
+ * Granted: the sheet stands in the first sheet_written bytes of sheet. No zero byte is written behind them.
+ * Refused: sheet is untouched.
+ */
+ZAROSNIK_NODISCARD
+uint32_t zarosnik_write_sheet(uint32_t l, uint32_t w, uint32_t s, uint32_t h, uint32_t edition,
+                              const uint8_t *signature, size_t signature_len,
+                              const uint8_t *message, size_t message_len,
+                              uint8_t *sheet, size_t sheet_len, size_t *sheet_written);
 
 #ifdef __cplusplus
 }

@@ -149,6 +149,16 @@ static inline uint32_t zarosnik_profile_read_sheet(struct zarosnik_profile profi
                                signature, signature_len, message, message_len, message_written, line);
 }
 
+/* Write sheet. */
+ZAROSNIK_NODISCARD
+static inline uint32_t zarosnik_profile_write_sheet(struct zarosnik_profile profile, const uint8_t *signature,
+                                                    size_t signature_len, const uint8_t *message, size_t message_len,
+                                                    uint8_t *sheet, size_t sheet_len, size_t *sheet_written)
+{
+    return zarosnik_write_sheet(profile.l, profile.w, profile.s, profile.h, profile.edition, signature, signature_len,
+                                message, message_len, sheet, sheet_len, sheet_written);
+}
+
 /* Recover. */
 ZAROSNIK_NODISCARD
 static inline uint32_t zarosnik_profile_one_time_recover(struct zarosnik_profile profile,

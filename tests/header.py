@@ -45,6 +45,7 @@ NAMES = {
     "next": "next_leaf",
     "highest": "highest_leaf",
     "written": "message_written",
+    "length": "sheet_written",
 }
 NO_OUTCOME = "not an outcome of this library"
 # The columns of the page's tables.

@@ -15,9 +15,13 @@ words below being alike or in either order, orders signed and taken at every hei
 by tests/shapes.py, with every number of bits from 8 to 128, at the nearest counts on both sides of
 each power of two, both shapes of 255 being refused; orders of earlier days, taken where numbers
 have 128 bits as then, and refused where they have fewer; by tests/windows.py, each way in which a
-leaf can stand to the highest leaf and the marks, taken or refused by 14; and, by tests/editions.py,
-each operation granted in both editions and refused for numbers that are none, orders signed in the
-other edition, and sheets with the other edition's frame 01 and with others.
+leaf can stand to the highest leaf and the marks, taken or refused by 14; by tests/editions.py, each
+operation granted in both editions and refused for numbers that are none, orders signed in the other
+edition, and sheets with the other edition's frame 01 and with others; and, by
+tests/written_sheets.py, in both editions sheets written for texts of every length, and refused for
+those just outside the limits, with the sheet's slice a byte too short, just long enough and a byte
+longer and the signature a byte too short and too long, sheets read back for every length, and
+leaves that a tree has not.
 """
 
 import itertools
@@ -32,13 +36,14 @@ import editions
 import shapes
 import signatures
 import windows
+import written_sheets
 from archived import archive_of, archive_parser, shared_object
 from interface_calls import EDITED, LENT, STATES, load
 from interface_cases import case, subsets, wide_numbers
 from interface_inputs import CAUSES
 from interface_memory import unguarded
 
-COUNT = 12000
+COUNT = 16000
 PROGRESS_SECONDS = 5
 # The implementation keeps what it has hashed. After so many cases it is let go.
 CASES_KEPT = 500
@@ -52,10 +57,11 @@ class Met:
     """What has come up: the answers of each operation, the causes told and those behind them, wide
     numbers of the profile, slices longer than they must be and states other than 0 with each
     answer, the kinds of numbers compared, the editions with the answers there, what stood behind s
-    in frame 01 with the wrong line, and, of orders, the heights of trees under which they were
-    signed and taken, the shapes with the answers there, the answers to earlier ones, the editions
-    that refused one of the other, and how the leaf stood to the verifier's where it was taken or
-    passed."""
+    in frame 01 with the wrong line, of sheets the kinds written, with the answers, the leaves
+    written, and the texts of those read back, and, of orders, the heights of trees under which they
+    were signed and taken, the shapes with the answers there, the answers to earlier ones, the
+    editions that refused one of the other, and how the leaf stood to the verifier's where it was
+    taken or passed."""
 
     def __init__(self):
         self.outcomes = Counter()
@@ -69,6 +75,9 @@ class Met:
         self.windows = set()
         self.editions = {operation: set() for operation in EDITED}
         self.sheets = set()
+        self.written = set()
+        self.leaves_written = set()
+        self.read_back = set()
         self.crossed = set()
 
     def add(self, call):
@@ -92,16 +101,29 @@ class Met:
             self.earlier.add(outcome)
         if operation in EDITED:
             self.editions[operation].add((arguments["edition"], outcome))
-        if operation == "read_sheet" and outcome in (0, 17):
-            p = signatures.Profile(*(arguments[name] for name in signatures.Profile._fields))
-            found = editions.last_of(p, arguments["sheet"].before)
-            self.sheets.add((p.edition, found, arguments["line"].after_words()[0]))
+        if operation in ("read_sheet", "write_sheet"):
+            self.add_sheet(call)
         if call.crossed:
             self.crossed.add((arguments["edition"], outcome))
         if operation == "verify" and outcome in (0, 14):
             window = [arguments[name].words()[0] for name in STATES["verify"]]
             leaf = int.from_bytes(arguments["signature"].before[:4], "big")
             self.windows |= {(kind, outcome) for kind in windows.kinds(*window, leaf)}
+
+    def add_sheet(self, call):
+        operation, outcome, arguments = call.operation, call.outcome, call.arguments
+        p = signatures.Profile(*(arguments[name] for name in signatures.Profile._fields))
+        if operation == "read_sheet" and outcome in (0, 17):
+            found = editions.last_of(p, arguments["sheet"].before)
+            self.sheets.add((p.edition, found, arguments["line"].after_words()[0]))
+        if call.written:
+            self.read_back.add((p.edition, len(arguments["message"].after)))
+        if operation == "write_sheet" and outcome in (0, 16, 13, 6):
+            sizes = (arguments[name].length for name in ("signature", "message", "sheet"))
+            self.written.add((written_sheets.kind(p, *sizes), outcome))
+        if operation == "write_sheet" and outcome == 0:
+            leaf = int.from_bytes(arguments["signature"].before[:4], "big")
+            self.leaves_written |= written_sheets.leaf_kinds(p, leaf)
 
     def calls(self):
         return self.outcomes.total()
@@ -134,6 +156,13 @@ class Met:
                 yield f"{operation} has never answered {answer}"
         for line in editions.missing_lines(self.sheets):
             yield f"read_sheet has never told {line}"
+        for kind in written_sheets.missing_kinds(self.written):
+            yield f"write_sheet has never answered {kind}"
+        for leaf in written_sheets.missing_leaves(self.leaves_written):
+            yield f"write_sheet has never written {leaf}"
+        for number, size in itertools.product(signatures.EDITIONS, written_sheets.RIGHT_TEXTS):
+            if (number, size) not in self.read_back:
+                yield f"no written sheet has been read with text length {size} in edition {number}"
         for number in signatures.EDITIONS:
             if (number, 15) not in self.crossed:
                 yield f"verify has never answered 15 in edition {number} to the other's order"

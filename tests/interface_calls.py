@@ -29,6 +29,7 @@ PROTOTYPES = {
     "verify": "l w s h edition &public_seed &root highest_leaf marks"
     " &message[] &signature[] table[] steps",
     "read_sheet": "l w s h edition &sheet[] signature[] message[] message_written line",
+    "write_sheet": "l w s h edition &signature[] &message[] sheet[] sheet_written",
 }
 # The operations that a profile's edition is for.
 EDITED = [name for name, parameters in PROTOTYPES.items() if "edition" in parameters.split()]
@@ -46,6 +47,7 @@ LENT = {
     "sign": {"table": 5, "signature": 6},
     "verify": {"table": 5},
     "read_sheet": {"signature": 6, "message": TEXT_SLICE},
+    "write_sheet": {"sheet": 6},
 }
 # What a call is given and hands back by pointer.
 STATES = {"sign": ["next_leaf"], "verify": ["highest_leaf", "marks"]}
@@ -72,8 +74,8 @@ def load(shared_object):
 class Call:
     """An operation, its arguments by name, and the number that it must answer with. The causes are
     those that were laid on purpose, in the document's order; for wide numbers of the profile, which
-    they are and in what way; and whether an order is one of earlier days, or was signed in the
-    other edition."""
+    they are and in what way; whether an order is one of earlier days, or was signed in the other
+    edition; and whether a sheet is one that a call has written."""
 
     def __init__(self, operation, outcome, shift, arguments):
         self.operation = operation
@@ -84,6 +86,7 @@ class Call:
         self.wide = None
         self.earlier = False
         self.crossed = False
+        self.written = False
 
     def __str__(self):
         lines = [f"zarosnik_{self.operation} must answer {self.outcome}"]
@@ -300,4 +303,18 @@ class Calls:
             message=message.leave(text),
             message_written=self.size_answer(size),
             line=self.answer([line]),
+        )
+
+    def write_sheet(self, p, signature, message, sheet):
+        outcome, size, written = sheets.write_sheet(
+            p, signature.before, message.before, sheet.before
+        )
+        return self.call(
+            "write_sheet",
+            outcome,
+            **p._asdict(),
+            signature=signature,
+            message=message,
+            sheet=sheet.leave(written),
+            sheet_written=self.size_answer(size),
         )

@@ -1,14 +1,15 @@
 """The cases of a run. A case is one call or a sequence of calls; the run's seed and the case's
 number give it, so that it can be made again alone.
 
-A run begins with the tallest trees, once for each height, and with an order signed and one checked
-at each of the counts on both sides of the powers of two. Every round of cases has, for each
-operation, granted calls, each cause of refusal alone, each two together, and several; numbers to
-compare of many kinds; numbers of the profile that narrower parameters would cut to right ones, or
-that are the ends of what wide ones hold; both editions and numbers that are none; slices whose
-length passes 32 bits; orders of earlier days, and orders and sheets of the other edition; each way
-in which a leaf can stand to a verifier's highest leaf and marks; and sequences in which a fresh key
-signs and a fresh verifier checks, in the order signed and in any other.
+A run begins with the tallest trees, once for each height, with an order signed and one checked at
+each of the counts on both sides of the powers of two, and with sheets written for texts of every
+length, read, and written again. Every round of cases has, for each operation, granted calls, each
+cause of refusal alone, each two together, and several; numbers to compare of many kinds; numbers of
+the profile that narrower parameters would cut to right ones, or that are the ends of what wide ones
+hold; both editions and numbers that are none; slices whose length passes 32 bits; orders of earlier
+days, and orders and sheets of the other edition; each way in which a leaf can stand to a verifier's
+highest leaf and marks; and sequences in which a fresh key signs and a fresh verifier checks, in the
+order signed and in any other.
 """
 
 import itertools
@@ -18,11 +19,12 @@ from functools import cache, lru_cache, partial
 import editions
 import shapes
 import windows
+import written_sheets
 from interface_calls import EDITED, STATES, Calls
 from interface_damage import Order, flipped, swapped
 from interface_inputs import CAUSES, CUTS, FAR, WIDE, Inputs, cheap_height, signable_shape
 from interface_memory import Memory
-from sheets import right_sheet
+from sheets import sheet_length
 from signatures import (
     EDITIONS,
     GATE,
@@ -131,6 +133,35 @@ def last(operation, number, digits, pick):
     causes = [17] if editions.line_to(number, digits) else []
     inputs = Inputs(pick, operation, causes, edition=number)
     yield caused(operation, causes, inputs.read_sheet(digits))
+
+
+def written(operation, number, size, pick):
+    """Writes, in this edition, texts of so many bytes as sheets, with slices of each length."""
+    for slices in written_sheets.SLICES:
+        inputs = Inputs(pick, operation, edition=number)
+        given = written_sheets.drawn(pick, inputs.good, size, slices)
+        call = inputs.calls.write_sheet(inputs.good, *given)
+        yield caused(operation, written_sheets.causes_of(size, slices), call)
+        if call.outcome == 0:
+            yield from read_back(call, pick)
+
+
+def read_back(call, pick):
+    """Reads the sheet that a call has written, and writes what was read: this is the signature and
+    the text, and these are the same bytes again."""
+    calls, given = Calls(pick), call.arguments
+    p = Profile(*(given[name] for name in Profile._fields))
+    parts = [given[name].before for name in ("signature", "message")]
+    sheet = given["sheet"].after[: sheet_length(p, len(parts[1]))]
+    slices = [Memory(pick.randbytes(len(part))) for part in parts]
+    read = calls.read_sheet(p, Memory(sheet), *slices)
+    demand(read.outcome == 0 and [memory.after for memory in slices] == parts, read)
+    read.written = True
+    yield read
+    again = [Memory(memory.after) for memory in slices]
+    call = calls.write_sheet(p, *again, Memory(pick.randbytes(len(sheet))))
+    demand(call.arguments["sheet"].after == sheet, call)
+    yield call
 
 
 def earlier(operation, bits, pick):
@@ -247,7 +278,7 @@ class Sequence:
         yield from self.checks(self.issued)
         self.renew_verifier()
         yield from self.checks(self.pick.sample(self.issued, len(self.issued)))
-        yield self.sheet()
+        yield from self.sheet()
 
     def checks(self, arriving):
         """Whatever is refused in between, each order issued is taken and reports the same steps:
@@ -261,10 +292,13 @@ class Sequence:
             yield call
 
     def sheet(self):
+        """Of an order issued: written, read, and written again."""
         signature, text = self.pick.choice(self.issued)
-        sheet = Memory(right_sheet(self.p, signature, text))
-        slices = [Memory(self.pick.randbytes(len(part) + 9)) for part in (signature, text)]
-        return self.calls.read_sheet(self.p, sheet, *slices)
+        sheet = Memory(self.pick.randbytes(sheet_length(self.p, len(text)) + 9))
+        call = self.calls.write_sheet(self.p, Memory(signature), Memory(text), sheet)
+        demand(call.outcome == 0, call)
+        yield call
+        yield from read_back(call, self.pick)
 
 
 def sequence(pick):
@@ -302,7 +336,9 @@ TALL += [Profile(10, 4, 15, GATE.h, 2)]
 def beginning():
     """Once in a run."""
     cases = [partial(tall, p) for p in TALL]
-    return cases + [partial(edge, name, shape) for shape in shapes.edges() for name in STATES]
+    cases += [partial(edge, name, shape) for shape in shapes.edges() for name in STATES]
+    texts = itertools.product(EDITIONS, written_sheets.TEXTS)
+    return cases + [partial(written, "write_sheet", *text) for text in texts]
 
 
 @cache

@@ -6,10 +6,11 @@ import comparisons
 import editions
 import shapes
 import windows
+import written_sheets
 from interface_calls import LENT, MOST_HASHED, TEXT_SLICE, Calls
 from interface_damage import Order, flipped, wrong_sheet
 from interface_memory import Filling, Memory
-from sheets import right_sheet
+from sheets import right_sheet, sheet_length
 from signatures import EDITIONS, Profile, SigningKey, Verifier, revealed, signature_length
 from zarosnik import MOST_BITS, row_of, table_length, ways
 
@@ -27,6 +28,7 @@ CAUSES = {
     "sign": [1, 2, 3, 4, 22, 5, 16, 6, 12, 19],
     "verify": [1, 2, 3, 4, 22, 5, 16, 13, 11, 14, 19, 15],
     "read_sheet": [1, 2, 3, 4, 22, 17, 6, TEXT_SLICE],
+    "write_sheet": [1, 2, 3, 4, 22, 16, 13, 6],
 }
 
 # Slices whose length may pass 32 bits, and the cause of refusal where this is too long. Cut to 32
@@ -51,6 +53,9 @@ FAR = [
     ("read_sheet", "sheet", [17]),
     ("read_sheet", "signature", []),
     ("read_sheet", "message", []),
+    ("write_sheet", "signature", [13]),
+    ("write_sheet", "message", [16]),
+    ("write_sheet", "sheet", []),
 ]
 
 PAST_WORD = 1 << 32
@@ -331,3 +336,10 @@ class Inputs:
         signature = self.lent("signature", signature_length(self.sized))
         message = self.lent("message", len(text))
         return self.calls.read_sheet(self.p, given, signature, message)
+
+    def write_sheet(self):
+        leaf = written_sheets.any_leaf(self.pick, self.good.h).to_bytes(4, "big")
+        signature = self.padded(leaf, signature_length(self.sized))
+        signature, message = self.exact("signature", signature, 13), self.message()
+        sheet = self.lent("sheet", sheet_length(self.sized, len(message.before)))
+        return self.calls.write_sheet(self.p, signature, message, sheet)

@@ -10,8 +10,9 @@ slice past its named length where it grants; leaves an old answer where it refus
 numbers by another rule, or wrongly for one order and one count of pairs alone; has another rule for
 an order's number or for 19, or a wrong number at just one of the shapes that must come up; has
 another rule for 14 or for the highest leaf and the marks, or is wrong for just one of the ways in
-which a leaf can stand to them; or has another digest, another rule for 22 or for the end of a
-sheet's frame 01, or is wrong for just one of the ends that must come up.
+which a leaf can stand to them; has another digest, another rule for 22 or for the end of a sheet's
+frame 01, or is wrong for just one of the ends that must come up; or writes another sheet, another
+number of bytes or another refusal, or is wrong for just one length of a text.
 """
 
 import ctypes
@@ -25,15 +26,17 @@ import shapes
 from archived import archive_of, archive_parser, shared_object
 from comparisons import KINDS
 from interface_calls import BY_VALUE, LENT, PROTOTYPES, STATES, load
-from interface_cases import beginning, edge, plan, window
+from interface_cases import beginning, edge, plan, window, written
 from interface_inputs import CAUSES, FAR
 from wrong_editions import right_editions, wrong_editions
 from wrong_orders import right_orders, wrong_orders
+from wrong_sheets import right_writer, wrong_sheets
 from wrong_windows import ALL_KINDS, right_window, wrong_windows
 from zarosnik import EQUAL, GREATER, LESS, WORDS
 
 # Bytes of what has no length of its own; all else has 16.
-SIZES = {"digest": 32, "message_written": 8}
+WRITTEN = {"message": "message_written", "sheet": "sheet_written"}
+SIZES = {"digest": 32} | dict.fromkeys(WRITTEN.values(), 8)
 SIZES |= dict.fromkeys(["number", "first", "second"], 20)
 SIZES |= dict.fromkeys(["order", "looked", "steps", "line", *itertools.chain(*STATES.values())], 4)
 ROUNDS = 3
@@ -63,8 +66,8 @@ class Given:
     def named(self, name):
         """How many bytes of a slice the document names."""
         l, s, h = self["l"], self["s"], self.values.get("h", 0)
-        if name == "message":
-            return ctypes.c_size_t.from_address(self["message_written"]).value
+        if name in WRITTEN:
+            return ctypes.c_size_t.from_address(self[WRITTEN[name]]).value
         table, signature = 20 * (l + 1) * (s + 1), 20 + 16 * l + 16 * h
         return {"table": table, "row": l, "values": 16 * l, "signature": signature}[name]
 
@@ -228,7 +231,8 @@ def wrong_functions():
 
 def mutants():
     """The same, with the cases in which it must be seen. What is wrong at one shape, for one kind
-    of window, with one edition or two causes or for one end of frame 01 alone is seen there."""
+    of window, with one edition or two causes, for one end of frame 01 or for one length of a text
+    alone is seen there."""
     for what, operation, wrong in wrong_functions():
         yield what, operation, wrong, cases_of(operation)
     for what, operation, wrong, shape in wrong_orders():
@@ -238,6 +242,9 @@ def mutants():
         yield what, "verify", wrong, windows_of(kind) if kind else cases_of("verify")
     for what, operation, wrong, where in wrong_editions():
         yield what, operation, wrong, cases_at(operation, where)
+    for what, wrong, text in wrong_sheets():
+        cases = written_with(text)
+        yield what, "write_sheet", wrong, cases if text else cases_of("write_sheet") + cases
 
 
 def nothing_wrong():
@@ -248,6 +255,7 @@ def nothing_wrong():
         yield operation, right, cases_of(operation) + edges_of(operation)
     for operation, right, where in right_editions():
         yield operation, right, cases_at(operation, where)
+    yield "write_sheet", right_writer(), cases_of("write_sheet") + written_with()
 
 
 class Wrong:
@@ -272,6 +280,12 @@ def edges_of(operation, shape=None):
     """At each shape on both sides of a power of two, or at one of them."""
     cases = [case for case in beginning() if case.func == edge and case.args[0] == operation]
     return [case for case in cases if shape in (None, case.args[1])]
+
+
+def written_with(text=None):
+    """With each edition and length of a text, or with one of them."""
+    cases = [case for case in beginning() if case.func == written]
+    return [case for case in cases if text in (None, case.args[1:])]
 
 
 def windows_of(kind):

@@ -1,13 +1,13 @@
 #!/usr/bin/env perl
-# Signs, verifies and reads the orders in files of vectors/, and compares the numbers, by the rules of
+# Signs, verifies, reads and writes the orders in files of vectors/, and compares the numbers, by the rules of
 # docs/INTERFACE.md, with nothing of the library and of the other tests: it shows that the page is enough to build a
 # desk and a cabinet from. It needs Perl's core modules alone.
 #
 #     perl tests/orders.pl vectors/*.json
 #
-# Prints a line for each call of Root, Issue, Check, Read sheet and Compare. Fails where one answers other than the
-# file says, and where one of these has no call, in either edition but for Compare, which knows none. Vectors of other
-# operations are passed over.
+# Prints a line for each call of Root, Issue, Check, Read sheet, Write sheet and Compare. Fails where one answers other
+# than the file says, and where one of these has no call, in either edition but for Compare, which knows none. Vectors
+# of other operations are passed over.
 use strict;
 use warnings;
 use Digest::SHA qw(sha256);
@@ -184,6 +184,23 @@ sub read_sheet {
     return (outcome => 0, line => 0, message_written => $text_written, signature => $signature, message => $text);
 }
 
+# The sheet of a signature and a text, in a slice that was filled with A5 before. Perl's n is a number in 2 bytes.
+sub write_sheet {
+    my ($l, $w, $s, $h, $edition, $signature, $text, $sheet_len) = @_;
+    my $refused = sub { (outcome => $_[0], sheet_written => 0, sheet => 'untouched') };
+    return $refused->(16) if length $text < 1 || length $text > 200;
+    return $refused->(13) if length $signature != 20 + 16 * $l + 16 * $h;
+    my ($leaf, $r, @values) = unpack('a4 a16 (a16)*', $signature);
+    my @siblings = splice @values, $l;
+    my @frames = (pack('CCCCn', 1, $l, $w, $h, $s) . ($edition == 2 ? "\2" : ''), "\2$leaf", "\3$r");
+    push @frames, map { pack('CC', 4, $_) . $values[$_] } 0 .. $l - 1;
+    push @frames, map { pack('CC', 5, $_) . $siblings[$_] } 0 .. $h - 1;
+    my $sheet = join '', map { "$_\n" } '474F31', map { uc unpack('H*', $_) } @frames, "\6$text";
+    my $written = length $sheet;
+    return (outcome => 0, sheet_written => $written,
+        sheet => uc unpack('H*', $sheet . "\xA5" x ($sheet_len - $written)));
+}
+
 # Numbers in hex, eight digits a word, highest word first.
 sub compare {
     my ($first, $second) = map { [unpack('(A8)5', $_)] } @_;
@@ -203,10 +220,12 @@ sub answer {
     return sign(@profile, $seed, $secret, $in->{next_leaf}, $r, $text) if $operation eq 'sign';
     return verify(@profile, $seed, $root, @$in{'highest_leaf', 'marks'}, $text, $signature) if $operation eq 'verify';
     return read_sheet(@profile, $sheet, @$in{'signature_len', 'message_len'}) if $operation eq 'read_sheet';
+    return write_sheet(@profile, $signature, $text, $in->{sheet_len}) if $operation eq 'write_sheet';
     return (outcome => 0, root => uc unpack('H*', node(@profile[0, 1], $seed, $secret, $profile[3], 0)));
 }
 
-my %made = map { $_ => 0 } 'compare', map { ("$_ of edition 1", "$_ of edition 2") } qw(root sign verify read_sheet);
+my @operations = qw(root sign verify read_sheet write_sheet);
+my %made = map { $_ => 0 } 'compare', map { ("$_ of edition 1", "$_ of edition 2") } @operations;
 my $differing = 0;
 for my $file (@ARGV) {
     open my $handle, '<', $file or die "$file: $!\n";
@@ -218,7 +237,7 @@ for my $file (@ARGV) {
         next if $out->{outcome} >= 1 && $out->{outcome} <= 6 || $out->{outcome} == 22 || !exists $made{$kind};
         my %found = answer($operation, $in);
         my @wrong = grep { $found{$_} ne $out->{$_} } sort keys %found;
-        my $told = join ', ', map { "$_ $found{$_}" } grep { !/^(signature|message)$/ } sort keys %found;
+        my $told = join ', ', map { "$_ $found{$_}" } grep { !/^(signature|message|sheet)$/ } sort keys %found;
         my $profile = exists $in->{l} ? " at @$in{'l', 'w', 's', 'h', 'edition'}" : '';
         print "$operation$profile, $vector->{note}: $told\n";
         print "  DIFFERS: $_ $found{$_}, expected $out->{$_}\n" for @wrong;

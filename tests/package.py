@@ -26,6 +26,7 @@ INSTALLED = [
     "lib/libzarosnik.a",
     "lib/pkgconfig/zarosnik.pc",
     "share/doc/zarosnik/INTERFACE.md",
+    "share/doc/zarosnik/examples/desk.c",
     "share/doc/zarosnik/examples/order.c",
     "share/doc/zarosnik/examples/order.sheet",
     "share/doc/zarosnik/examples/sheet.c",
@@ -91,8 +92,10 @@ def check_version(prefix, folder, search):
 def build_and_run(prefix, folder, search):
     flags = output("pkg-config", "--cflags", "--libs", "zarosnik", folder=folder, **search)
     examples = prefix / "share" / "doc" / "zarosnik" / "examples"
+    # the sheet that is read is the one that the desk writes
+    sheet = [str(folder / "desk.sheet")]
     for compiler in COMPILERS:
-        for name, arguments in {"order": [], "sheet": [str(examples / "order.sheet")]}.items():
+        for name, arguments in {"order": [], "desk": sheet, "sheet": sheet}.items():
             source, program = str(examples / f"{name}.c"), str(folder / name)
             built = [*compiler, *WARNINGS, source, *shlex.split(flags), "-o", program]
             output(*built, folder=folder)
@@ -110,7 +113,7 @@ def main():
         check_links(prefix)
         version = check_version(prefix, folder, search)
         build_and_run(prefix, folder, search)
-    print(f"package: version {version}, both examples built by pkg-config's flags and run")
+    print(f"package: version {version}, the examples built by pkg-config's flags and run")
 
 
 if __name__ == "__main__":

@@ -1,11 +1,12 @@
-"""Read sheet, and the sheets that are right: an implementation of the scope document that is
-independent of the library.
+"""Read sheet, Write sheet, and the sheets that are right: an implementation of the scope document
+and of the later requests that is independent of the library.
 
 No slice is changed: the reader answers with the number of its refusal, or 0, the number of the wrong
-line, or 0, the length of the text, and both slices as the call leaves them.
+line, or 0, the length of the text, and both slices as the call leaves them; the writer with that
+number, the bytes written, and its slice.
 """
 
-from signatures import pieces, profile_causes
+from signatures import pieces, profile_causes, signature_length, text_cause
 from zarosnik import first_cause
 
 FIRST = bytes.fromhex("474F31")
@@ -37,6 +38,11 @@ def hex_line(frame):
 
 def right_sheet(p, signature, text):
     return b"".join(hex_line(frame) for frame in frames(p, signature, text))
+
+
+def sheet_length(p, size):
+    """With a text of so many bytes, of two digits each."""
+    return len(right_sheet(p, bytes(signature_length(p)), b"")) + 2 * size
 
 
 def forms(p):
@@ -86,3 +92,19 @@ def read_sheet(p, sheet, signature, text):
     if len(signature) < len(shown) or len(text) < len(order):
         return 6, 0, 0, signature, text
     return 0, 0, len(order), shown + signature[len(shown) :], order + text[len(order) :]
+
+
+def write_sheet(p, signature, text, sheet):
+    """The outcome, the number of bytes written, the sheet's slice. Any leaf is written."""
+    refused = first_cause(
+        profile_causes(p)
+        + text_cause(text)
+        + [
+            (13, lambda: len(signature) != signature_length(p)),
+            (6, lambda: len(sheet) < sheet_length(p, len(text))),
+        ]
+    )
+    if refused:
+        return refused, 0, sheet
+    written = right_sheet(p, signature, text)
+    return 0, len(written), written + sheet[len(written) :]

@@ -75,6 +75,7 @@ class Caller:
             "signature": octets(signature),
             "sheet": octets(right_sheet(p, signature, text)),
             "message_written": (ctypes.c_size_t * 1)(),
+            "sheet_written": (ctypes.c_size_t * 1)(),
         }
         self.memory |= {name: words([0]) for name in ("order", "looked", "steps", "line")}
         self.memory |= {name: octets(bytes(32)) for name in ("digest", "public_seed", "root", "r")}
@@ -124,7 +125,8 @@ class Caller:
         if order == 0:
             self.memory["message"][0] ^= 1
             self.call("verify", 15)
-        self.call("read_sheet", 0)
+        for operation in ("write_sheet", "read_sheet"):
+            self.call(operation, 0)
 
     def refused(self):
         """By the last cause of each, on what the granted calls left."""
@@ -135,6 +137,8 @@ class Caller:
         for operation in ("unrank", "one_time_sign", "one_time_recover"):
             self.call(operation, 7)
         self.call("read_sheet", 17)
+        self.memory["sheet"] = octets(self.memory["sheet"][:-1])
+        self.call("write_sheet", 6)
         self.memory["row"][0] ^= 1
         self.call("rank", 10)
 

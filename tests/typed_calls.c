@@ -2,6 +2,7 @@
  * script makes. The exit status is 0 where all agree. */
 #include "zarosnik_types.h"
 
+#include <assert.h>
 #include <inttypes.h>
 #include <stdio.h>
 #include <stdlib.h>
@@ -119,6 +120,24 @@ static void sign(struct zarosnik_key *key)
            ZAROSNIK_GRANTED);
     expect("next leaf", key->next_leaf, EXPECTED_NEXT + 1);
     expect_bytes("signature", signature, expected_signature, sizeof expected_signature);
+}
+
+static void write_sheet(void)
+{
+    uint8_t sheet[ZAROSNIK_SHEET_BYTES(EXPECTED_L, EXPECTED_H, EXPECTED_EDITION, sizeof expected_text)];
+    size_t sheet_len;
+    static_assert(sizeof sheet == sizeof expected_sheet, "sheet");
+    expect("write sheet into too little",
+           zarosnik_profile_write_sheet(profile, expected_signature, sizeof expected_signature, expected_text,
+                                        sizeof expected_text, sheet, sizeof sheet - 1, &sheet_len),
+           ZAROSNIK_REFUSED_OUTPUT_TOO_SHORT);
+    expect("nothing written", sheet_len == 0, 1);
+    expect("write sheet",
+           zarosnik_profile_write_sheet(profile, expected_signature, sizeof expected_signature, expected_text,
+                                        sizeof expected_text, sheet, sizeof sheet, &sheet_len),
+           ZAROSNIK_GRANTED);
+    expect("all of the sheet written", sheet_len == sizeof sheet, 1);
+    expect_bytes("sheet", sheet, expected_sheet, sizeof expected_sheet);
 }
 
 static void verify(struct zarosnik_cabinet *cabinet)
@@ -260,7 +279,9 @@ static void no_edition(struct zarosnik_public_seed public_seed, struct zarosnik_
     uint8_t values[sizeof expected_values];
     uint8_t signature[sizeof expected_signature];
     uint8_t text[ZAROSNIK_MESSAGE_MAX];
+    uint8_t sheet[sizeof expected_sheet];
     size_t text_len;
+    size_t sheet_len;
     uint32_t line;
     uint32_t steps;
     memcpy(r.bytes, expected_r, sizeof expected_r);
@@ -287,6 +308,10 @@ static void no_edition(struct zarosnik_public_seed public_seed, struct zarosnik_
            zarosnik_profile_read_sheet(none, expected_sheet, sizeof expected_sheet, signature, sizeof signature, text,
                                        sizeof text, &text_len, &line),
            ZAROSNIK_REFUSED_EDITION);
+    expect("write sheet without an edition",
+           zarosnik_profile_write_sheet(none, expected_signature, sizeof expected_signature, expected_text,
+                                        sizeof expected_text, sheet, sizeof sheet, &sheet_len),
+           ZAROSNIK_REFUSED_EDITION);
 }
 
 int main(void)
@@ -308,6 +333,7 @@ int main(void)
     compare();
     leaves(&key);
     sign(&key);
+    write_sheet();
     verify(&cabinet);
     verify_odd(public_seed, root);
     few_rows(public_seed, secret_seed, root);

@@ -178,3 +178,11 @@ def sheet_vector(note, p, sheet, signature_size, text_size):
     left = {"signature": slice_left(signature, shown), "message": slice_left(text, order)}
     left |= {"message_written": length, "line": line}
     return vector("read_sheet", note, given, outcome, left)
+
+
+def write_vector(note, p, signature, text, size):
+    sheet = filled(size)
+    outcome, count, written = sheets.write_sheet(p, signature, text, sheet)
+    given = {**p._asdict(), "signature": hexed(signature), "message": hexed(text)}
+    left = {"sheet": slice_left(sheet, written), "sheet_written": count}
+    return vector("write_sheet", note, given | {"sheet_len": size}, outcome, left)

@@ -6,7 +6,7 @@ answers is held to the first of them.
 """
 
 from interface_inputs import CAUSES as DRAWN
-from sheets import right_sheet
+from sheets import right_sheet, sheet_length
 from signatures import (
     GATE,
     Profile,
@@ -37,6 +37,7 @@ from vector_calls import (
     sign_vector,
     unrank_vector,
     verify_vector,
+    write_vector,
 )
 from zarosnik import row_of, table_length, ways
 
@@ -83,6 +84,7 @@ class Refused:
         self.chains = sized.l
         self.words = table_length(sized.l, sized.s) - (5 in causes)
         self.signature_size = signature_length(sized)
+        self.sheet_size = sheet_length(sized, len(self.text()))
 
     def number(self):
         """Alone, the smallest that is too large."""
@@ -157,6 +159,11 @@ class Refused:
         sheet = sheet[:-1] if 17 in self.causes else sheet
         size = self.signature_size - (6 in self.causes)
         return sheet_vector(self.note, self.p, sheet, size, len(ORDER))
+
+    def write_sheet(self):
+        signature = derived("signature", self.signature_size - (13 in self.causes))
+        size = self.sheet_size - (6 in self.causes)
+        return write_vector(self.note, self.p, signature, self.text(), size)
 
 
 def right_profile(operation, causes):

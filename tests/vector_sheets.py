@@ -1,10 +1,12 @@
 """Test vectors of Read sheet: right sheets of both editions, sheets of one where the other is
-expected, and sheets with a line that is wrong, missing or too many.
+expected, and sheets with a line that is wrong, missing or too many; and of Write sheet.
 """
 
+import itertools
+
 import editions
-from sheets import hex_line, profile_frame, right_sheet
-from signatures import GATE, GATE_2, SigningKey, issue, signature_length
+from sheets import hex_line, profile_frame, right_sheet, sheet_length
+from signatures import EDITIONS, GATE, GATE_2, Profile, SigningKey, issue, signature_length
 from vector_calls import (
     LONG_ORDER,
     ORDER,
@@ -16,7 +18,9 @@ from vector_calls import (
     filled,
     flipped,
     sheet_vector,
+    write_vector,
 )
+from written_sheets import LEAVES, SLICES, answer_to
 from zarosnik import table_length
 
 # What the lines of the small profile's sheet carry.
@@ -97,11 +101,15 @@ def right_sheets(p, signature):
     yield sheet_vector("6: text slice too short", p, sheet, size, len(ORDER) - 1)
 
 
+def gate_signature(p):
+    """Of the first order."""
+    size, words = signature_length(p), table_length(p.l, p.s)
+    return issue(SigningKey(p, SEED, SECRET, 0), R, ORDER, [0] * words, filled(size))[2]
+
+
 def gate_sheet(p):
     """The first order, and the length of its signature."""
-    size, words = signature_length(p), table_length(p.l, p.s)
-    signature = issue(SigningKey(p, SEED, SECRET, 0), R, ORDER, [0] * words, filled(size))[2]
-    return right_sheet(p, signature, ORDER), size
+    return right_sheet(p, gate_signature(p), ORDER), signature_length(p)
 
 
 def gate_sheets():
@@ -162,6 +170,49 @@ def second_edition(signature):
     yield sheet_vector("the first order of the gate profile", GATE_2, sheet, size, 200)
 
 
+# Texts that are written with slices of each length, and those written besides.
+EDGE_TEXTS = [b"", b"0", LONG_ORDER, derived("text", 201)]
+WRITTEN_KINDS = list(itertools.product(EDITIONS, map(len, EDGE_TEXTS), SLICES))
+TEXTS = {"the order": ORDER, "a text of any bytes": bytes(range(32)) + b"\xff"}
+TEXTS |= {f"text length {size}": derived("text", size) for size in (2, 15, 16, 100, 199)}
+LENGTHS = {
+    "the shortest sheet": (Profile(1, 2, 0, 0, 1), b"0"),
+    "the longest sheet": (Profile(40, 16, 300, 10, 2), LONG_ORDER),
+}
+
+
+def with_slices(p, signature, text, slices):
+    """The signature and the sheet's slice shorter or longer than they must be, or not."""
+    more, room, _ = SLICES[slices]
+    shown, size = (signature + b"\0")[: len(signature) + more], sheet_length(p, len(text)) + room
+    made = write_vector(f"text length {len(text)}, {slices}", p, shown, text, size)
+    if made["out"]["outcome"] != answer_to(len(text), slices):
+        raise ValueError(f"not answered by {answer_to(len(text), slices)}: {made}")
+    return made
+
+
+def written(note, p, signature, text=ORDER):
+    """Into a slice with a few bytes more."""
+    return write_vector(note, p, signature, text, sheet_length(p, len(text)) + 3)
+
+
+def sheets_written():
+    signature = derived("signature", signature_length(SMALL))
+    for edition in EDITIONS:
+        p = SMALL._replace(edition=edition)
+        for text, slices in itertools.product(EDGE_TEXTS, SLICES):
+            yield with_slices(p, signature, text, slices)
+        for note, text in TEXTS.items():
+            yield written(note, p, signature, text)
+        for note, leaf in LEAVES.items():
+            yield written(note, p, leaf(p.h).to_bytes(4, "big") + signature[4:])
+        yield write_vector("13: no signature", p, b"", ORDER, sheet_length(p, len(ORDER)))
+    for note, (p, text) in LENGTHS.items():
+        yield written(note, p, derived("signature", signature_length(p)), text)
+    for p in (GATE, GATE_2):
+        yield written("the first order of the gate profile", p, gate_signature(p))
+
+
 def sheets_family():
     size = signature_length(SMALL)
     signature = derived("signature", size)
@@ -176,3 +227,4 @@ def sheets_family():
     yield from second_edition(signature)
     yield from last_bytes(signature)
     yield from crossed_sheets()
+    yield from sheets_written()

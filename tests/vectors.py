@@ -8,8 +8,9 @@ Fails where a call differs, and where something has no vector: a family, an oper
 refusal that docs/INTERFACE.md lists for an operation, a kind of numbers compared, a count at which
 orders must be signed and checked, a way in which a leaf can stand to a cabinet's highest leaf and
 marks, an operation granted in either edition, an order or a sheet of one edition where the other is
-expected, a number that is no edition, or a number of a profile that would be the gate's if it were
-cut.
+expected, a number that is no edition, a sheet written for the shortest or the longest text with
+slices of each length that decides, or for a leaf that a tree has not, or a number of a profile that
+would be the gate's if it were cut.
 The vectors themselves are held to the independent implementation by tests/make_vectors.py, the
 page's worked values by tests/worked_order.py.
 """
@@ -24,6 +25,7 @@ import comparisons
 import editions
 import shapes
 import windows
+import written_sheets
 from archived import archive_of, archive_parser, shared_object
 from header import NO_REFUSALS
 from interface_calls import EDITED, PROTOTYPES, STATES, Call, load
@@ -33,6 +35,7 @@ from signatures import EDITIONS, Profile, Verifier, check
 from vector_calls import FILL, FILL_WORD
 from vector_orders import WINDOW_KINDS, order_shapes
 from vector_refusals import CUT
+from vector_sheets import WRITTEN_KINDS
 from zarosnik import filled, number_words, table_length
 
 PAGE = FOLDER.parent / "docs" / "INTERFACE.md"
@@ -51,7 +54,7 @@ def memory_of(name, value):
         return words_memory(number_words(int(value, 16)))
     if name in WORDS:
         return words_memory([value])
-    if name == "message_written":
+    if name in ("message_written", "sheet_written"):
         return Memory(value.to_bytes(8, "little"), unit=8)
     return Memory(bytes.fromhex(value))
 
@@ -183,6 +186,22 @@ def missing_editions(vectors):
         yield f"no vector: read_sheet tells {line}"
 
 
+def missing_written(vectors):
+    kinds, leaves = set(), set()
+    for vector in vectors:
+        given, outcome = vector["in"], vector["out"]["outcome"]
+        if vector["operation"] == "write_sheet" and outcome in (0, 16, 13, 6):
+            p, signature = profile_of(given), bytes.fromhex(given["signature"])
+            sizes = len(signature), len(given["message"]) // 2, given["sheet_len"]
+            kinds.add((written_sheets.kind(p, *sizes), outcome))
+            if outcome == 0:
+                leaves |= written_sheets.leaf_kinds(p, int.from_bytes(signature[:4], "big"))
+    for kind in written_sheets.missing_kinds(kinds, WRITTEN_KINDS):
+        yield f"no vector: write_sheet answers {kind}"
+    for leaf in written_sheets.missing_leaves(leaves):
+        yield f"no vector: write_sheet writes {leaf}"
+
+
 def missing(vectors):
     """In lines: what has no vector."""
     outcomes = {(vector["operation"], vector["out"]["outcome"]) for vector in vectors}
@@ -200,6 +219,7 @@ def missing(vectors):
             if name in parameters.split() and all(given[name] != number for given in calls):
                 yield f"no vector: {operation} with {name} = {number}"
     yield from missing_editions(vectors)
+    yield from missing_written(vectors)
     for operation in STATES:
         calls = [vector for vector in vectors if vector["operation"] == operation]
         met = {

@@ -22,6 +22,7 @@ from interface_inputs import CAUSES
 from signatures import EDITIONS, profile_causes
 from wrong_orders import (
     BY_RULE,
+    MOST_SHEET,
     MOST_TABLE,
     by_number,
     content,
@@ -34,8 +35,6 @@ from wrong_orders import (
 from zarosnik import first_cause
 
 NO_EDITION = 3
-# No right sheet is longer.
-MOST_SHEET = 4096
 
 # Something wrong must be seen in cases of some kinds, each with what such a case is given besides
 # the operation. In these, orders are granted, or were signed in the other edition.

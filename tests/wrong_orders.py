@@ -27,8 +27,8 @@ from zarosnik import MOST_BITS, first_bits, first_cause, number_bits, table_leng
 
 # What an order is answered with once its turn has come for the count.
 JUDGED = (0, 15, 19)
-# No signature and no table is longer.
-MOST_SIGNATURE, MOST_TABLE = 820, 4 * 123205
+# No signature, no right sheet and no table is longer.
+MOST_SIGNATURE, MOST_SHEET, MOST_TABLE = 820, 4096, 4 * 123205
 
 
 def content(given, name, most=MOST_SIGNATURE):

@@ -26,7 +26,9 @@ use Rattle.verifier.specs.declared.Verifier.{Verifier}
 use Rattle.verifier.specs.declared.Verdict.{Verdict}
 use Rattle.sheet.specs.Operation.{ReadsSheet}
 use Rattle.sheet.specs.declared.SheetRead.{SheetRead}
-use Rattle.zarosnik.specs.Interface.{signingKeyOf, verifierOf, CountCall, UnrankCall, RankCall, LeafKeyCall, RootCall, RevealCall, RecoverCall, SignCall, VerifyCall, ReadSheetCall}
+use Rattle.sheet_writer.specs.Writing.{WritesSheet}
+use Rattle.sheet_writer.specs.declared.writer.SheetWritten.{SheetWritten}
+use Rattle.zarosnik.specs.Interface.{signingKeyOf, verifierOf, CountCall, UnrankCall, RankCall, LeafKeyCall, RootCall, RevealCall, RecoverCall, SignCall, VerifyCall, ReadSheetCall, WriteSheetCall}
 
 -- of a shape
 module _ {p q : Shape} (e : p ≡ q) {r : ℕ} {work work′ : List ℕ} where
@@ -90,6 +92,12 @@ module _ {p q : Profile} (e : p ≡ q) {r : ℕ} where
   read-sheet-call {sheet} {signature} {message} {signature′} {message′} {a} h n =
       subst (λ (s : Profile). ReadSheetCall s sheet signature message signature′ message′ (a .length) (a .line) r) e
       (record { answer = a; reads = h; returned = n; length-written = refl; line-written = refl })
+
+  pub write-sheet-call : {signature message sheet sheet′ : List ℕ} {a : SheetWritten} → WritesSheet p signature message sheet sheet′ a → r ≡ outcomeCode (a .outcome)
+      → WriteSheetCall q signature message sheet sheet′ (a .length) r
+  write-sheet-call {signature} {message} {sheet} {sheet′} {a} h n =
+      subst (λ (s : Profile). WriteSheetCall s signature message sheet sheet′ (a .length) r) e
+      (record { answer = a; writes = h; returned = n; length-written = refl })
 
   pub sign-call : {seed secret : List ℕ} {next : ℕ} {random message work out work′ out′ : List ℕ} {a : Signed}
       → Signs (signingKeyOf p seed secret next) random message work out work′ out′ a → r ≡ outcomeCode (a .outcome)

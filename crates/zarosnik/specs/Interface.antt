@@ -33,6 +33,8 @@ use Rattle.verifier.specs.declared.Verifier.{Verifier}
 use Rattle.verifier.specs.declared.Verdict.{Verdict}
 use Rattle.sheet.specs.Operation.{ReadsSheet}
 use Rattle.sheet.specs.declared.SheetRead.{SheetRead}
+use Rattle.sheet_writer.specs.Writing.{WritesSheet}
+use Rattle.sheet_writer.specs.declared.writer.SheetWritten.{SheetWritten}
 
 -- a profile by its five numbers, and its shape by the first three
 abbrev pub shapeOf : (l w s : ℕ) → Shape
@@ -131,3 +133,10 @@ pub record ReadSheetCall (p : Profile) (sheet signature message signature′ mes
   pub returned : r ≡ outcomeCode (answer .outcome)
   pub length-written : written′ ≡ answer .length
   pub line-written : line′ ≡ answer .line
+
+-- Write sheet
+pub record WriteSheetCall (p : Profile) (signature message sheet sheet′ : List ℕ) (written′ r : ℕ) : Type 0 where
+  pub answer : SheetWritten
+  pub writes : WritesSheet p signature message sheet sheet′ answer
+  pub returned : r ≡ outcomeCode (answer .outcome)
+  pub length-written : written′ ≡ answer .length

@@ -1,6 +1,7 @@
 // The C interface: one exported function an operation, which returns the code of the refusal, 0 for granted.
 // Parameters stand in the header's order. Contracts would have to quote `data` and names with an underscore, so `bytes`, `seed`, `secret`,
-// `next`, `highest` and `written` are the header's `data`, `public_seed`, `secret_seed`, `next_leaf`, `highest_leaf` and `message_written`.
+// `next`, `highest`, `written` and `length` are the header's `data`, `public_seed`, `secret_seed`, `next_leaf`, `highest_leaf`, `message_written`
+// and `sheet_written`.
 ghost use mathlib.Core.Path.{_≡_};
 ghost use mathlib.Core.Bool.{cond};
 ghost use lib.Dec.{eqb};
@@ -10,7 +11,7 @@ ghost use lib.ListN.{replicate};
 ghost use Rattle.refusal.specs.Code.{outcomeCode};
 ghost use Rattle.sha256.specs.Digest.{digest as digestOf};
 ghost use Rattle.sha256.specs.Running.{started, addCode, Adds};
-ghost use Rattle.zarosnik.specs.Interface.{shapeOf, profileOf, signingKeyOf, verifierOf, HashCall, CountCall, UnrankCall, RankCall, CompareCall, LeafKeyCall, RootCall, RevealCall, RecoverCall, SignCall, VerifyCall, ReadSheetCall};
+ghost use Rattle.zarosnik.specs.Interface.{shapeOf, profileOf, signingKeyOf, verifierOf, HashCall, CountCall, UnrankCall, RankCall, CompareCall, LeafKeyCall, RootCall, RevealCall, RecoverCall, SignCall, VerifyCall, ReadSheetCall, WriteSheetCall};
 use codewords::ranking::rank;
 use codewords::unrank;
 use counts::table::codeword_count;
@@ -23,6 +24,7 @@ use refusal::Outcome;
 use sha256::Added;
 use sha256::Hash;
 use sheet::read_sheet;
+use sheet_writer::write_sheet;
 use signer::SigningKey;
 use signer::sign;
 use tree::root;
@@ -344,5 +346,26 @@ pub extern "C" fn zarosnik_read_sheet(
     *written = read.length as usize;
     *line = read.line;
     let outcome = read.outcome;
+    returned(outcome)
+}
+
+// Write sheet.
+#[no_mangle]
+pub extern "C" fn zarosnik_write_sheet(
+    l: u32,
+    w: u32,
+    s: u32,
+    h: u32,
+    edition: u32,
+    signature: &[u8],
+    message: &[u8],
+    sheet: &mut [u8],
+    length: &mut usize,
+) -> u32
+    ensures { λ r. ⌜ WriteSheetCall (profileOf l w s h edition) (now (signature .entry)) (now (message .entry)) (now (sheet .entry)) (now (sheet .exit)) (now (length .exit)) r ⌝ }
+{
+    let made = write_sheet(profile(l, w, s, h, edition), signature, message, sheet);
+    *length = made.length;
+    let outcome = made.outcome;
     returned(outcome)
 }
