@@ -24,15 +24,15 @@ use Rattle.sheet_writer.proofs.WriteAnswer.{carried-numbered, carried-fit, fit-
 use Rattle.claims.specs.Sheets.{Yields, WrittenIsRead, Gives, ReadIsWritten}
 
 -- a right sheet is read into slices that are long enough
-right-read : (p : Profile) (signature text signatures texts : List ℕ) → firstCause (profileCauses p) ≡ 0 → Carried p signature text → length signature ≤ length signatures → length text ≤ length texts
-    → {signatures′ texts′ : List ℕ} {found : SheetRead} → ReadsSheet p (sheetOf p signature text) signatures texts signatures′ texts′ found → Yields signature text signatures texts signatures′ texts′ found
+right-read : (p : Profile) (signature text signatureSlice textSlice : List ℕ) → firstCause (profileCauses p) ≡ 0 → Carried p signature text → length signature ≤ length signatureSlice → length text ≤ length textSlice
+    → {signatureSlice′ textSlice′ : List ℕ} {found : SheetRead} → ReadsSheet p (sheetOf p signature text) signatureSlice textSlice signatureSlice′ textSlice′ found → Yields signature text signatureSlice textSlice signatureSlice′ textSlice′ found
 unfolding sheetCode lineIn signatureIn textIn isWrong
-right-read p signature text signatures texts passed carried enough room {signatures′} {texts′} {found} reads =
+right-read p signature text signatureSlice textSlice passed carried enough room {signatureSlice′} {textSlice′} {found} reads =
     let sheet = sheetOf p signature text in
     let is-read : readSheet p sheet ≡ read signature text = exact p (profile-limits p passed) sheet signature text .1 (carried, refl) in
-    let code : sheetCode p sheet signatures texts ≡ 0 =
-    none-then (profileCauses p) (sheetCauses p sheet signatures texts) passed (profile-numbered p)
-    ∙ rw (is-read, le-ltb (length signatures) (signatureLength p) (omega (arith, carried .whole)), le-ltb (length texts) (length text) room) in
+    let code : sheetCode p sheet signatureSlice textSlice ≡ 0 =
+    none-then (profileCauses p) (sheetCauses p sheet signatureSlice textSlice) passed (profile-numbered p)
+    ∙ rw (is-read, le-ltb (length signatureSlice) (signatureLength p) (omega (arith, carried .whole)), le-ltb (length textSlice) (length text) room) in
     record {
       granted = reads .code ∙ code;
       no-line = reads .line ∙ rw code;
@@ -43,41 +43,41 @@ right-read p signature text signatures texts passed carried enough room {signatu
 
 pub written-is-read : WrittenIsRead
 unfolding writeCode
-written-is-read p signature text sheet sheet′ made signature-bytes text-bytes writes granted signatures texts signatures′ texts′ found enough room reads =
+written-is-read p signature text sheetSlice sheetSlice′ made signature-bytes text-bytes writes granted signatureSlice textSlice signatureSlice′ textSlice′ found enough room reads =
     let whole = sheetOf p signature text in
-    let none : writeCode p signature text sheet ≡ 0 = sym (writes .code) ∙ granted in
-    let fit = carried-fit p signature text (none-of-append (carriedCauses p signature text) ((ltb (length sheet) (length whole), 6) ∷ []) (carried-numbered p signature text) none .0) in
+    let none : writeCode p signature text sheetSlice ≡ 0 = sym (writes .code) ∙ granted in
+    let fit = carried-fit p signature text (none-of-append (carriedCauses p signature text) ((ltb (length sheetSlice) (length whole), 6) ∷ []) (carried-numbered p signature text) none .0) in
     let long : made .length ≡ length whole = writes .bytes ∙ rw none in
-    let front : take (made .length) sheet′ ≡ whole = rw (writes .written, none, long) (take-at whole (drop (length whole) sheet) (length whole) refl) in
-    right-read p signature text signatures texts (fit .passed)
+    let front : take (made .length) sheetSlice′ ≡ whole = rw (writes .written, none, long) (take-at whole (drop (length whole) sheetSlice) (length whole) refl) in
+    right-read p signature text signatureSlice textSlice (fit .passed)
     (record { signature-bytes = signature-bytes; text-bytes = text-bytes; whole = fit .whole; some-text = fit .some-text; short-text = fit .short-text })
     enough room (rw front at reads)
 
 -- a signature and a text that a sheet can carry are written into a slice that is long enough
-right-written : (p : Profile) (signature text slice : List ℕ) → firstCause (profileCauses p) ≡ 0 → Carried p signature text → length (sheetOf p signature text) ≤ length slice
-    → {slice′ : List ℕ} {made : SheetWritten} → WritesSheet p signature text slice slice′ made → Gives (sheetOf p signature text) slice slice′ made
-right-written p signature text slice passed carried room {slice′} {made} writes =
+right-written : (p : Profile) (signature text sheetSlice : List ℕ) → firstCause (profileCauses p) ≡ 0 → Carried p signature text → length (sheetOf p signature text) ≤ length sheetSlice
+    → {sheetSlice′ : List ℕ} {made : SheetWritten} → WritesSheet p signature text sheetSlice sheetSlice′ made → Gives (sheetOf p signature text) sheetSlice sheetSlice′ made
+right-written p signature text sheetSlice passed carried room {sheetSlice′} {made} writes =
     let none = fit-carried p signature text (record { passed = passed; some-text = carried .some-text; short-text = carried .short-text; whole = carried .whole }) in
-    let code = room-granted p signature text slice none room in
+    let code = room-granted p signature text sheetSlice none room in
     record { granted = writes .code ∙ code; bytes = writes .bytes ∙ rw code; written = writes .written ∙ rw code }
 
 pub read-is-written : ReadIsWritten
 unfolding sheetCode isWrong signatureIn textIn
-read-is-written p sheet signatures texts signatures′ texts′ found reads granted slice slice′ made room writes = by (readSheet p sheet) refl
+read-is-written p sheet signatureSlice textSlice signatureSlice′ textSlice′ found reads granted sheetSlice sheetSlice′ made room writes = by (readSheet p sheet) refl
   where
-    none : sheetCode p sheet signatures texts ≡ 0
+    none : sheetCode p sheet signatureSlice textSlice ≡ 0
     none = sym (reads .code) ∙ granted
 
-    both : (firstCause (profileCauses p) ≡ 0) × (firstCause (sheetCauses p sheet signatures texts) ≡ 0)
-    both = none-of-append (profileCauses p) (sheetCauses p sheet signatures texts) (profile-numbered p) none
+    both : (firstCause (profileCauses p) ≡ 0) × (firstCause (sheetCauses p sheet signatureSlice textSlice) ≡ 0)
+    both = none-of-append (profileCauses p) (sheetCauses p sheet signatureSlice textSlice) (profile-numbered p) none
 
-    by : (r : Reading) → readSheet p sheet ≡ r → Gives sheet slice slice′ made
+    by : (r : Reading) → readSheet p sheet ≡ r → Gives sheet sheetSlice sheetSlice′ made
     by (wrongLine n) q = let seventeen : _≡_ {A = ℕ} 17 0 = rw q at (both .1) in absurd (omega arith)
     by (read signature text) q =
         let right = exact p (profile-limits p (both .0)) sheet signature text .0 q in
         let carried = right .0 in
-        let front : take (signatureLength p) signatures′ ≡ signature =
-        rw (reads .signature-written, none, q) (take-at signature (drop (signatureLength p) signatures) (signatureLength p) (carried .whole)) in
+        let front : take (signatureLength p) signatureSlice′ ≡ signature =
+        rw (reads .signature-written, none, q) (take-at signature (drop (signatureLength p) signatureSlice) (signatureLength p) (carried .whole)) in
         let long : found .length ≡ length text = reads .text-length ∙ rw (none, q) in
-        let words : take (found .length) texts′ ≡ text = rw (reads .text-written, none, q, long) (take-at text (drop (length text) texts) (length text) refl) in
-        rw (right .1) (right-written p signature text slice (both .0) carried (omega (arith, room, ap length (right .1))) (rw (front, words) at writes))
+        let words : take (found .length) textSlice′ ≡ text = rw (reads .text-written, none, q, long) (take-at text (drop (length text) textSlice) (length text) refl) in
+        rw (right .1) (right-written p signature text sheetSlice (both .0) carried (omega (arith, room, ap length (right .1))) (rw (front, words) at writes))
