@@ -1,12 +1,12 @@
--- What the checks of a profile tell: a shape that passes is within its limits, and so are the height and the edition of a profile.
+-- What the checks of a profile tell: a shape that passes is within its limits, and so are the height and the edition of a profile. The number of leaves, and a leaf's, fit a word.
 use mathlib.Core.Path.{_≡_, refl}
 use mathlib.Core.Bool.{Bool, true, false, _||_, true≢false}
 use mathlib.Core.List.{List, [], _∷_}
-use Prim.Native.Nat.{ℕ, _-_, _*_, _^_, _<_, _≤_}
-use native.Mathlib.Nat.{le-trans, mul-le-mul}
+use Prim.Native.Nat.{ℕ, _+_, _-_, _*_, _^_, _<_, _≤_}
+use native.Mathlib.Nat.{le-trans, mul-le-mul, pow-le-pow-right}
 use native.Mathlib.Omega.{arith}
 use borrow.Author.Tests.{lt-ltb, le-ltb, ltb-false, leb-false, ne-eqb}
-use lib.Dec.{ltb}
+use lib.Dec.{ltb, lit<}
 use Rattle.refusal.specs.Code.{firstCause}
 use Rattle.refusal.proofs.Causes.{Without, Numbered, without-append, smaller-number, none-here, none-of-append}
 use Rattle.profile.specs.Checks.{outside, shapeCauses, InLimits, profileCauses, leafBeyond}
@@ -90,3 +90,10 @@ sum-small p h = le-trans (h .reached) (mul-le-mul {n₂ = 40} {m₂ = 15} (h .fe
 pub leaf-within : (h leaf : ℕ) → leafBeyond h leaf ≡ false → leaf < 2 ^ h
 unfolding leafBeyond
 leaf-within h leaf e = leb-false (2 ^ h) leaf e
+
+-- a tree has at most 1,024 leaves, so the number behind a leaf's fits a word
+pub leaves-few : (h : ℕ) → h ≤ 10 → 2 ^ h ≤ 1024
+leaves-few h low = pow-le-pow-right {n = 2} (lit< tt) {i = h} {j = 10} low
+
+pub next-fits : (leaf h : ℕ) → h ≤ 10 → leaf < 2 ^ h → leaf + 1 < 2 ^ 32
+next-fits leaf h low below = omega (arith, leaves-few h low)

@@ -3,7 +3,7 @@ use Prim.Native.Nat.{_<_}
 use lib.Dec.{lit<}
 use Rattle.refusal.specs.Code.{code}
 use Rattle.refusal.specs.declared.Refusal.{Refusal}
-use Rattle.refusal.specs.declared.Refusal.the-variants.{ChainCount, Width, Sum, Height, TableTooShort, OutputTooShort, NumberTooLarge, CodewordLength, DigitTooLarge, CodewordSum, LeafOutOfRange, KeySpent, SignatureLength, LeafPassed, RootDiffers, MessageLength, SheetLine, HashTooLong, CountTooSmall, Edition}
+use Rattle.refusal.specs.declared.Refusal.the-variants.{ChainCount, Width, Sum, Height, TableTooShort, OutputTooShort, NumberTooLarge, CodewordLength, DigitTooLarge, CodewordSum, LeafOutOfRange, KeySpent, SignatureLength, LeafPassed, RootDiffers, MessageLength, SheetLine, HashTooLong, CountTooSmall, NoMark, MarkStands, Edition}
 
 pub code-positive : (r : Refusal) → 0 < code r
 code-positive ChainCount = lit< tt
@@ -25,4 +25,6 @@ code-positive MessageLength = lit< tt
 code-positive SheetLine = lit< tt
 code-positive HashTooLong = lit< tt
 code-positive CountTooSmall = lit< tt
+code-positive NoMark = lit< tt
+code-positive MarkStands = lit< tt
 code-positive Edition = lit< tt

@@ -4,7 +4,7 @@ use mathlib.Core.List.{List, [], _∷_}
 use Prim.Native.Nat.{ℕ}
 use lib.Dec.{eqb}
 use Rattle.refusal.specs.declared.Refusal.{Refusal}
-use Rattle.refusal.specs.declared.Refusal.the-variants.{ChainCount, Width, Sum, Height, TableTooShort, OutputTooShort, NumberTooLarge, CodewordLength, DigitTooLarge, CodewordSum, LeafOutOfRange, KeySpent, SignatureLength, LeafPassed, RootDiffers, MessageLength, SheetLine, HashTooLong, CountTooSmall, Edition}
+use Rattle.refusal.specs.declared.Refusal.the-variants.{ChainCount, Width, Sum, Height, TableTooShort, OutputTooShort, NumberTooLarge, CodewordLength, DigitTooLarge, CodewordSum, LeafOutOfRange, KeySpent, SignatureLength, LeafPassed, RootDiffers, MessageLength, SheetLine, HashTooLong, CountTooSmall, NoMark, MarkStands, Edition}
 use Rattle.refusal.specs.declared.Outcome.{Outcome}
 use Rattle.refusal.specs.declared.Outcome.the-variants.{Granted, Refused}
 
@@ -44,6 +44,9 @@ code SheetLine = 17
 code HashTooLong = 18
 -- document 02, point 3: "19 when the count is below 256"
 code CountTooSmall = 19
+-- document 02, point 5: "20 when sign finds no mark", "21 when reserve finds a mark"
+code NoMark = 20
+code MarkStands = 21
 -- document 02, point 6: "22 when the edition is neither" 1 nor 2
 code Edition = 22
 

@@ -24,6 +24,8 @@ pub enum Refusal {
     SheetLine,
     HashTooLong,
     CountTooSmall,
+    NoMark,
+    MarkStands,
     Edition,
 }
 
@@ -57,6 +59,8 @@ pub fn code(r: Refusal) -> u8
         Refusal::SheetLine => 17,
         Refusal::HashTooLong => 18,
         Refusal::CountTooSmall => 19,
+        Refusal::NoMark => 20,
+        Refusal::MarkStands => 21,
         Refusal::Edition => 22,
     }
 }
