@@ -42,11 +42,18 @@ pub fn frame_count(p: Profile) -> usize
     4 + shape.chains as usize + p.height as usize
 }
 
-// How many bytes the profile's frame has: one more in edition 2.
+// How many bytes the edition adds to a frame that names a profile.
+pub fn edition_bytes(edition: u32) -> usize
+    ensures { λ n. ⌜ (n ≡ length (editionByte edition)) × (n ≤ 1) ⌝ }
+{
+    if edition == 2 { 1 } else { 0 }
+}
+
+// How many bytes the profile's frame has.
 fn profile_bytes(edition: u32) -> usize
     ensures { λ n. ⌜ n ≡ 6 + length (editionByte edition) ⌝ }
 {
-    if edition == 2 { 7 } else { 6 }
+    6 + edition_bytes(edition)
 }
 
 // How many bytes the lines in front of the text have. A line of n bytes has 2 n + 1; n is 3 for the first, then the
@@ -84,15 +91,15 @@ pub fn frame_size(p: Profile, k: usize) -> Size
     }
 }
 
-// The fixed bytes of the profile's frame, as in edition 2: in edition 1 the last is left out.
-fn profile_head(p: Profile) -> [u8; 7]
+// The kind of a frame that names a profile, the profile's numbers, and the byte of edition 2.
+pub fn profile_head(kind: u8, p: Profile) -> [u8; 7]
     requires { ⌜ Within p ⌝ }
-    ensures { λ r. ⌜ r ≡ 1 ∷ p .shape .chains ∷ p .shape .width ∷ p .height ∷ (toBytes 2 (p .shape .sum) ++ editionByte 2) ⌝ }
+    ensures { λ r. ⌜ r ≡ kind ∷ p .shape .chains ∷ p .shape .width ∷ p .height ∷ (toBytes 2 (p .shape .sum) ++ editionByte 2) ⌝ }
 {
     let shape = p.shape;
     let sum = shape.sum;
     [
-        1,
+        kind,
         shape.chains as u8,
         shape.width as u8,
         p.height as u8,
@@ -119,7 +126,7 @@ pub fn head_byte(p: Profile, k: usize, i: usize) -> u8
     let values = 4 + shape.chains as usize;
     let count = frame_count(p);
     if k == 1 {
-        let head = profile_head(p);
+        let head = profile_head(1, p);
         return head[i];
     }
     if k < 4 {
