@@ -1,0 +1,3 @@
+-- A key, the counter of its leaves, and Reserve.
+pub mod Counter
+pub mod Key

@@ -1,0 +1,5 @@
+-- The stored key: its frame, Write key and Read key, and what they are to each other.
+pub mod KeyFrame
+pub mod Operations
+pub mod Parts
+pub mod RoundTrip

@@ -1,0 +1,159 @@
+// Read key: the key of a frame.
+ghost use mathlib.Core.Path.{_≡_};
+ghost use mathlib.Core.Bool.{cond};
+ghost use Prim.Native.Nat.{_+_, _*_, _≤_};
+ghost use lib.Dec.{eqb};
+ghost use lib.ListN.{length, drop};
+ghost use Rattle.stored_key.specs.KeyFrame.{keyIn, met};
+ghost use Rattle.stored_key.specs.Operations.{ReadsKey};
+ghost use Rattle.stored_key.specs.Parts.{framedTest, RefusesFrame};
+use hex::read_line;
+use profile::Profile;
+use profile::Shape;
+use profile::check_profile;
+use refusal::Outcome;
+use refusal::Refusal;
+use signing_key::Counter;
+use signing_key::SigningKey;
+use signing_key::marked;
+use words::bytes::read_16;
+use words::bytes::word_at;
+
+// What Read key answers: refused, the line is 1 and the key is all zero.
+pub struct KeyRead {
+    pub outcome: Outcome,
+    pub line: u32,
+    pub key: SigningKey,
+}
+
+// The answer to a frame that is wrong.
+fn refused() -> KeyRead
+    ensures { λ r. ⌜ RefusesFrame r ⌝ }
+{
+    KeyRead {
+        outcome: Outcome::Refused(Refusal::SheetLine),
+        line: 1,
+        key: SigningKey {
+            profile: Profile {
+                shape: Shape {
+                    chains: 0,
+                    width: 0,
+                    sum: 0,
+                },
+                height: 0,
+                edition: 0,
+            },
+            seed: [0; 16],
+            secret: [0; 16],
+            counter: Counter {
+                next: 0,
+                mark: false,
+            },
+        },
+    }
+}
+
+// Whether the kind, the mark and the edition's byte of a frame's bytes are right. The 44th byte stands in edition 2 alone.
+fn is_framed(bytes: &[u8]) -> bool
+    requires { ⌜ 43 ≤ length (now bytes) ⌝ }
+    ensures { λ r. ⌜ r ≡ framedTest (now (bytes .entry)) ⌝ }
+{
+    if bytes[0] != 7 {
+        return false;
+    }
+    if 2 <= bytes[42] {
+        return false;
+    }
+    if bytes.len() == 43 {
+        return true;
+    }
+    bytes[43] == 2
+}
+
+// The edition of a frame with so many bytes behind its kind.
+fn edition_of(behind: usize) -> u32
+    ensures { λ r. ⌜ r ≡ cond (eqb behind 43) 2 1 ⌝ }
+{
+    if behind == 43 { 2 } else { 1 }
+}
+
+// The profile in a frame's bytes.
+fn profile_in(bytes: &[u8]) -> Profile
+    requires { ⌜ 43 ≤ length (now bytes) ⌝ }
+    ensures { λ r. ⌜ r ≡ keyIn (drop 1 (now (bytes .entry))) .profile ⌝ }
+{
+    let edition = edition_of(bytes.len() - 1);
+    let sum = 256 * bytes[4] as u32 + bytes[5] as u32;
+    Profile {
+        shape: Shape {
+            chains: bytes[1] as u32,
+            width: bytes[2] as u32,
+            sum: sum,
+        },
+        height: bytes[3] as u32,
+        edition: edition,
+    }
+}
+
+// The key in a frame's bytes. A mark that does not count is read as none.
+fn key_in(bytes: &[u8]) -> SigningKey
+    requires { ⌜ 43 ≤ length (now bytes) ⌝ }
+    ensures { λ r. ⌜ r ≡ met (keyIn (drop 1 (now (bytes .entry)))) ⌝ }
+{
+    let p = profile_in(bytes);
+    let seed = read_16(bytes, 6);
+    let secret = read_16(bytes, 22);
+    let next = word_at(bytes, 38);
+    let counter = Counter {
+        next: next,
+        mark: bytes[42] == 1,
+    };
+    let mark = marked(p, counter);
+    SigningKey {
+        profile: p,
+        seed: seed,
+        secret: secret,
+        counter: Counter {
+            next: next,
+            mark: mark,
+        },
+    }
+}
+
+// Read key for a frame as long as a line of so many bytes as the slice has, into which it is read.
+fn read_sized(frame: &[u8], bytes: &mut [u8]) -> KeyRead
+    requires { ⌜ (43 ≤ length (now bytes)) × (length (now bytes) ≤ 44) × (length (now frame) ≡ 2 * length (now bytes) + 1) ⌝ }
+    ensures { λ r. ⌜ ReadsKey (now (frame .entry)) r ⌝ }
+{
+    if !read_line(frame, 0, bytes) {
+        return refused();
+    }
+    if !is_framed(bytes) {
+        return refused();
+    }
+    let key = key_in(bytes);
+    let p = key.profile;
+    let outcome = check_profile(p);
+    match outcome {
+        Outcome::Refused(_) => refused(),
+        Outcome::Granted => KeyRead {
+            outcome: outcome,
+            line: 0,
+            key: key,
+        },
+    }
+}
+
+// Read key: a frame of 43 bytes is of edition 1, and one of 44 of edition 2.
+pub fn read_key(frame: &[u8]) -> KeyRead
+    ensures { λ r. ⌜ ReadsKey (now (frame .entry)) r ⌝ }
+{
+    let mut bytes = [0u8; 44];
+    if frame.len() == 87 {
+        return read_sized(frame, &mut bytes[..43]);
+    }
+    if frame.len() == 89 {
+        return read_sized(frame, &mut bytes[..44]);
+    }
+    refused()
+}

@@ -1,0 +1,109 @@
+// Write key: the frame of a key.
+ghost use mathlib.Core.Path.{_≡_};
+ghost use mathlib.Core.Bool.{cond};
+ghost use mathlib.Core.List.{_++_};
+ghost use Prim.Native.Nat.{_+_, _*_, _≤_};
+ghost use lib.ListN.{length, drop};
+ghost use Rattle.refusal.specs.Code.{firstCause};
+ghost use Rattle.hex.specs.Hex.{hexOf};
+ghost use Rattle.profile.specs.Checks.{profileCauses};
+ghost use Rattle.frames.specs.Frames.{Within, editionByte};
+ghost use Rattle.signing_key.specs.Counter as counting;
+ghost use Rattle.stored_key.specs.KeyFrame.{storedKey};
+ghost use Rattle.stored_key.specs.Operations.{WritesKey};
+ghost use Rattle.stored_key.specs.Parts.{frontBytes, lastBytes};
+use frames::edition_bytes;
+use frames::profile_head;
+use hex::write_bytes;
+use hex::write_line;
+use profile::Profile;
+use profile::check_profile;
+use refusal::Outcome;
+use refusal::Refusal;
+use signing_key::Counter;
+use signing_key::SigningKey;
+use signing_key::marked;
+use words::bytes::word_bytes;
+
+// What Write key answers: refused, no byte is written.
+pub struct KeyWritten {
+    pub outcome: Outcome,
+    pub length: usize,
+}
+
+// The byte of a mark.
+fn mark_byte(mark: bool) -> u8
+    ensures { λ r. ⌜ r ≡ cond mark 1 0 ⌝ }
+{
+    if mark { 1 } else { 0 }
+}
+
+// The bytes behind the seeds, as in edition 2: in edition 1 the last is left out. A mark that does not count is written as none.
+fn last_bytes(p: Profile, counter: Counter) -> [u8; 6]
+    ensures { λ r. ⌜ r ≡ lastBytes (counter .next) (counting.marked p counter) 2 ⌝ }
+{
+    let next = word_bytes(counter.next);
+    let mark = mark_byte(marked(p, counter));
+    [next[0], next[1], next[2], next[3], mark, 2]
+}
+
+// Writes the frame of a key up to behind its seeds.
+fn write_front(p: Profile, seed: [u8; 16], secret: [u8; 16], frame: &mut [u8])
+    requires { ⌜ Within p × (76 ≤ length (now frame)) ⌝ }
+    ensures { λ _. ⌜ now (frame .exit) ≡ hexOf (frontBytes p ++ seed ++ secret) ++ drop 76 (now (frame .entry)) ⌝ }
+{
+    let front = profile_head(7, p);
+    write_bytes(frame, 0, &front[..6]);
+    write_bytes(frame, 12, &seed);
+    write_bytes(frame, 44, &secret);
+}
+
+// Writes the frame of a key, and gives the index behind it.
+fn write_frame(key: SigningKey, frame: &mut [u8]) -> usize
+    requires { ⌜ Within (key .profile) × (87 + 2 * length (editionByte (key .profile .edition)) ≤ length (now frame)) ⌝ }
+    ensures { λ r. ⌜ (r ≡ length (storedKey key)) × (now (frame .exit) ≡ storedKey key ++ drop r (now (frame .entry))) ⌝ }
+{
+    let p = key.profile;
+    let seed = key.seed;
+    let secret = key.secret;
+    let last = last_bytes(p, key.counter);
+    let count = 5 + edition_bytes(p.edition);
+    write_front(p, seed, secret, frame);
+    write_line(frame, 76, &last[..count])
+}
+
+// Write key for a profile within its limits: nothing is written unless the frame has room. A line of n bytes has 2 n + 1,
+// and n is 43 in edition 1.
+fn write_checked(key: SigningKey, frame: &mut [u8]) -> KeyWritten
+    requires { ⌜ firstCause (profileCauses (key .profile)) ≡ 0 ⌝ }
+    ensures { λ r. ⌜ WritesKey key (now (frame .entry)) (now (frame .exit)) r ⌝ }
+{
+    let p = key.profile;
+    if frame.len() < 87 + 2 * edition_bytes(p.edition) {
+        KeyWritten {
+            outcome: Outcome::Refused(Refusal::OutputTooShort),
+            length: 0,
+        }
+    } else {
+        let end = write_frame(key, frame);
+        KeyWritten {
+            outcome: Outcome::Granted,
+            length: end,
+        }
+    }
+}
+
+// Write key: the frame of a key into the first bytes of `frame`.
+pub fn write_key(key: SigningKey, frame: &mut [u8]) -> KeyWritten
+    ensures { λ r. ⌜ WritesKey key (now (frame .entry)) (now (frame .exit)) r ⌝ }
+{
+    let p = key.profile;
+    let outcome = check_profile(p);
+    match outcome {
+        Outcome::Refused(_) => KeyWritten {
+            outcome: outcome,
+            length: 0,
+        },
+        Outcome::Granted => write_checked(key, frame),
+    }
+}
