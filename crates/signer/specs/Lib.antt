@@ -1,2 +1,2 @@
--- The issuing key.
+-- Sign.
 pub mod Signing

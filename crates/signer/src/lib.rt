@@ -1,7 +1,7 @@
-// The issuing key: Issue.
+// Sign: the signature of a message, with the leaf that the key has marked.
 ghost use mathlib.Core.Path.{_≡_};
 ghost use mathlib.Core.List.{_++_};
-ghost use Prim.Native.Nat.{_+_, _*_, _^_, _≤_, _<_};
+ghost use Prim.Native.Nat.{_*_, _^_, _≤_, _<_};
 ghost use lib.ListN.{length, take, drop};
 ghost use Rattle.refusal.specs.Code.{outcomeCode, thenFirst};
 ghost use Rattle.words.specs.Bytes.{toBytes};
@@ -21,10 +21,13 @@ use message::message_number;
 use message::outside_text;
 use message::signature_length;
 use profile::Profile;
-use profile::leaf_beyond;
 use refusal::Outcome;
 use refusal::Refusal;
 use refusal::then;
+use signing_key::SigningKey;
+use signing_key::clear;
+use signing_key::marked;
+use signing_key::with_counter;
 use tree::climb_path;
 use tree::write_path;
 use tweak::Hasher;
@@ -34,51 +37,18 @@ use words::bytes::copy;
 use words::bytes::word_bytes;
 use words::bytes::write_16;
 
-// A key (document 01): its profile, both seeds, and the next leaf that it will use.
-pub struct SigningKey {
-    pub profile: Profile,
-    pub seed: [u8; 16],
-    pub secret: [u8; 16],
-    pub next: u32,
-}
-
-// Whether a key has no leaf left.
-fn spent(key: SigningKey) -> bool
-    ensures { λ r. ⌜ r ≡ spec.spent key ⌝ }
-{
-    let p = key.profile;
-    let height = p.height;
-    let next = key.next;
-    leaf_beyond(height, next)
-}
-
-// The key with its next leaf taken.
-fn advance(key: SigningKey) -> SigningKey
-    requires { ⌜ key .next + 1 < 2 ^ 32 ⌝ }
-    ensures { λ r. ⌜ r ≡ spec.advanced key ⌝ }
-{
-    let profile = key.profile;
-    let seed = key.seed;
-    let secret = key.secret;
-    SigningKey {
-        profile: profile,
-        seed: seed,
-        secret: secret,
-        next: key.next + 1,
-    }
-}
-
-// The causes of Issue between 5 and 19, behind an outcome.
+// The causes of Sign between 5 and 19, behind an outcome.
 fn sign_outcome(checked: Outcome, key: SigningKey, text: usize, bytes: usize) -> Outcome
     ensures { λ r. ⌜ outcomeCode r ≡ thenFirst (outcomeCode checked) (spec.orderCauses key text bytes) ⌝ }
 {
     let p = key.profile;
     let outside = outside_text(text);
     let short = bytes < signature_length(p);
-    let used = spent(key);
+    let counter = key.counter;
+    let unmarked = !marked(p, counter);
     let worded = then(checked, outside, Refusal::MessageLength);
     let roomy = then(worded, short, Refusal::OutputTooShort);
-    then(roomy, used, Refusal::KeySpent)
+    then(roomy, unmarked, Refusal::NoMark)
 }
 
 // Writes the four bytes of a leaf's number at the front.
@@ -150,14 +120,14 @@ fn make_signature(
     made
 }
 
-// What Issue answers, with the key that it hands back.
+// What Sign answers, with the key that it hands back.
 pub struct Signed {
     pub outcome: Outcome,
     pub key: SigningKey,
 }
 
-// Issue: the signature of the message, with the key's next leaf, into the first bytes of `signature`, which are written once
-// everything is decided.
+// Sign: the signature of the message, with the leaf that Reserve has marked, the one before the key's next, into the first
+// bytes of `signature`, which are written once everything is decided.
 pub fn sign(
     key: SigningKey,
     r: [u8; 16],
@@ -178,7 +148,10 @@ pub fn sign(
             key: key,
         },
         Outcome::Granted => {
-            let after = advance(key);
+            let counter = key.counter;
+            let leaf = counter.next - 1;
+            let cleared = clear(counter);
+            let after = with_counter(key, cleared);
             if count_too_small(count) {
                 Signed {
                     outcome: Outcome::Refused(Refusal::CountTooSmall),
@@ -187,15 +160,14 @@ pub fn sign(
             } else {
                 let seed = key.seed;
                 let secret = key.secret;
-                let next = key.next;
                 let h = first_hasher(seed);
-                let way = way_up(h, p, &secret, next);
+                let way = way_up(h, p, &secret, leaf);
                 let root = way.root;
-                let number = message_number(p, count, next, r, seed, root, message);
+                let number = message_number(p, count, leaf, r, seed, root, message);
                 let mut row = [0u8; 40];
                 write_codeword(shape, number, table, &mut row);
                 let siblings = way.siblings;
-                let made = make_signature(h, p, &secret, next, r, row, siblings);
+                let made = make_signature(h, p, &secret, leaf, r, row, siblings);
                 let bytes = signature_length(p);
                 copy(&made, bytes, signature, 0);
                 Signed {

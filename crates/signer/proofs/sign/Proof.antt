@@ -7,9 +7,10 @@ use denote.Ref.{now}
 use lib.ListN.{length}
 use Rattle.refusal.specs.Code.{outcomeCode}
 use Rattle.words.specs.Number.{value}
+use Rattle.signing_key.specs.Counter.{cleared}
+use Rattle.signing_key.specs.Key.{recounted}
 use Rattle.counts.specs.Counts.{count}
 use Rattle.counts.proofs.Answer.{count-value, table-held}
-use Rattle.message.proofs.Fits.{next-fits}
 use Rattle.message.specs.Message.{countTooSmall, signatureLength}
 use Rattle.signer.specs.Signing.{keyNumber}
 use Rattle.signer.proofs.Answers.{SignFits, number-is, key-number-fits, sign-kept, sign-passed, sign-fits, sign-refused, sign-nineteen, sign-granted}
@@ -54,25 +55,33 @@ fits g =
     let a = begun g .args in
     sign-fits (a .key) (a .r) (now (a .message)) (now (a .table)) (now (a .signature)) (e .before .table-outcome .ensures) (e .sign-outcome .ensures) (none g)
 
-advance-requires : tie.Need-advance-requires
-advance-requires c κs = next-fits (begun c .args .key .next) (begun c .args .key .profile .height) (fits c .low) (fits c .fresh)
+-- a leaf is marked, so that there is one before the next
+sub-leaf : tie.Need-sub-leaf
+sub-leaf c = omega (arith, fits (c .before .before) .some)
+
+-- the key without its mark
+abbrev told : tie.After-clear → tie.After-enum-told2
+told c = c .before .before .before
+
+cleared-key : (t : tie.After-with-counter) → t .with-counter .result ≡ recounted (begun (told (t .before)) .args .key) (cleared (begun (told (t .before)) .args .key .counter))
+cleared-key t = t .with-counter .ensures ∙ ap (recounted (begun (told (t .before)) .args .key)) (t .before .clear .ensures)
 
 -- the count, and what the test of it tells
 counted : (g : tie.After-enum-told2) → value (filled g .fill-past .result) ≡ count (begun g .args .key .profile .shape)
 counted g = count-value (begun g .args .key .profile .shape) (fits g .limits) (rw (none g) at (filled g .fill-past .ensures .counted))
 
-looked : (t : tie.After-count-too-small) → t .count-too-small .result ≡ countTooSmall (count (begun (t .before .before) .args .key .profile .shape))
-looked t = t .count-too-small .ensures ∙ ap countTooSmall (counted (t .before .before))
+looked : (t : tie.After-count-too-small) → t .count-too-small .result ≡ countTooSmall (count (begun (told (t .before .before)) .args .key .profile .shape))
+looked t = t .count-too-small .ensures ∙ ap countTooSmall (counted (told (t .before .before)))
 
 -- the way on which it is large enough
 abbrev granted : tie.Else1 → tie.After-enum-told2
-granted w = w .before .before .before
+granted w = told (w .before .before .before)
 
 large : (w : tie.Else1) → countTooSmall (count (begun (granted w) .args .key .profile .shape)) ≡ false
 large w = sym (looked (w .before)) ∙ w .if1 .left
 
 way-up-requires : tie.Need-way-up-requires
-way-up-requires c κs = let known = fits (granted (c .before .before .before .before)) in (c .before .first-hasher .ensures .1, (known .limits, known .low, known .fresh))
+way-up-requires c κs = let known = fits (granted (c .before .before .before .before)) in (c .before .first-hasher .ensures .1, (known .limits, known .low, known .in-tree))
 
 message-number-requires : tie.Need-message-number-requires
 message-number-requires c κs = let g = granted (c .before .before .before .before .before .before) in (counted g, fits g .short)
@@ -129,7 +138,7 @@ made-for k = k .before .before .before .before
 returns-2 : tie.Need-returns-2
 returns-2 c =
     let small = c .before in
-    let g = small .before .before in
+    let g = told (small .before .before) in
     let e = early (filled g) in
     let a = begun g .args in
     sign-nineteen (a .key) (a .r) (now (a .message)) (now (a .table)) (now (a .signature)) (e .before .table-outcome .ensures) (e .sign-outcome .ensures) (filled g .fill-past .ensures .table) (none g)
@@ -148,7 +157,7 @@ returns-3 c =
     let e = early (filled g) in
     let a = begun g .args in
     sign-granted (a .key) (a .r) (now (a .message)) (now (a .table)) (now (a .signature)) (e .before .table-outcome .ensures) (e .sign-outcome .ensures) (filled g .fill-past .ensures .table) (none g)
-    _ _ (hasher n .first-hasher .ensures .0) (g .enum-told2 .given .1) (number n) (large (chosen n)) (row .write-codeword .ensures) (chosen n .before .before .advance .ensures)
+    _ _ (hasher n .first-hasher .ensures .0) (g .enum-told2 .given .1) (number n) (large (chosen n)) (row .write-codeword .ensures) (cleared-key (chosen n .before .before))
     (n .before .before .way-up .ensures .0) (made .make-signature .ensures) (copied .before .before .before .signature-length .ensures) (copied .copy .ensures)
 
 pub sign-spec : {M : Type 1} → statement M
@@ -158,7 +167,8 @@ sign-spec =
     (λ c κs. search needs) (λ c κs. search needs)
     fill-past-requires
     (λ c. search needs) (λ c. search needs)
-    advance-requires
+    sub-leaf
+    (λ c κs. search needs) (λ c κs. search needs)
     (λ c κs. search needs) (λ c κs. search needs)
     way-up-requires
     message-number-requires
