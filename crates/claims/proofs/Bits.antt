@@ -1,4 +1,4 @@
--- The bits of a message number, and where Issue and Check answer 19.
+-- The bits of a message number, and where Sign and Check answer 19.
 use mathlib.Core.Path.{_≡_, refl, sym, ap, _∙_}
 use mathlib.Core.Bool.{Bool, not}
 use mathlib.Core.List.{List, [], _∷_, _++_, append-assoc}
@@ -20,7 +20,7 @@ use Rattle.counts.proofs.Room.{table-numbered}
 use Rattle.message.specs.Message.{countTooSmall}
 use Rattle.message.proofs.NumberLaws.{bits-few, bits-held, bits-largest, number-of-bits, number-below-count, number-of-16-bytes}
 use Rattle.signer.specs.Signing as signing
-use Rattle.signer.specs.declared.SigningKey.{SigningKey}
+use Rattle.signing_key.specs.declared.SigningKey.{SigningKey}
 use Rattle.verifier.specs.Verifying as verifying
 use Rattle.verifier.specs.declared.Verifier.{Verifier}
 use Rattle.claims.specs.Bits.{LargestBits, NumbersFit, SmallCounts}

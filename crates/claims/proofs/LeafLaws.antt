@@ -1,18 +1,21 @@
--- What the list theorems know of the leaves of a tree, of those that a cabinet still takes and of the leaf that a key gives next: no other law of theirs opens
--- `leafBeyond`, `taken`, `spent` or `advanced`, and of `passed` they know the laws of `window` alone.
+-- What the list theorems know of the leaves of a tree, of those that a cabinet still takes and of the leaf that a key has marked: no other law of theirs opens
+-- `leafBeyond`, `taken` or `counterAfter`, of `passed` they know the laws of `window` alone, and of `marked` those of `signing_key`.
 use mathlib.Core.Path.{_≡_, refl, sym, _∙_}
-use mathlib.Core.Bool.{false, _||_}
+use mathlib.Core.Bool.{Bool, true, false, _||_, true≢false}
 use mathlib.Core.List.{List}
 use Prim.Native.Nat.{ℕ, _+_, _^_, _<_, _≤_}
 use native.Mathlib.Nat.{le-refl}
 use native.Mathlib.Omega.{arith}
 use borrow.Author.Tests.{lt-leb}
+use lib.Dec.{eqb}
 use Rattle.words.proofs.Tests.{neither}
 use Rattle.profile.specs.Checks.{leafBeyond}
 use Rattle.profile.specs.declared.Profile.{Profile}
-use Rattle.profile.proofs.Limits.{leaf-within}
-use Rattle.signer.specs.Signing.{freshKey, spent, advanced}
-use Rattle.signer.specs.declared.SigningKey.{SigningKey}
+use Rattle.signing_key.specs.Counter.{freshCounter, marked, reserved, cleared, reserveCode, counterAfter}
+use Rattle.signing_key.specs.Key.{freshKey, recounted, reservedKey}
+use Rattle.signing_key.specs.declared.Counter.{Counter}
+use Rattle.signing_key.specs.declared.SigningKey.{SigningKey}
+use Rattle.signing_key.proofs.CounterLaws.{cleared-unmarked}
 use Rattle.window.specs.Window.{freshWindow, passed}
 use Rattle.window.proofs.WindowLaws.{passed-none, behind, behind-other, not-behind, passed-after}
 use Rattle.verifier.specs.Verifying.{freshVerifier, taken}
@@ -61,23 +64,43 @@ module _ (v : Verifier) (leaf x : ℕ) (free : Free v leaf) where
   pub free-after : Free v x → (leaf ≡ x → ⊥) → leaf < x + 32 → Free (taken v leaf) x
   free-after none other near = now-passed ∙ rw (none, not-behind leaf x (λ same. other (sym same)) near)
 
--- a key with this profile and these seeds, whose next leaf is n or more
-pub record KeyFrom (p : Profile) (seed secret : List ℕ) (key : SigningKey) (n : ℕ) : Type 0 where
-  pub same-profile : key .profile ≡ p
-  pub same-seed : key .seed ≡ seed
-  pub same-secret : key .secret ≡ secret
-  pub reached : n ≤ key .next
+module _ (p : Profile) (seed secret : List ℕ) where
+  -- a key with this profile and these seeds
+  pub record KeyOf (key : SigningKey) : Type 0 where
+    pub same-profile : key .profile ≡ p
+    pub same-seed : key .seed ≡ seed
+    pub same-secret : key .secret ≡ secret
 
-pub fresh-from : (p : Profile) (seed secret : List ℕ) → KeyFrom p seed secret (freshKey p seed secret) 0
-fresh-from p seed secret = record { same-profile = refl; same-seed = refl; same-secret = refl; reached = le-refl 0 }
+  -- one that signs with no leaf below n: its next leaf is n or more, and so is a marked one
+  pub record KeyFrom (key : SigningKey) (n : ℕ) : Type 0 where
+    pub of : KeyOf key
+    pub reached : n ≤ key .counter .next
+    pub unsigned : marked p (key .counter) ≡ true → n < key .counter .next
 
--- an advanced key keeps all but its next leaf, which rises
-pub advanced-from : (p : Profile) (seed secret : List ℕ) (key : SigningKey) (n : ℕ) → KeyFrom p seed secret key n → KeyFrom p seed secret (advanced key) (key .next + 1)
-unfolding advanced
-advanced-from p seed secret key n from =
-    record { same-profile = from .same-profile; same-seed = from .same-seed; same-secret = from .same-secret; reached = omega arith }
+  pub fresh-of : KeyOf (freshKey p seed secret)
+  fresh-of = record { same-profile = refl; same-seed = refl; same-secret = refl }
 
--- a key that is not spent has its next leaf in the tree
-pub not-spent : (key : SigningKey) → spent key ≡ false → key .next < 2 ^ key .profile .height
-unfolding spent
-not-spent key e = leaf-within (key .profile .height) (key .next) e
+  pub recounted-of : (key : SigningKey) (c : Counter) → KeyOf key → KeyOf (recounted key c)
+  recounted-of key c of = record { same-profile = of .same-profile; same-seed = of .same-seed; same-secret = of .same-secret }
+
+  pub fresh-from : KeyFrom (freshKey p seed secret) 0
+  fresh-from = record { of = fresh-of; reached = le-refl 0; unsigned = λ e. absurd (true≢false (sym e ∙ cleared-unmarked p freshCounter)) }
+
+  module _ (key : SigningKey) (n : ℕ) where
+    -- Reserve, granted, marks the next leaf; refused, it changes nothing
+    pub reserved-from : KeyFrom key n → KeyFrom (reservedKey key) n
+    unfolding counterAfter
+    reserved-from from = by (eqb (reserveCode (key .profile) (key .counter)) 0) refl
+      where
+        by : (granted : Bool) → eqb (reserveCode (key .profile) (key .counter)) 0 ≡ granted → KeyFrom (reservedKey key) n
+        by true e = rw e (record { of = recounted-of key (reserved (key .counter)) (from .of); reached = omega (arith, from .reached); unsigned = λ m. omega (arith, from .reached) })
+        by false e = rw e (record { of = recounted-of key (key .counter) (from .of); reached = from .reached; unsigned = from .unsigned })
+
+    -- a key that has signed: its next leaf is above the one that it used, and none is marked
+    pub cleared-from : KeyOf key → KeyFrom (recounted key (cleared (key .counter))) (key .counter .next)
+    cleared-from of =
+        record {
+          of = recounted-of key (cleared (key .counter)) of;
+          reached = le-refl (key .counter .next);
+          unsigned = λ e. absurd (true≢false (sym e ∙ cleared-unmarked p (key .counter)));
+        }

@@ -10,7 +10,9 @@ pub mod Largest
 pub mod LeafLaws
 pub mod Made
 pub mod OrdersProved
+pub mod PowerCuts
 pub mod ReadBack
+pub mod Rounds
 pub mod Sheets
 pub mod Source
 pub mod SymmetricChains

@@ -1,11 +1,11 @@
--- The signature that a key makes of a message with a leaf, and that a granted call of Issue issues such a one.
+-- The signature that a key makes of a message with a leaf, and that a granted call of Sign issues such a one, with the marked leaf.
 use mathlib.Core.Path.{_≡_, refl}
-use mathlib.Core.Bool.{Bool, true, false}
+use mathlib.Core.Bool.{Bool, true, false, not}
 use mathlib.Core.List.{List, [], _∷_}
-use Prim.Native.Nat.{ℕ, _+_, _^_, _<_}
+use Prim.Native.Nat.{ℕ, _^_, _<_}
 use native.Mathlib.Nat.{le-refl}
 use native.Mathlib.Omega.{arith}
-use borrow.Author.Tests.{eqb-true}
+use borrow.Author.Tests.{eqb-true, not-false}
 use lib.Dec.{ltb, eqb}
 use lib.ListN.{length, drop}
 use lib.Seq.{take-at}
@@ -13,7 +13,10 @@ use Rattle.refusal.specs.Code.{firstCause}
 use Rattle.refusal.proofs.Causes.{none-here, none-of-append}
 use Rattle.profile.specs.Checks.{profileCauses}
 use Rattle.profile.specs.declared.Profile.{Profile}
-use Rattle.profile.proofs.Limits.{profile-numbered, profile-passed}
+use Rattle.profile.proofs.Limits.{profile-numbered, profile-passed, next-fits}
+use Rattle.signing_key.specs.Counter.{marked}
+use Rattle.signing_key.specs.declared.SigningKey.{SigningKey}
+use Rattle.signing_key.proofs.CounterLaws.{marked-within}
 use Rattle.counts.specs.Counts.{count}
 use Rattle.counts.specs.Table.{tableLength, tableCauses}
 use Rattle.counts.proofs.Room.{table-numbered}
@@ -21,13 +24,12 @@ use Rattle.tweak.specs.Tweak.{firstDomain}
 use Rattle.tweak.specs.declared.Domain.{Domain}
 use Rattle.tree.specs.Tree.{rootOf}
 use Rattle.message.specs.Message.{messageNumber, countTooSmall, outsideText, signatureLength}
-use Rattle.message.proofs.Fits.{next-fits}
 use Rattle.message.proofs.NumberLaws.{number-fits}
-use Rattle.signer.specs.Signing.{spent, keyNumber, signatureOf, signCode, keyAfter, outputAfter}
-use Rattle.signer.specs.declared.SigningKey.{SigningKey}
+use Rattle.signer.specs.Signing.{leafToSign, keyNumber, signatureOf, signCode, keyAfter, outputAfter}
 use Rattle.signer.proofs.SignatureLaws.{length-signature}
-use Rattle.claims.specs.Orders.{IssueCall, Issued, signedBy, issuedBy, leafOf, keyHandedBack}
-use Rattle.claims.proofs.LeafLaws.{KeyFrom, advanced-from, not-spent}
+use Rattle.claims.specs.Orders.{SigningCall, Issued, signedBy, issuedBy, KeyCall, keyHandedBack, givenBy, leafOf}
+use Rattle.claims.specs.Orders.KeyCall.{reserve, sign}
+use Rattle.claims.proofs.LeafLaws.{KeyFrom, reserved-from, cleared-from}
 use Rattle.claims.proofs.ReadBack.{ReadBack, read-back}
 use Rattle.claims.proofs.Source.{Rises}
 
@@ -67,46 +69,68 @@ module _ (p : Profile) (seed secret : List ℕ) where
   made-own : (leaf : ℕ) (one : Issued) → Made leaf one → MadeOwn one
   made-own leaf one made = rw (made-read leaf one made .own-leaf) made
 
--- what is known where a call of Issue is granted
-module _ (key : SigningKey) (c : IssueCall) where
-  abbrev granted : Bool
+-- what is known where a call of Sign is granted
+module _ (key : SigningKey) (c : SigningCall) where
+  abbrev pub granted : Bool
   granted = eqb (signCode key (c .r) (c .message) (c .work) (c .out)) 0
 
-  issue-made : granted ≡ true → Made (key .profile) (key .seed) (key .secret) (key .next) (signedBy key c)
+  -- a leaf is marked, and the signature is made with it
+  pub sign-made : granted ≡ true → (marked (key .profile) (key .counter) ≡ true) × Made (key .profile) (key .seed) (key .secret) (leafToSign key) (signedBy key c)
   unfolding signCode tableCauses signedBy outputAfter keyNumber
-  issue-made e =
+  sign-made e =
       let p = key .profile in
       let n = keyNumber key (c .r) (c .message) in
+      let unmarked : Bool = not (marked p (key .counter)) in
       let counted : List (Bool × ℕ) = (countTooSmall (count (p .shape)), 19) ∷ [] in
-      let leaf : List (Bool × ℕ) = (spent key, 12) ∷ counted in
+      let leaf : List (Bool × ℕ) = (unmarked, 20) ∷ counted in
       let output : List (Bool × ℕ) = (ltb (length (c .out)) (signatureLength p), 6) ∷ leaf in
       let table = none-of-append (tableCauses p (length (c .work))) ((outsideText (length (c .message)), 16) ∷ output) (table-numbered p (length (c .work))) (eqb-true _ 0 e) in
       let text = none-here (outsideText (length (c .message))) 16 output refl (table .1) in
       let room = none-here (ltb (length (c .out)) (signatureLength p)) 6 leaf refl (text .1) in
-      let left = none-here (spent key) 12 counted refl (room .1) in
-      record {
-        r = c .r;
-        sixteen = c .sixteen;
-        profile = none-of-append (profileCauses p) ((ltb (length (c .work)) (tableLength (p .shape)), 5) ∷ []) (profile-numbered p) (table .0) .0;
-        text = text .0;
-        in-tree = not-spent key (left .0);
-        large = none-here (countTooSmall (count (p .shape))) 19 [] refl (left .1) .0;
-        bytes =
-            rw e
-            (take-at (signatureOf (firstDomain (key .seed)) p (key .secret) (key .next) n (c .r)) (drop (signatureLength p) (c .out)) (signatureLength p)
-            (length-signature (firstDomain (key .seed)) p (key .secret) (key .next) n (c .r) (c .sixteen)));
-      }
+      let found = none-here unmarked 20 counted refl (room .1) in
+      let mark = not-false (marked p (key .counter)) (found .0) in
+      let within = marked-within p (key .counter) mark in (
+        mark,
+        record {
+          r = c .r;
+          sixteen = c .sixteen;
+          profile = none-of-append (profileCauses p) ((ltb (length (c .work)) (tableLength (p .shape)), 5) ∷ []) (profile-numbered p) (table .0) .0;
+          text = text .0;
+          in-tree = omega arith;
+          large = none-here (countTooSmall (count (p .shape))) 19 [] refl (found .1) .0;
+          bytes =
+              rw e
+              (take-at (signatureOf (firstDomain (key .seed)) p (key .secret) (leafToSign key) n (c .r)) (drop (signatureLength p) (c .out)) (signatureLength p)
+              (length-signature (firstDomain (key .seed)) p (key .secret) (leafToSign key) n (c .r) (c .sixteen)));
+        },
+      )
 
-  -- a call of Issue, as a source of leaves
-  module _ (p : Profile) (seed secret : List ℕ) where
-    pub issue-step : (n : ℕ) → KeyFrom p seed secret key n → (m : ℕ) × Rises leafOf (MadeOwn p seed secret) n (issuedBy key c) m × KeyFrom p seed secret (keyHandedBack key c) m
+  -- a call of Sign, at a key that signs with no leaf below n
+  module _ (p : Profile) (seed secret : List ℕ) (n : ℕ) (from : KeyFrom p seed secret key n) where
+    -- granted, it issues the marked leaf, and no leaf below the next one comes behind it
+    pub sign-granted : granted ≡ true → Rises leafOf (MadeOwn p seed secret) n (signedBy key c ∷ []) (key .counter .next)
+    sign-granted e =
+        let one = signedBy key c in
+        let of = from .of in
+        let known = sign-made e in
+        let mark : marked p (key .counter) ≡ true = rw (← of .same-profile) (known .0) in
+        let made : Made p seed secret (leafToSign key) one = rw (← of .same-profile, ← of .same-seed, ← of .same-secret) (known .1) in
+        let own = made-read p seed secret (leafToSign key) one made .own-leaf in
+        let above = from .unsigned mark in
+        (omega arith, made-own p seed secret (leafToSign key) one made, omega arith)
+
+    -- as a source of leaves
+    pub sign-step : (m : ℕ) × Rises leafOf (MadeOwn p seed secret) n (issuedBy key c) m × KeyFrom p seed secret (keyAfter key (c .r) (c .message) (c .work) (c .out)) m
     unfolding issuedBy keyAfter
-    issue-step n from = by granted refl
+    sign-step = by granted refl
       where
-        by : (g : Bool) → granted ≡ g → (m : ℕ) × Rises leafOf (MadeOwn p seed secret) n (issuedBy key c) m × KeyFrom p seed secret (keyHandedBack key c) m
-        by true e =
-            let one = signedBy key c in
-            let made : Made p seed secret (key .next) one = rw (← from .same-profile, ← from .same-seed, ← from .same-secret) (issue-made e) in
-            let own = made-read p seed secret (key .next) one made .own-leaf in
-            rw e (key .next + 1, (omega (arith, from .reached), made-own p seed secret (key .next) one made, omega arith), advanced-from p seed secret key n from)
+        by : (g : Bool) → granted ≡ g → (m : ℕ) × Rises leafOf (MadeOwn p seed secret) n (issuedBy key c) m × KeyFrom p seed secret (keyAfter key (c .r) (c .message) (c .work) (c .out)) m
+        by true e = rw e (key .counter .next, sign-granted e, cleared-from p seed secret key n (from .of))
         by false e = rw e (n, le-refl n, from)
+
+-- a call of either kind, as a source of leaves
+pub call-step : (p : Profile) (seed secret : List ℕ) (key : SigningKey) (n : ℕ) → KeyFrom p seed secret key n → (c : KeyCall)
+    → (m : ℕ) × Rises leafOf (MadeOwn p seed secret) n (givenBy key c) m × KeyFrom p seed secret (keyHandedBack key c) m
+unfolding givenBy keyHandedBack
+call-step p seed secret key n from reserve = (n, le-refl n, reserved-from p seed secret key n from)
+call-step p seed secret key n from (sign c) = sign-step key c p seed secret n from

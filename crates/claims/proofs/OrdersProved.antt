@@ -1,5 +1,5 @@
--- What demand 3 and document 02, point 4, say of a list of Issue calls: no leaf twice, and all that is issued is accepted, in the list's order and in every
--- order of arrival that the window allows.
+-- What demand 3 and document 02, point 4, say of signatures that a source of leaves that rise has issued, and so of a list of Reserve and Sign calls: no leaf twice, and all
+-- are accepted, in the list's order and in every order of arrival that the window allows.
 use mathlib.Core.Path.{sym}
 use mathlib.Core.List.{List, [], _∷_, map, List·Permᴰ}
 use mathlib.Core.Logic.{_⊎_, inl, inr}
@@ -12,15 +12,15 @@ use Rattle.words.proofs.Pairs.{Each, each-always, each-permuted, each-place, Pa
 use Rattle.profile.specs.declared.Profile.{Profile}
 use Rattle.tweak.specs.Tweak.{firstDomain}
 use Rattle.tree.specs.Tree.{rootOf}
-use Rattle.signer.specs.Signing.{freshKey}
-use Rattle.signer.specs.declared.SigningKey.{SigningKey}
+use Rattle.signing_key.specs.Key.{freshKey}
+use Rattle.signing_key.specs.declared.SigningKey.{SigningKey}
 use Rattle.verifier.specs.Verifying.{freshVerifier}
 use Rattle.verifier.specs.declared.Verifier.{Verifier}
 use Rattle.claims.specs.Arrivals.{InTime}
-use Rattle.claims.specs.Orders.{IssueCall, Issued, issuedBy, keyHandedBack, issued, leafOf, NoLeafTwice, Check, AllAccepted}
+use Rattle.claims.specs.Orders.{Issued, KeyCall, keyHandedBack, givenBy, issued, leafOf, NoLeafTwice, Check, AllAccepted}
 use Rattle.claims.proofs.LeafLaws.{Free, fresh-cabinet, fresh-passes-none, KeyFrom, fresh-from}
-use Rattle.claims.proofs.Source.{Rises, rises-pairs, rises-good, rises-apart, issued-rises}
-use Rattle.claims.proofs.Made.{MadeOwn, issue-step}
+use Rattle.claims.proofs.Source.{Rises, rises-pairs, rises-good, rises-apart, issued-rises, always}
+use Rattle.claims.proofs.Made.{MadeOwn, call-step}
 use Rattle.claims.proofs.InOrder.{Follows, all-accepted}
 
 -- of two orders, by their places: the leaf of the earlier is less than 32 above that of the later
@@ -39,45 +39,52 @@ in-time-pairs (x ∷ xs) t = (
     by i h (inr far) = absurd (omega (arith, t (suc i) 0 (suc-le-suc h) (omega arith) far))
 
 module _ (p : Profile) (seed secret : List ℕ) where
-  abbrev root : List ℕ
-  root = rootOf (firstDomain seed) p secret
-
-  abbrev key : SigningKey
-  key = freshKey p seed secret
-
-  -- Issue, from a fresh key on, is a source of leaves that rise
-  rising : (calls : List IssueCall) → (m : ℕ) × Rises leafOf (MadeOwn p seed secret) 0 (issued key calls) m
-  rising calls =
-      issued-rises leafOf (MadeOwn p seed secret) keyHandedBack issuedBy (KeyFrom p seed secret) (λ key n from c. issue-step key c p seed secret n from) key 0 (fresh-from p seed secret) calls
-
-  -- what is known of the list: made, and no leaf twice
-  all-made : (calls : List IssueCall) → Each (MadeOwn p seed secret) (issued key calls)
-  all-made calls = let r = rising calls in rises-good leafOf (MadeOwn p seed secret) 0 (r .0) (issued key calls) (r .1)
-
-  all-apart : (calls : List IssueCall) → Pairs (Apart leafOf) (issued key calls)
-  all-apart calls = let r = rising calls in rises-apart leafOf (MadeOwn p seed secret) 0 (r .0) (issued key calls) (r .1)
-
-  pub issued-once : (calls : List IssueCall) → NoLeafTwice (issued key calls)
-  issued-once calls = distinct-pairs leafOf (issued key calls) (all-apart calls)
-
-  -- at the fresh cabinet
   abbrev cabinet : Verifier
-  cabinet = freshVerifier p seed root
+  cabinet = freshVerifier p seed (rootOf (firstDomain seed) p secret)
 
   fresh-accepts : (all : List Issued) → Each (MadeOwn p seed secret) all → Pairs Follows all → (checks : List Check) → AllAccepted (p .shape) cabinet all checks
   fresh-accepts all made follow checks =
+      let root = rootOf (firstDomain seed) p secret in
       all-accepted p seed secret checks cabinet all (fresh-cabinet p seed root) made (each-always (λ one. Free cabinet (leafOf one)) (λ one. fresh-passes-none p seed root (leafOf one)) all) follow
 
-  pub issued-accepted : (calls : List IssueCall) (checks : List Check) → AllAccepted (p .shape) cabinet (issued key calls) checks
-  issued-accepted calls =
-      let r = rising calls in
-      let rise = rises-pairs leafOf (MadeOwn p seed secret) 0 (r .0) (issued key calls) (r .1) in
-      fresh-accepts (issued key calls) (all-made calls)
-      (pairs-imply (λ x y. leafOf x < leafOf y) Follows (λ x y h. (λ same. omega arith, omega arith)) (issued key calls) rise)
+  -- signatures that a source of leaves that rise has issued
+  module _ (all : List Issued) (m : ℕ) (rises : Rises leafOf (MadeOwn p seed secret) 0 all m) where
+    made : Each (MadeOwn p seed secret) all
+    made = rises-good leafOf (MadeOwn p seed secret) 0 m all rises
 
-  pub arrivals-accepted : (calls : List IssueCall) (arrivals : List Issued) → List·Permᴰ arrivals (issued key calls) → InTime (map leafOf arrivals)
-      → (checks : List Check) → AllAccepted (p .shape) cabinet arrivals checks
-  arrivals-accepted calls arrivals order in-time =
-      let apart = pairs-permuted (Apart leafOf) (λ x y other same. other (sym same)) order (all-apart calls) in
-      let follow = pairs-with (Apart leafOf) InTimeAfter Follows (λ x y other near. (other, near)) arrivals apart (in-time-pairs arrivals in-time) in
-      fresh-accepts arrivals (each-permuted (MadeOwn p seed secret) order (all-made calls)) follow
+    apart : Pairs (Apart leafOf) all
+    apart = rises-apart leafOf (MadeOwn p seed secret) 0 m all rises
+
+    pub risen-once : NoLeafTwice all
+    risen-once = distinct-pairs leafOf all apart
+
+    pub risen-accepted : (checks : List Check) → AllAccepted (p .shape) cabinet all checks
+    risen-accepted =
+        fresh-accepts all made
+        (pairs-imply (λ x y. leafOf x < leafOf y) Follows (λ x y h. (λ same. omega arith, omega arith)) all (rises-pairs leafOf (MadeOwn p seed secret) 0 m all rises))
+
+    pub risen-arrivals : (arrivals : List Issued) → List·Permᴰ arrivals all → InTime (map leafOf arrivals) → (checks : List Check) → AllAccepted (p .shape) cabinet arrivals checks
+    risen-arrivals arrivals order in-time =
+        let others = pairs-permuted (Apart leafOf) (λ x y other same. other (sym same)) order apart in
+        let follow = pairs-with (Apart leafOf) InTimeAfter Follows (λ x y other near. (other, near)) arrivals others (in-time-pairs arrivals in-time) in
+        fresh-accepts arrivals (each-permuted (MadeOwn p seed secret) order made) follow
+
+  -- Reserve and Sign, from a fresh key on, are such a source
+  module _ (calls : List KeyCall) where
+    abbrev key : SigningKey
+    key = freshKey p seed secret
+
+    rising : (m : ℕ) × Rises leafOf (MadeOwn p seed secret) 0 (issued key calls) m
+    rising =
+        issued-rises leafOf (MadeOwn p seed secret) keyHandedBack givenBy (λ key c. Unit {0}) (KeyFrom p seed secret)
+        (λ key n from c free. call-step p seed secret key n from c) key 0 (fresh-from p seed secret) calls (always keyHandedBack key calls)
+
+    pub issued-once : NoLeafTwice (issued key calls)
+    issued-once = risen-once (issued key calls) (rising .0) (rising .1)
+
+    pub issued-accepted : (checks : List Check) → AllAccepted (p .shape) cabinet (issued key calls) checks
+    issued-accepted = risen-accepted (issued key calls) (rising .0) (rising .1)
+
+    pub arrivals-accepted : (arrivals : List Issued) → List·Permᴰ arrivals (issued key calls) → InTime (map leafOf arrivals)
+        → (checks : List Check) → AllAccepted (p .shape) cabinet arrivals checks
+    arrivals-accepted = risen-arrivals (issued key calls) (rising .0) (rising .1)

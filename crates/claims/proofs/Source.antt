@@ -4,7 +4,7 @@ use Prim.Native.Nat.{ℕ, _+_, _<_, _≤_}
 use native.Mathlib.Nat.{le-refl}
 use native.Mathlib.Omega.{arith}
 use Rattle.words.proofs.Pairs.{Each, each-imply, Pairs, pairs-imply, Apart}
-use Rattle.claims.specs.Orders.{givenAlong}
+use Rattle.claims.specs.Orders.{givenAlong, Along}
 
 module _ {Item : Type 0} (leafOf : Item → ℕ) (Good : Item → Type 0) where
   -- all items are good, and their leaves rise: from n on, and below m
@@ -38,13 +38,19 @@ module _ {Item : Type 0} (leafOf : Item → ℕ) (Good : Item → Type 0) where
   pub rises-apart : (n m : ℕ) (xs : List Item) → Rises n xs m → Pairs (Apart leafOf) xs
   rises-apart n m xs r = pairs-imply (λ x y. leafOf x < leafOf y) (Apart leafOf) (λ x y h same. omega arith) xs (rises-pairs n m xs r)
 
-  -- the source: a state from which leaves from n on may come, and what a call does to it
-  module _ {State Call : Type 0} (after : State → Call → State) (gives : State → Call → List Item) (From : State → ℕ → Type 0)
-      (step : (s : State) (n : ℕ) → From s n → (c : Call) → (m : ℕ) × Rises n (gives s c) m × From (after s c) m) where
-    pub issued-rises : (s : State) (n : ℕ) → From s n → (calls : List Call) → (m : ℕ) × Rises n (givenAlong after gives s calls) m
-    unfolding givenAlong
-    issued-rises s n from [] = (n, le-refl n)
-    issued-rises s n from (c ∷ calls) =
-        let now = step s n from c in
-        let rest = issued-rises (after s c) (now .0) (now .2) calls in
+  -- the source: a state from which leaves from n on may come, and what a call that is allowed does to it
+  module _ {State Call : Type 0} (after : State → Call → State) (gives : State → Call → List Item) (allowed : State → Call → Type 0) (From : State → ℕ → Type 0)
+      (step : (s : State) (n : ℕ) → From s n → (c : Call) → allowed s c → (m : ℕ) × Rises n (gives s c) m × From (after s c) m) where
+    pub issued-rises : (s : State) (n : ℕ) → From s n → (calls : List Call) → Along after allowed s calls → (m : ℕ) × Rises n (givenAlong after gives s calls) m
+    unfolding givenAlong Along
+    issued-rises s n from [] all = (n, le-refl n)
+    issued-rises s n from (c ∷ calls) all =
+        let now = step s n from c (all .0) in
+        let rest = issued-rises (after s c) (now .0) (now .2) calls (all .1) in
         (rest .0, rises-append n (now .0) (rest .0) (gives s c) (givenAlong after gives (after s c) calls) (now .1) (rest .1))
+
+-- where every call is allowed, so is every list
+pub always : {State Call : Type 0} (after : State → Call → State) (s : State) (calls : List Call) → Along after (λ s c. Unit {0}) s calls
+unfolding Along
+always after s [] = tt
+always after s (c ∷ calls) = (tt, always after (after s c) calls)

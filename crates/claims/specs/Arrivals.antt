@@ -8,10 +8,10 @@ use Rattle.words.specs.Distinct.{Distinct}
 use Rattle.profile.specs.declared.Profile.{Profile}
 use Rattle.tweak.specs.Tweak.{firstDomain}
 use Rattle.tree.specs.Tree.{rootOf}
-use Rattle.signer.specs.Signing.{freshKey}
+use Rattle.signing_key.specs.Key.{freshKey}
 use Rattle.verifier.specs.Verifying.{freshVerifier, leafIn, verifyCode, verifierAfter}
 use Rattle.verifier.specs.declared.Verifier.{Verifier}
-use Rattle.claims.specs.Orders.{IssueCall, Issued, givenAlong, issued, leafOf, Check, AllAccepted}
+use Rattle.claims.specs.Orders.{KeyCall, Issued, givenAlong, issued, leafOf, Check, AllAccepted}
 
 -- a call of Check, with any text, signature and work slice
 pub record CheckCall : Type 0 where
@@ -48,7 +48,7 @@ InTime leaves = (i j : ℕ) → i < length leaves → j < length leaves → getD
 -- and its refused checks in between; in the key's edition, as demand 3
 abbrev pub ArrivalsAccepted : Type 0
 ArrivalsAccepted =
-    (p : Profile) (seed secret : List ℕ) (calls : List IssueCall) (arrivals : List Issued)
+    (p : Profile) (seed secret : List ℕ) (calls : List KeyCall) (arrivals : List Issued)
     → List·Permᴰ arrivals (issued (freshKey p seed secret) calls)
     → InTime (map leafOf arrivals)
     → (checks : List Check) → AllAccepted (p .shape) (freshVerifier p seed (rootOf (firstDomain seed) p secret)) arrivals checks

@@ -13,7 +13,7 @@ use Rattle.counts.specs.Counts.{count}
 use Rattle.counts.specs.Table.{tableCauses}
 use Rattle.message.specs.Message.{messageDigest, numberBits, messageNumber}
 use Rattle.signer.specs.Signing as signing
-use Rattle.signer.specs.declared.SigningKey.{SigningKey}
+use Rattle.signing_key.specs.declared.SigningKey.{SigningKey}
 use Rattle.verifier.specs.Verifying as verifying
 use Rattle.verifier.specs.declared.Verifier.{Verifier}
 
@@ -35,7 +35,7 @@ pub record NumbersFit : Type 0 where
 
 -- what 19 does in 7's place, for every call
 pub record SmallCounts : Type 0 where
-  -- "Issue and Check no longer give 7"
+  -- "Issue and Check no longer give 7": Sign in Issue's place
   pub sign-seven : (key : SigningKey) (r message work out : List ℕ) → signing.signCode key r message work out ≡ 7 → ⊥
   pub verify-seven : (v : Verifier) (message signature work : List ℕ) → verifying.verifyCode v message signature work ≡ 7 → ⊥
   -- "19 when the count is below 256": where no cause before it holds, exactly then

@@ -8,7 +8,7 @@ use Rattle.counts.specs.Counts.{count}
 use Rattle.one_time.specs.Operations.{stepsOf}
 use Rattle.message.specs.Message.{signatureLength, numberBits}
 use Rattle.signer.specs.Signing.{signCode}
-use Rattle.signer.specs.declared.SigningKey.{SigningKey}
+use Rattle.signing_key.specs.declared.SigningKey.{SigningKey}
 use Rattle.verifier.specs.Verifying.{verifyCode}
 use Rattle.verifier.specs.declared.Verifier.{Verifier}
 
@@ -31,6 +31,6 @@ pub record GateCount : Type 0 where
   pub counted : count gateShape ≡ 1287155674008337910149577743336952677632
   pub large : 2 ^ 128 ≤ count gateShape
   pub bits : numberBits (count gateShape) ≡ 128
-  -- of Issue and Check, in either edition and whatever else they are handed
+  -- of Sign and Check, in either edition and whatever else they are handed
   pub sign-never-nineteen : (key : SigningKey) (r message work out : List ℕ) (edition : ℕ) → key .profile ≡ gate edition → signCode key r message work out ≡ 19 → ⊥
   pub verify-never-nineteen : (v : Verifier) (message signature work : List ℕ) (edition : ℕ) → v .profile ≡ gate edition → verifyCode v message signature work ≡ 19 → ⊥

@@ -10,6 +10,7 @@ pub mod Judged
 pub mod Largest
 pub mod OneTime
 pub mod Orders
+pub mod PowerCuts
 pub mod Rows
 pub mod Sheets
 pub mod Trial

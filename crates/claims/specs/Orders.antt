@@ -1,4 +1,4 @@
--- Demand 3, its last sentences: one claim about a whole list of Issue calls and the checks of what they issued.
+-- Demand 3, its last sentences: one claim about a whole list of Reserve and Sign calls and the checks of what they issued.
 use mathlib.Core.Path.{_≡_}
 use mathlib.Core.Bool.{cond}
 use mathlib.Core.List.{List, [], _∷_, _++_, map}
@@ -12,13 +12,14 @@ use Rattle.counts.specs.Table.{tableLength}
 use Rattle.tweak.specs.Tweak.{firstDomain}
 use Rattle.tree.specs.Tree.{rootOf}
 use Rattle.message.specs.Message.{signatureLength}
-use Rattle.signer.specs.Signing.{freshKey, signCode, keyAfter, outputAfter}
-use Rattle.signer.specs.declared.SigningKey.{SigningKey}
+use Rattle.signing_key.specs.Key.{freshKey, reservedKey}
+use Rattle.signing_key.specs.declared.SigningKey.{SigningKey}
+use Rattle.signer.specs.Signing.{signCode, keyAfter, outputAfter}
 use Rattle.verifier.specs.Verifying.{freshVerifier, leafIn, verifyCode, verifierAfter, stepsMade}
 use Rattle.verifier.specs.declared.Verifier.{Verifier}
 
--- "A list holds any Issue calls, each with any R, text, work slice and output slice"
-pub record IssueCall : Type 0 where
+-- a call of Sign, "with any R, text, work slice and output slice"
+pub record SigningCall : Type 0 where
   pub r : List ℕ
   pub message : List ℕ
   pub work : List ℕ
@@ -32,15 +33,15 @@ pub record Issued : Type 0 where
   pub message : List ℕ
 
 -- "An issued signature is the first 20 + 16 × l + 16 × h output bytes of a granted call, as that call left them; its own text is that call's text"
-unfoldable pub signedBy : SigningKey → IssueCall → Issued
+unfoldable pub signedBy : SigningKey → SigningCall → Issued
 signedBy key c =
     record {
       signature = take (signatureLength (key .profile)) (outputAfter key (c .r) (c .message) (c .work) (c .out));
       message = c .message;
     }
 
--- what a call issues, if it is granted
-unfoldable pub issuedBy : SigningKey → IssueCall → List Issued
+-- what a call of Sign issues: "a granted sign is what issues"
+unfoldable pub issuedBy : SigningKey → SigningCall → List Issued
 issuedBy key c = cond (eqb (signCode key (c .r) (c .message) (c .work) (c .out)) 0) (signedBy key c ∷ []) []
 
 -- what the calls of a list give, the first at a state and each other at the state that the one before handed back, with `after` and `gives` for what a call
@@ -49,12 +50,27 @@ unfoldable pub givenAlong : {State Call Item : Type 0} → (after : State → Ca
 givenAlong after gives s [] = []
 givenAlong after gives s (c ∷ calls) = gives s c ++ givenAlong after gives (after s c) calls
 
-abbrev pub keyHandedBack : SigningKey → IssueCall → SigningKey
-keyHandedBack key c = keyAfter key (c .r) (c .message) (c .work) (c .out)
+-- each call of a list is as `allowed` says, the first at a state and each other at the state that the one before handed back
+unfoldable pub Along : {State Call : Type 0} → (after : State → Call → State) (allowed : State → Call → Type 0) → State → List Call → Type 0
+Along after allowed s [] = Unit {0}
+Along after allowed s (c ∷ calls) = allowed s c × Along after allowed (after s c) calls
+
+-- "Lists of reserve and sign take the place of lists of issue in demand 3": in any order, granted or refused
+pub data KeyCall : Type 0 where
+  reserve : KeyCall
+  sign : SigningCall → KeyCall
+
+unfoldable pub keyHandedBack : SigningKey → KeyCall → SigningKey
+keyHandedBack key reserve = reservedKey key
+keyHandedBack key (sign c) = keyAfter key (c .r) (c .message) (c .work) (c .out)
+
+unfoldable pub givenBy : SigningKey → KeyCall → List Issued
+givenBy key reserve = []
+givenBy key (sign c) = issuedBy key c
 
 -- "The first gets a fresh key of any profile and seeds, each other the key that the one before handed back"
-abbrev pub issued : SigningKey → List IssueCall → List Issued
-issued key calls = givenAlong keyHandedBack issuedBy key calls
+abbrev pub issued : SigningKey → List KeyCall → List Issued
+issued key calls = givenAlong keyHandedBack givenBy key calls
 
 -- the leaf that a signature carries, read from its bytes
 abbrev pub leafOf : Issued → ℕ
@@ -87,6 +103,6 @@ AllAccepted p v signatures (other message signature work ∷ checks) =
 -- met too: "under either edition, the cabinet's being the key's"
 abbrev pub OrdersHold : Type 0
 OrdersHold =
-    (p : Profile) (seed secret : List ℕ) (calls : List IssueCall)
+    (p : Profile) (seed secret : List ℕ) (calls : List KeyCall)
     → NoLeafTwice (issued (freshKey p seed secret) calls)
     × ((checks : List Check) → AllAccepted (p .shape) (freshVerifier p seed (rootOf (firstDomain seed) p secret)) (issued (freshKey p seed secret) calls) checks)

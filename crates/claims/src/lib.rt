@@ -7,6 +7,7 @@ ghost use Rattle.counts.specs.Counts.{CountsFit};
 ghost use Rattle.codewords.specs.Operations.{RankUnrank};
 ghost use Rattle.listing.specs.Listing.{FirstEleven, Example};
 ghost use Rattle.sheet.specs.Sheet.{Exact, ProfileLine};
+ghost use Rattle.stored_key.specs.RoundTrip.{WrittenIsRead as WrittenKeyIsRead, ReadIsWritten as ReadKeyIsWritten};
 ghost use Rattle.claims.specs.Arrivals.{NoLeafAcceptedTwice, ArrivalsAccepted};
 ghost use Rattle.claims.specs.Bits.{LargestBits, NumbersFit, SmallCounts};
 ghost use Rattle.claims.specs.Demand3.{Demand3};
@@ -16,6 +17,7 @@ ghost use Rattle.claims.specs.Hashing.{AbcDigest};
 ghost use Rattle.claims.specs.Judged.{JudgedByRoot};
 ghost use Rattle.claims.specs.Largest.{LargestCode};
 ghost use Rattle.claims.specs.OneTime.{RecoversRevealed, ClimbsToRoot};
+ghost use Rattle.claims.specs.PowerCuts.{PowerCuts, RoundsInTurn};
 ghost use Rattle.claims.specs.Rows.{Ordered, RankExact};
 ghost use Rattle.claims.specs.Sheets.{WrittenIsRead, ReadIsWritten};
 ghost use Rattle.claims.specs.Trial.{TrialValues};
@@ -93,6 +95,23 @@ pub fn no_leaf_accepted_twice()
 
 pub fn arrivals_accepted()
     ensures { λ _. ⌜ ArrivalsAccepted ⌝ }
+{}
+
+// Reserve, then sign.
+pub fn power_cuts()
+    ensures { λ _. ⌜ PowerCuts ⌝ }
+{}
+
+pub fn rounds_in_turn()
+    ensures { λ _. ⌜ RoundsInTurn ⌝ }
+{}
+
+pub fn written_key_is_read()
+    ensures { λ _. ⌜ WrittenKeyIsRead ⌝ }
+{}
+
+pub fn read_key_is_written()
+    ensures { λ _. ⌜ ReadKeyIsWritten ⌝ }
 {}
 
 // The editions.
