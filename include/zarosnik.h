@@ -22,19 +22,26 @@
  *     function. Those numbers are enum zarosnik_outcome.
  *   - l, w, s, h and edition may be any uint32_t. Nothing of them is ever cut: a value outside its range is refused by
  *     its number, 1 to 4 or 22.
- *   - An answer (digest, number, order, looked, key, root, steps, message_written, line, sheet_written) is written by
- *     every call: the value where granted, zero where refused. Two differ: steps of zarosnik_verify after 15, line of
- *     zarosnik_read_sheet after 17.
- *   - A state (next_leaf; highest_leaf and marks) changes only where the call is granted.
- *   - A lent slice (table, row, values, signature, message, sheet) is untouched by a refusal, except that 7, 15 and 19
- *     leave the table of counts in the work slice `table`, as every granted call with a work slice does. What lies past
- *     the length that is named with the function never changes.
+ *   - An answer (digest, number, order, looked, key, root, steps, message_written, line, sheet_written, frame_written;
+ *     of zarosnik_read_key profile, both seeds, next_leaf and mark too) is written by every call: the value where
+ *     granted, zero where refused. Two differ: steps of zarosnik_verify after 15, and line after 17.
+ *   - A state (next_leaf and mark; highest_leaf and marks) changes only where the call is granted.
+ *   - A lent slice (table, row, values, signature, message, sheet, frame) is untouched by a refusal, except that 7, 15
+ *     and 19 leave the table of counts in the work slice `table`, as every granted call with a work slice does. What
+ *     lies past the length that is named with the function never changes.
  *
  * What the caller keeps and draws:
  *
- *   - A key is a profile, two seeds and its next leaf, 0 for a fresh key. Store next_leaf after zarosnik_sign and
- *     before the signature is handed out: a key restored from an older copy would use a leaf twice, and two orders
- *     signed with one leaf may let others be forged.
+ *   - A key is a profile, two seeds, its next leaf and a mark; for a fresh key next leaf and mark are 0. The mark says
+ *     that the leaf below the next one is reserved for a signature. It is one where it is 1 and the next leaf is 1 to
+ *     2^h; anything else is no mark.
+ *   - An order takes four steps: zarosnik_reserve; store the key, as the frame that zarosnik_write_key writes;
+ *     zarosnik_sign; hand the signature out. Sign only when the store has ended, so that the new frame would outlast a
+ *     power cut. A store that is cut must leave the old frame or the new one, as a whole.
+ *   - After a power cut, and whenever a program starts, read the stored frame by zarosnik_read_key, set mark to 0 and
+ *     go on. A leaf that was reserved then signs nothing any more; none signs twice. Never put an older frame back, and
+ *     let one program alone sign with a key: two orders signed with one leaf may let others be forged.
+ *   - The frame holds the secret seed, and is kept as secret as the seed is.
  *   - A cabinet is a profile, the public seed, the root, the highest leaf that it has accepted and 32 marks, which say
  *     of that leaf and of the 31 below it whether each was accepted; both are 0 for a fresh one. Store highest_leaf and
  *     marks after zarosnik_verify and before the order is carried out: a cabinet restored from an older copy would take
@@ -68,11 +75,11 @@
  *   PATCH   one more with every other release: a program only needs to be linked again.
  */
 #define ZAROSNIK_VERSION_MAJOR 0
-#define ZAROSNIK_VERSION_MINOR 4
-#define ZAROSNIK_VERSION_PATCH 1
+#define ZAROSNIK_VERSION_MINOR 5
+#define ZAROSNIK_VERSION_PATCH 0
 #define ZAROSNIK_VERSION \
     (ZAROSNIK_VERSION_MAJOR * 1000000 + ZAROSNIK_VERSION_MINOR * 1000 + ZAROSNIK_VERSION_PATCH)
-#define ZAROSNIK_VERSION_STRING "0.4.1"
+#define ZAROSNIK_VERSION_STRING "0.5.0"
 
 /* The compiler warns where the outcome of a call is not looked at: an order must not be carried out, nor a signature
  * handed out, without it. */
@@ -89,13 +96,16 @@
 extern "C" {
 #endif
 
-/* Fixed sizes: hash values, seeds and R; a SHA-256 digest; a number, least word first. */
+/* Fixed sizes: hash values, seeds and R; a SHA-256 digest; a number, least word first; the numbers of a profile, which
+ * zarosnik_read_key gives as l, w, s, h, edition. */
 #define ZAROSNIK_HASH_BYTES 16u
 #define ZAROSNIK_DIGEST_BYTES 32u
 #define ZAROSNIK_NUMBER_WORDS 5u
+#define ZAROSNIK_PROFILE_NUMBERS 5u
 
 /* A profile: l chains, width w, sum s, tree height h, edition. h may be 0, and s is 0 to ZAROSNIK_S_MAX(l, w).
- * Edition 2 takes the leaf into an order's digest; but for that and a sheet's second line the editions are the same. */
+ * Edition 2 takes the leaf into an order's digest; but for that, a sheet's second line and a stored key's last byte the
+ * editions are the same. */
 #define ZAROSNIK_L_MIN 1u
 #define ZAROSNIK_L_MAX 40u
 #define ZAROSNIK_W_MIN 2u
@@ -110,16 +120,17 @@ extern "C" {
 #define ZAROSNIK_MESSAGE_MAX 200u
 #define ZAROSNIK_HASH_MAX 65535u
 
-/* Sizes by profile: words and bytes of the work slice; bytes of the values, of a signature, and of a sheet with its
- * text, which has two more in edition 2; leaves of a tree; chain steps of a check. These and ZAROSNIK_S_MAX are meant
- * for unsigned values within the limits above. For others they may wrap round and mean nothing; the call refuses such a
- * profile before any size. */
+/* Sizes by profile: words and bytes of the work slice; bytes of the values, of a signature, of a sheet with its text
+ * and of a stored key, each of the last two with two more in edition 2; leaves of a tree; chain steps of a check. These
+ * and ZAROSNIK_S_MAX are meant for unsigned values within the limits above. For others they may wrap round and mean
+ * nothing; the call refuses such a profile before any size. */
 #define ZAROSNIK_TABLE_WORDS(l, s) (5u * ((l) + 1u) * ((s) + 1u))
 #define ZAROSNIK_TABLE_BYTES(l, s) (4u * ZAROSNIK_TABLE_WORDS(l, s))
 #define ZAROSNIK_VALUES_BYTES(l) (16u * (l))
 #define ZAROSNIK_SIGNATURE_BYTES(l, h) (20u + 16u * (l) + 16u * (h))
 #define ZAROSNIK_SHEET_BYTES(l, h, edition, message_len) \
     (((edition) == ZAROSNIK_EDITION_2 ? 71u : 69u) + 37u * ((l) + (h)) + 2u * (message_len))
+#define ZAROSNIK_KEY_BYTES(edition) ((edition) == ZAROSNIK_EDITION_2 ? 89u : 87u)
 #define ZAROSNIK_LEAVES(h) (1u << (h))
 #define ZAROSNIK_STEPS(l, w, s) (ZAROSNIK_S_MAX(l, w) - (s))
 
@@ -129,6 +140,7 @@ extern "C" {
 #define ZAROSNIK_VALUES_BYTES_MAX 640u
 #define ZAROSNIK_SIGNATURE_BYTES_MAX 820u
 #define ZAROSNIK_SHEET_BYTES_MAX 2321u
+#define ZAROSNIK_KEY_BYTES_MAX 89u
 
 /* The gate profile, in either edition. */
 #define ZAROSNIK_GATE_L 34u
@@ -164,6 +176,8 @@ enum zarosnik_outcome {
     ZAROSNIK_REFUSED_SHEET_LINE = 17,
     ZAROSNIK_REFUSED_HASH_TOO_LONG = 18,
     ZAROSNIK_REFUSED_COUNT_TOO_SMALL = 19,
+    ZAROSNIK_REFUSED_NO_MARK = 20,
+    ZAROSNIK_REFUSED_MARK_STANDS = 21,
     ZAROSNIK_REFUSED_EDITION = 22
 };
 
@@ -198,6 +212,8 @@ static inline const char *zarosnik_outcome_text(uint32_t outcome)
     case ZAROSNIK_REFUSED_SHEET_LINE: return "wrong, missing or surplus line in the sheet";
     case ZAROSNIK_REFUSED_HASH_TOO_LONG: return "over 65,535 bytes to hash";
     case ZAROSNIK_REFUSED_COUNT_TOO_SMALL: return "count below 256";
+    case ZAROSNIK_REFUSED_NO_MARK: return "no leaf reserved";
+    case ZAROSNIK_REFUSED_MARK_STANDS: return "a reserved leaf has not signed yet";
     case ZAROSNIK_REFUSED_EDITION: return "edition neither 1 nor 2";
     default: return "not an outcome of this library";
     }
@@ -312,8 +328,8 @@ uint32_t zarosnik_root(uint32_t l, uint32_t w, uint32_t s, uint32_t h, uint32_t 
                        uint8_t root[ZAROSNIK_HASH_BYTES]);
 
 /*
- * Reveal: the l chain values that sign a number with one leaf. It keeps no account of the leaves used: zarosnik_sign
- * does.
+ * Reveal: the l chain values that sign a number with one leaf. It keeps no account of the leaves used:
+ * zarosnik_reserve does.
  *
  *   l, w, s, h, edition   in: the profile; edition has no part in the values
  *   public_seed           in: the public seed
@@ -362,33 +378,94 @@ uint32_t zarosnik_one_time_recover(uint32_t l, uint32_t w, uint32_t s, uint32_t 
                                    uint8_t key[ZAROSNIK_HASH_BYTES], uint32_t *steps);
 
 /*
- * Issue: signs an order text with the key's next leaf. The order's number is the first b bits of the SHA-256 digest
- * over R, public seed, root and text, in edition 2 with the leaf (4 bytes, most significant first) between root and
- * text; b is the largest value up to 128 with 2^b not above the profile's count. So it is below the count, and no order
- * is refused for its number.
+ * Reserve: marks the key's next leaf for one signature. Store the key, by zarosnik_write_key, before it signs.
+ *
+ *   l, w, s, h, edition   in: the key's profile
+ *   next_leaf             state: the key's next leaf, any value
+ *   mark                  state: the key's mark; 1 with a next leaf of 1 to 2^h is one, anything else none
+ *
+ * Refusals: 1, 2, 3, 4, 22; 21 there is a mark, so the leaf reserved has not signed; 12 next leaf not below 2^h.
+ * Granted: next_leaf is 1 more, and mark is 1: the leaf next_leaf - 1 is reserved.
+ * Refused: next_leaf and mark keep their values, whatever they are.
+ */
+ZAROSNIK_NODISCARD
+uint32_t zarosnik_reserve(uint32_t l, uint32_t w, uint32_t s, uint32_t h, uint32_t edition,
+                          uint32_t *next_leaf, uint32_t *mark);
+
+/*
+ * Sign: signs an order text with the leaf that is reserved, next_leaf - 1. Call it only when the key is stored as
+ * zarosnik_reserve left it. The order's number is the first b bits of the SHA-256 digest over R, public seed, root and
+ * text, in edition 2 with that leaf (4 bytes, most significant first) between root and text; b is the largest value up
+ * to 128 with 2^b not above the profile's count. So it is below the count, and no order is refused for its number.
  *
  *   l, w, s, h, edition        in: the key's profile
  *   public_seed                in: the key's public seed
  *   secret_seed                in: the key's secret seed
- *   next_leaf                  state: the key's next leaf, any value
+ *   next_leaf                  in: the key's next leaf, any value
+ *   mark                       state: the key's mark; 1 with a next leaf of 1 to 2^h is one, anything else none
  *   r                          in: R, 16 fresh random bytes for this order
  *   message, message_len       in: the order text
  *   table, table_len           work slice of at least ZAROSNIK_TABLE_WORDS(l, s) words
  *   signature, signature_len   output slice of at least ZAROSNIK_SIGNATURE_BYTES(l, h) bytes
  *
  * Refusals: 1, 2, 3, 4, 22; 5 work slice too short; 16 text empty or over 200 bytes; 6 signature_len under
- * 20 + 16 * l + 16 * h; 12 next leaf not below 2^h; 19 the profile's count below 256, whatever text and R.
+ * 20 + 16 * l + 16 * h; 20 there is no mark, so no leaf is reserved; 19 the profile's count below 256, whatever text
+ * and R.
  * Granted: the signature stands in the first 20 + 16 * l + 16 * h bytes of signature, the table of counts in table,
- * and next_leaf is 1 more. Store next_leaf before the signature is handed out.
- * Refused: next_leaf keeps its value, so no leaf is used up. signature is untouched, and so is table, except that 19
+ * and mark is 0. The key need not be stored again before the signature is handed out.
+ * Refused: mark keeps its value, so the leaf stays reserved. signature is untouched, and so is table, except that 19
  * leaves the table of counts in it.
  */
 ZAROSNIK_NODISCARD
 uint32_t zarosnik_sign(uint32_t l, uint32_t w, uint32_t s, uint32_t h, uint32_t edition,
                        const uint8_t public_seed[ZAROSNIK_HASH_BYTES],
-                       const uint8_t secret_seed[ZAROSNIK_HASH_BYTES], uint32_t *next_leaf,
+                       const uint8_t secret_seed[ZAROSNIK_HASH_BYTES], uint32_t next_leaf, uint32_t *mark,
                        const uint8_t r[ZAROSNIK_HASH_BYTES], const uint8_t *message, size_t message_len,
                        uint32_t *table, size_t table_len, uint8_t *signature, size_t signature_len);
+
+/*
+ * Write key: a key as the frame that is stored, one line of upper-case hex ended by the byte 0A. It holds the secret
+ * seed.
+ *
+ *   l, w, s, h, edition   in: the key's profile
+ *   public_seed           in: the key's public seed
+ *   secret_seed           in: the key's secret seed
+ *   next_leaf             in: the key's next leaf, any value
+ *   mark                  in: the key's mark; 1 with a next leaf of 1 to 2^h is one, anything else is written as none
+ *   frame, frame_len      output slice of at least ZAROSNIK_KEY_BYTES(edition) bytes; ZAROSNIK_KEY_BYTES_MAX bytes are
+ *                         always enough
+ *   frame_written         answer: the number of bytes written, ZAROSNIK_KEY_BYTES(edition)
+ *
+ * Refusals: 1, 2, 3, 4, 22; 6 frame_len under ZAROSNIK_KEY_BYTES(edition).
+ * Granted: the frame stands in the first frame_written bytes of frame. No zero byte is written behind them.
+ * Refused: frame is untouched.
+ */
+ZAROSNIK_NODISCARD
+uint32_t zarosnik_write_key(uint32_t l, uint32_t w, uint32_t s, uint32_t h, uint32_t edition,
+                            const uint8_t public_seed[ZAROSNIK_HASH_BYTES],
+                            const uint8_t secret_seed[ZAROSNIK_HASH_BYTES], uint32_t next_leaf, uint32_t mark,
+                            uint8_t *frame, size_t frame_len, size_t *frame_written);
+
+/*
+ * Read key: the key of a stored frame, the mark as it was stored. At a restart, set mark to 0 before the key is used:
+ * the frame does not tell whether the reserved leaf has signed since.
+ *
+ *   frame, frame_len   in: the frame
+ *   profile            answer: l, w, s, h, edition, in this order
+ *   public_seed        answer: the public seed
+ *   secret_seed        answer: the secret seed
+ *   next_leaf          answer: the next leaf, any value
+ *   mark               answer: 1 where the frame has a mark and the next leaf is 1 to 2^h, else 0
+ *   line               answer: 1 after 17, else 0
+ *
+ * Refusals: 17 the line is wrong or missing, something stands after it, or it has a profile outside the limits.
+ * Granted: zarosnik_write_key writes the same bytes for this key, except where the frame's mark was read as none.
+ * Refused: every answer but line is zero.
+ */
+ZAROSNIK_NODISCARD
+uint32_t zarosnik_read_key(const uint8_t *frame, size_t frame_len, uint32_t profile[ZAROSNIK_PROFILE_NUMBERS],
+                           uint8_t public_seed[ZAROSNIK_HASH_BYTES], uint8_t secret_seed[ZAROSNIK_HASH_BYTES],
+                           uint32_t *next_leaf, uint32_t *mark, uint32_t *line);
 
 /*
  * Check: judges the signature of an order text. The order's number is that of zarosnik_sign, from the signature's R and

@@ -4,15 +4,17 @@
  * form here.
  *
  * This layer is not proved. It is structs and inline functions alone: zarosnik_X_CALL hands the fields of X on to
- * zarosnik_CALL, returns what that returns, and does nothing else. The refusals and their order, what is written and
- * what stays untouched are said at zarosnik_CALL in zarosnik.h, and its terms on pointers and threads hold here too.
+ * zarosnik_CALL, returns what that returns, and does nothing else; zarosnik_key_restart is zarosnik_key_read_key with
+ * the mark cleared. The refusals and their order, what is written and what stays untouched are said at zarosnik_CALL in
+ * zarosnik.h, and its terms on pointers and threads hold here too.
  *
  *   - Values (a profile, a number, seeds, a root, R) are passed by value: a compiler that only warns of a pointer to
  *     another struct refuses another struct itself. Answers, keys and cabinets are passed by pointer.
- *   - The state of a key is a field of it, that of a cabinet two. Only zarosnik_key_sign and zarosnik_cabinet_verify
- *     change them, and only where they are granted.
+ *   - The state of a key is two fields of it, next_leaf and mark, that of a cabinet two. Only zarosnik_key_reserve,
+ *     zarosnik_key_sign and zarosnik_cabinet_verify change them, and only where they are granted; zarosnik_key_read_key
+ *     and zarosnik_key_restart write the whole key, with zeros where they are refused.
  *   - Nothing is allocated or kept. The bytes in storage and on the line are those of docs/INTERFACE.md and never these
- *     structs, whose layout is the compiler's.
+ *     structs, whose layout is the compiler's: a key is stored as zarosnik_key_write_key writes it.
  */
 #ifndef ZAROSNIK_TYPES_H
 #define ZAROSNIK_TYPES_H
@@ -70,12 +72,13 @@ struct zarosnik_number {
 };
 
 /* A key. A copy of it would use its leaves a second time, and two orders signed with one leaf may let others be forged:
- * sign with one struct alone, and store next_leaf before a signature is handed out. */
+ * sign with one struct alone, and only when what zarosnik_key_reserve left is stored. */
 struct zarosnik_key {
     struct zarosnik_profile profile;
     struct zarosnik_public_seed public_seed;
     struct zarosnik_secret_seed secret_seed;
     uint32_t next_leaf;
+    uint32_t mark;
 };
 
 /* A cabinet. A copy of it would take an order a second time: check with one struct alone, and store highest_leaf and
@@ -88,12 +91,12 @@ struct zarosnik_cabinet {
     uint32_t marks;
 };
 
-/* A fresh key, of which no leaf is used. One that has signed is given the next leaf that was stored. */
+/* A fresh key, of which no leaf is used. One that was stored is read by zarosnik_key_restart. */
 static inline struct zarosnik_key zarosnik_fresh_key(struct zarosnik_profile profile,
                                                      struct zarosnik_public_seed public_seed,
                                                      struct zarosnik_secret_seed secret_seed)
 {
-    struct zarosnik_key key = {profile, public_seed, secret_seed, 0};
+    struct zarosnik_key key = {profile, public_seed, secret_seed, 0, 0};
     return key;
 }
 
@@ -188,7 +191,7 @@ static inline uint32_t zarosnik_key_root(const struct zarosnik_key *key, struct 
                          key->public_seed.bytes, key->secret_seed.bytes, root->bytes);
 }
 
-/* Reveal. It keeps no account of the leaves used: zarosnik_key_sign does. */
+/* Reveal. It keeps no account of the leaves used: zarosnik_key_reserve does. */
 ZAROSNIK_NODISCARD
 static inline uint32_t zarosnik_key_one_time_sign(const struct zarosnik_key *key, uint32_t leaf,
                                                   struct zarosnik_number number, uint32_t *table, size_t table_len,
@@ -199,15 +202,60 @@ static inline uint32_t zarosnik_key_one_time_sign(const struct zarosnik_key *key
                                   values, values_len);
 }
 
-/* Issue. Store key->next_leaf before the signature is handed out. */
+/* Reserve. Store the key before it signs. */
+ZAROSNIK_NODISCARD
+static inline uint32_t zarosnik_key_reserve(struct zarosnik_key *key)
+{
+    return zarosnik_reserve(key->profile.l, key->profile.w, key->profile.s, key->profile.h, key->profile.edition,
+                            &key->next_leaf, &key->mark);
+}
+
+/* Sign. Only when the key, as zarosnik_key_reserve left it, is stored. */
 ZAROSNIK_NODISCARD
 static inline uint32_t zarosnik_key_sign(struct zarosnik_key *key, struct zarosnik_randomizer r,
                                          const uint8_t *message, size_t message_len, uint32_t *table, size_t table_len,
                                          uint8_t *signature, size_t signature_len)
 {
     return zarosnik_sign(key->profile.l, key->profile.w, key->profile.s, key->profile.h, key->profile.edition,
-                         key->public_seed.bytes, key->secret_seed.bytes, &key->next_leaf, r.bytes, message, message_len,
-                         table, table_len, signature, signature_len);
+                         key->public_seed.bytes, key->secret_seed.bytes, key->next_leaf, &key->mark, r.bytes, message,
+                         message_len, table, table_len, signature, signature_len);
+}
+
+/* Write key. The frame holds the secret seed. */
+ZAROSNIK_NODISCARD
+static inline uint32_t zarosnik_key_write_key(const struct zarosnik_key *key, uint8_t *frame, size_t frame_len,
+                                              size_t *frame_written)
+{
+    return zarosnik_write_key(key->profile.l, key->profile.w, key->profile.s, key->profile.h, key->profile.edition,
+                              key->public_seed.bytes, key->secret_seed.bytes, key->next_leaf, key->mark, frame,
+                              frame_len, frame_written);
+}
+
+/* Read key, the mark as it was stored. A desk that starts takes zarosnik_key_restart. */
+ZAROSNIK_NODISCARD
+static inline uint32_t zarosnik_key_read_key(struct zarosnik_key *key, const uint8_t *frame, size_t frame_len,
+                                             uint32_t *line)
+{
+    uint32_t profile[ZAROSNIK_PROFILE_NUMBERS];
+    uint32_t outcome = zarosnik_read_key(frame, frame_len, profile, key->public_seed.bytes, key->secret_seed.bytes,
+                                         &key->next_leaf, &key->mark, line);
+    key->profile.l = profile[0];
+    key->profile.w = profile[1];
+    key->profile.s = profile[2];
+    key->profile.h = profile[3];
+    key->profile.edition = profile[4];
+    return outcome;
+}
+
+/* Restart: the key of the stored frame without its mark, with which a desk goes on after a power cut and whenever it
+ * starts. A leaf that was reserved signs nothing any more, since the frame does not tell whether it has signed. */
+ZAROSNIK_NODISCARD
+static inline uint32_t zarosnik_key_restart(struct zarosnik_key *key, const uint8_t *frame, size_t frame_len,
+                                            uint32_t *line)
+{
+    uint32_t outcome = zarosnik_key_read_key(key, frame, frame_len, line);
+    key->mark = 0;
+    return outcome;
 }
 
 /* Check. Store cabinet->highest_leaf and cabinet->marks, as one write, before the order is carried out. */

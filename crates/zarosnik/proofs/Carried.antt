@@ -1,5 +1,5 @@
 -- How an operation's contract becomes that of its call: the call names its profile by numbers, returns the answer's code and writes its values.
-use mathlib.Core.Path.{_≡_, refl, sym, subst}
+use mathlib.Core.Path.{_≡_, refl, sym, ap, subst, _∙_}
 use mathlib.Core.Bool.{Bool, true, false, cond}
 use mathlib.Core.List.{List}
 use Prim.Native.Nat.{ℕ}
@@ -9,6 +9,11 @@ use Rattle.refusal.specs.declared.Outcome.{Outcome}
 use Rattle.words.specs.Number.{value}
 use Rattle.profile.specs.declared.Shape.{Shape}
 use Rattle.profile.specs.declared.Profile.{Profile}
+use Rattle.signing_key.specs.Counter.{cleared, Reserves}
+use Rattle.signing_key.specs.Key.{keyWith, recounted}
+use Rattle.signing_key.specs.declared.Counter.{Counter}
+use Rattle.signing_key.specs.declared.Reserved.{Reserved}
+use Rattle.signing_key.specs.declared.SigningKey.{SigningKey}
 use Rattle.counts.specs.Table.{Counts}
 use Rattle.counts.specs.declared.table.Counted.{Counted}
 use Rattle.codewords.specs.Operations.{Unranks, Ranks}
@@ -18,8 +23,7 @@ use Rattle.one_time.specs.declared.LeafKey.{LeafKey}
 use Rattle.one_time.specs.declared.Recovered.{Recovered}
 use Rattle.tree.specs.Tree.{Roots}
 use Rattle.tree.specs.declared.TreeRoot.{TreeRoot}
-use Rattle.signer.specs.Signing.{Signs, advanced, signCode, keyAfter}
-use Rattle.signer.specs.declared.SigningKey.{SigningKey}
+use Rattle.signer.specs.Signing.{Signs, signCode, keyAfter}
 use Rattle.signer.specs.declared.Signed.{Signed}
 use Rattle.verifier.specs.Verifying.{Verifies, taken, leafIn, verifyCode, verifierAfter}
 use Rattle.verifier.specs.declared.Verifier.{Verifier}
@@ -28,7 +32,9 @@ use Rattle.sheet.specs.Operation.{ReadsSheet}
 use Rattle.sheet.specs.declared.SheetRead.{SheetRead}
 use Rattle.sheet_writer.specs.Writing.{WritesSheet}
 use Rattle.sheet_writer.specs.declared.writer.SheetWritten.{SheetWritten}
-use Rattle.zarosnik.specs.Interface.{signingKeyOf, verifierOf, CountCall, UnrankCall, RankCall, LeafKeyCall, RootCall, RevealCall, RecoverCall, SignCall, VerifyCall, ReadSheetCall, WriteSheetCall}
+use Rattle.stored_key.specs.Operations.{WritesKey}
+use Rattle.stored_key.specs.declared.writer.KeyWritten.{KeyWritten}
+use Rattle.zarosnik.specs.Interface.{counterOf, markLeft, verifierOf, CountCall, UnrankCall, RankCall, LeafKeyCall, RootCall, RevealCall, RecoverCall, ReserveCall, SignCall, VerifyCall, ReadSheetCall, WriteSheetCall, WriteKeyCall}
 
 -- of a shape
 module _ {p q : Shape} (e : p ≡ q) {r : ℕ} {work work′ : List ℕ} where
@@ -44,12 +50,11 @@ module _ {p q : Shape} (e : p ≡ q) {r : ℕ} {work work′ : List ℕ} where
   rank-call {row} {a} h n =
       subst (λ (s : Shape). RankCall s row work work′ (a .number) r) e (record { answer = a; ranks = h; returned = n; written = refl })
 
--- of the key that comes back only the next leaf can differ
-only-next : (key after : SigningKey) (granted : Bool) → after ≡ cond granted (advanced key) key
-    → after ≡ signingKeyOf (key .profile) (key .seed) (key .secret) (after .next)
-unfolding advanced
-only-next key after true e = subst (λ (k : SigningKey). k ≡ signingKeyOf (key .profile) (key .seed) (key .secret) (k .next)) (sym e) refl
-only-next key after false e = subst (λ (k : SigningKey). k ≡ signingKeyOf (key .profile) (key .seed) (key .secret) (k .next)) (sym e) refl
+-- of the key that comes back only the mark can differ
+only-mark : (key after : SigningKey) (granted : Bool) → after ≡ cond granted (recounted key (cleared (key .counter))) key
+    → after ≡ recounted key (record { next = key .counter .next; mark = after .counter .mark })
+only-mark key after true e = subst (λ (k : SigningKey). k ≡ recounted key (record { next = key .counter .next; mark = k .counter .mark })) (sym e) refl
+only-mark key after false e = subst (λ (k : SigningKey). k ≡ recounted key (record { next = key .counter .next; mark = k .counter .mark })) (sym e) refl
 
 -- of the cabinet that comes back only the highest leaf and the marks can differ
 only-window : (v after : Verifier) (leaf : ℕ) (granted : Bool) → after ≡ cond granted (taken v leaf) v
@@ -99,19 +104,11 @@ module _ {p q : Profile} (e : p ≡ q) {r : ℕ} where
       subst (λ (s : Profile). WriteSheetCall s signature message sheet sheet′ (a .length) r) e
       (record { answer = a; writes = h; returned = n; length-written = refl })
 
-  pub sign-call : {seed secret : List ℕ} {next : ℕ} {random message work out work′ out′ : List ℕ} {a : Signed}
-      → Signs (signingKeyOf p seed secret next) random message work out work′ out′ a → r ≡ outcomeCode (a .outcome)
-      → SignCall (signingKeyOf q seed secret next) random message work out work′ out′ (a .key .next) r
-  unfolding keyAfter
-  sign-call {seed} {secret} {next} {random} {message} {work} {out} {work′} {out′} {a} h n =
-      let key : SigningKey = signingKeyOf p seed secret next in
-      subst (λ (s : Profile). SignCall (signingKeyOf s seed secret next) random message work out work′ out′ (a .key .next) r) e
-      (record {
-        answer = a;
-        signs = h;
-        returned = n;
-        key-kept = only-next key (a .key) (eqb (signCode key random message work out) 0) (h .key′);
-      })
+  pub reserve-call : {next mark mark′ : ℕ} {c : Counter} {a : Reserved} → Reserves p c a → c ≡ counterOf next mark → r ≡ outcomeCode (a .outcome) → mark′ ≡ markLeft (outcomeCode (a .outcome)) mark (a .counter .mark)
+      → ReserveCall q next mark (a .counter .next) mark′ r
+  reserve-call {next} {mark} {mark′} {c} {a} h f n m =
+      subst (λ (s : Profile). ReserveCall s next mark (a .counter .next) mark′ r) e
+      (record { answer = a; reserves = rw f at h; returned = n; next-written = refl; mark-written = m ∙ ap (λ k. markLeft k mark (a .counter .mark)) (sym n) })
 
   pub verify-call : {seed root : List ℕ} {highest marks : ℕ} {message signature work work′ : List ℕ} {a : Verdict}
       → Verifies (verifierOf p seed root highest marks) message signature work work′ a → r ≡ outcomeCode (a .outcome)
@@ -127,4 +124,27 @@ module _ {p q : Profile} (e : p ≡ q) {r : ℕ} where
         returned = n;
         verifier-kept = only-window v (a .verifier) (leafIn signature) (eqb (verifyCode v message signature work) 0) (h .verifier);
         steps-written = refl;
+      })
+
+-- a key of a profile that is named by numbers
+pub key-of : {p q : Profile} {k : SigningKey} {seed secret : List ℕ} {c : Counter} → p ≡ q → k ≡ keyWith p seed secret c → k ≡ keyWith q seed secret c
+key-of {seed} {secret} {c} e f = f ∙ ap (λ (s : Profile). keyWith s seed secret c) e
+
+-- of a key
+module _ {k key : SigningKey} (e : k ≡ key) {r : ℕ} where
+  pub write-key-call : {frame frame′ : List ℕ} {a : KeyWritten} → WritesKey k frame frame′ a → r ≡ outcomeCode (a .outcome) → WriteKeyCall key frame frame′ (a .length) r
+  write-key-call {frame} {frame′} {a} h n =
+      subst (λ (x : SigningKey). WriteKeyCall x frame frame′ (a .length) r) e (record { answer = a; writes = h; returned = n; length-written = refl })
+
+  pub sign-call : {random message work out work′ out′ : List ℕ} {mark mark′ : ℕ} {a : Signed} → Signs k random message work out work′ out′ a → r ≡ outcomeCode (a .outcome)
+      → mark′ ≡ markLeft (outcomeCode (a .outcome)) mark (a .key .counter .mark) → SignCall key random message work out work′ out′ mark mark′ r
+  unfolding keyAfter
+  sign-call {random} {message} {work} {out} {work′} {out′} {mark} {mark′} {a} h n m =
+      subst (λ (x : SigningKey). SignCall x random message work out work′ out′ mark mark′ r) e
+      (record {
+        answer = a;
+        signs = h;
+        returned = n;
+        mark-written = m ∙ ap (λ c. markLeft c mark (a .key .counter .mark)) (sym n);
+        key-kept = only-mark k (a .key) (eqb (signCode k random message work out) 0) (h .key′);
       })

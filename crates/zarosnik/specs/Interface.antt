@@ -2,8 +2,8 @@
 -- operation, carried over. A record names the operation's answer, says that the operation's own contract holds of it, that its code
 -- is what the call returns, and that its values are what the call writes.
 use mathlib.Core.Path.{_≡_}
-use mathlib.Core.Bool.{cond}
-use mathlib.Core.List.{List}
+use mathlib.Core.Bool.{Bool, cond}
+use mathlib.Core.List.{List, [], _∷_}
 use Prim.Native.Nat.{ℕ}
 use lib.Dec.{eqb}
 use lib.ListN.{replicate}
@@ -16,6 +16,11 @@ use Rattle.sha256.specs.Digest.{digest}
 use Rattle.sha256.specs.Running.{started, addCode}
 use Rattle.profile.specs.declared.Shape.{Shape}
 use Rattle.profile.specs.declared.Profile.{Profile}
+use Rattle.signing_key.specs.Counter.{Reserves}
+use Rattle.signing_key.specs.Key.{keyWith, recounted}
+use Rattle.signing_key.specs.declared.Counter.{Counter}
+use Rattle.signing_key.specs.declared.Reserved.{Reserved}
+use Rattle.signing_key.specs.declared.SigningKey.{SigningKey}
 use Rattle.counts.specs.Table.{Counts}
 use Rattle.counts.specs.declared.table.Counted.{Counted}
 use Rattle.codewords.specs.Operations.{Unranks, Ranks}
@@ -26,7 +31,6 @@ use Rattle.one_time.specs.declared.Recovered.{Recovered}
 use Rattle.tree.specs.Tree.{Roots}
 use Rattle.tree.specs.declared.TreeRoot.{TreeRoot}
 use Rattle.signer.specs.Signing.{Signs}
-use Rattle.signer.specs.declared.SigningKey.{SigningKey}
 use Rattle.signer.specs.declared.Signed.{Signed}
 use Rattle.verifier.specs.Verifying.{Verifies}
 use Rattle.verifier.specs.declared.Verifier.{Verifier}
@@ -35,6 +39,9 @@ use Rattle.sheet.specs.Operation.{ReadsSheet}
 use Rattle.sheet.specs.declared.SheetRead.{SheetRead}
 use Rattle.sheet_writer.specs.Writing.{WritesSheet}
 use Rattle.sheet_writer.specs.declared.writer.SheetWritten.{SheetWritten}
+use Rattle.stored_key.specs.Operations.{WritesKey, ReadsKey}
+use Rattle.stored_key.specs.declared.writer.KeyWritten.{KeyWritten}
+use Rattle.stored_key.specs.declared.reader.KeyRead.{KeyRead}
 
 -- a profile by its five numbers, and its shape by the first three
 abbrev pub shapeOf : (l w s : ℕ) → Shape
@@ -43,9 +50,20 @@ shapeOf l w s = record { chains = l; width = w; sum = s }
 abbrev pub profileOf : (l w s h edition : ℕ) → Profile
 profileOf l w s h edition = record { shape = shapeOf l w s; height = h; edition = edition }
 
--- a key and a cabinet by their fields
-abbrev pub signingKeyOf : Profile → (seed secret : List ℕ) (next : ℕ) → SigningKey
-signingKeyOf p seed secret next = record { profile = p; seed = seed; secret = secret; next = next }
+-- a key and a cabinet by their fields; a mark is the word 1, and every other word is none
+abbrev pub counterOf : (next mark : ℕ) → Counter
+counterOf next mark = record { next = next; mark = eqb mark 1 }
+
+abbrev pub signingKeyOf : Profile → (seed secret : List ℕ) (next mark : ℕ) → SigningKey
+signingKeyOf p seed secret next mark = keyWith p seed secret (counterOf next mark)
+
+-- what a mark is written as
+abbrev pub markWord : Bool → ℕ
+markWord mark = cond mark 1 0
+
+-- what a call that changes a mark leaves of its word: refused, the word as it was
+abbrev pub markLeft : (code old : ℕ) (mark : Bool) → ℕ
+markLeft code old mark = cond (eqb code 0) (markWord mark) old
 
 abbrev pub verifierOf : Profile → (seed root : List ℕ) (highest marks : ℕ) → Verifier
 verifierOf p seed root highest marks = record { profile = p; seed = seed; root = root; window = record { highest = highest; marks = marks } }
@@ -111,12 +129,21 @@ pub record RecoverCall (p : Profile) (seed : List ℕ) (leaf : ℕ) (number valu
   pub key-written : key′ ≡ answer .key
   pub steps-written : steps′ ≡ answer .steps
 
--- Issue: the next leaf is written back, and the rest of the key that comes back is the rest of the key given
-pub record SignCall (key : SigningKey) (r message work out work′ out′ : List ℕ) (next′ code : ℕ) : Type 0 where
+-- Reserve: next leaf and mark are written back
+pub record ReserveCall (p : Profile) (next mark next′ mark′ code : ℕ) : Type 0 where
+  pub answer : Reserved
+  pub reserves : Reserves p (counterOf next mark) answer
+  pub returned : code ≡ outcomeCode (answer .outcome)
+  pub next-written : next′ ≡ answer .counter .next
+  pub mark-written : mark′ ≡ markLeft code mark (answer .counter .mark)
+
+-- Sign: the mark is written back, and the rest of the key that comes back is the rest of the key given
+pub record SignCall (key : SigningKey) (r message work out work′ out′ : List ℕ) (mark mark′ code : ℕ) : Type 0 where
   pub answer : Signed
   pub signs : Signs key r message work out work′ out′ answer
   pub returned : code ≡ outcomeCode (answer .outcome)
-  pub key-kept : answer .key ≡ signingKeyOf (key .profile) (key .seed) (key .secret) next′
+  pub mark-written : mark′ ≡ markLeft code mark (answer .key .counter .mark)
+  pub key-kept : answer .key ≡ recounted key (record { next = key .counter .next; mark = answer .key .counter .mark })
 
 -- Check: the highest leaf and the marks are written back, and the rest of the cabinet that comes back is the rest of the cabinet given
 pub record VerifyCall (v : Verifier) (message signature work work′ : List ℕ) (highest′ marks′ steps′ code : ℕ) : Type 0 where
@@ -140,3 +167,23 @@ pub record WriteSheetCall (p : Profile) (signature message sheet sheet′ : List
   pub writes : WritesSheet p signature message sheet sheet′ answer
   pub returned : r ≡ outcomeCode (answer .outcome)
   pub length-written : written′ ≡ answer .length
+
+-- Write key
+pub record WriteKeyCall (key : SigningKey) (frame frame′ : List ℕ) (written′ r : ℕ) : Type 0 where
+  pub answer : KeyWritten
+  pub writes : WritesKey key frame frame′ answer
+  pub returned : r ≡ outcomeCode (answer .outcome)
+  pub length-written : written′ ≡ answer .length
+
+-- Read key: the profile as l, w, s, h, edition
+pub record ReadKeyCall (frame fields′ seed′ secret′ : List ℕ) (next′ mark′ line′ r : ℕ) : Type 0 where
+  pub answer : KeyRead
+  pub reads : ReadsKey frame answer
+  pub returned : r ≡ outcomeCode (answer .outcome)
+  pub fields-written : fields′
+      ≡ answer .key .profile .shape .chains ∷ answer .key .profile .shape .width ∷ answer .key .profile .shape .sum ∷ answer .key .profile .height ∷ answer .key .profile .edition ∷ []
+  pub seed-written : seed′ ≡ answer .key .seed
+  pub secret-written : secret′ ≡ answer .key .secret
+  pub next-written : next′ ≡ answer .key .counter .next
+  pub mark-written : mark′ ≡ markWord (answer .key .counter .mark)
+  pub line-written : line′ ≡ answer .line

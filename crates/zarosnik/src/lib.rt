@@ -1,7 +1,7 @@
 // The C interface: one exported function an operation, which returns the code of the refusal, 0 for granted.
 // Parameters stand in the header's order. Contracts would have to quote `data` and names with an underscore, so `bytes`, `seed`, `secret`,
-// `next`, `highest`, `written` and `length` are the header's `data`, `public_seed`, `secret_seed`, `next_leaf`, `highest_leaf`, `message_written`
-// and `sheet_written`.
+// `next`, `highest` and `written` are the header's `data`, `public_seed`, `secret_seed`, `next_leaf`, `highest_leaf` and `message_written`, and
+// `length` is its `sheet_written` or `frame_written`. `profile` is a function here: `fields` is the header's `profile`.
 ghost use mathlib.Core.Path.{_≡_};
 ghost use mathlib.Core.Bool.{cond};
 ghost use lib.Dec.{eqb};
@@ -11,7 +11,7 @@ ghost use lib.ListN.{replicate};
 ghost use Rattle.refusal.specs.Code.{outcomeCode};
 ghost use Rattle.sha256.specs.Digest.{digest as digestOf};
 ghost use Rattle.sha256.specs.Running.{started, addCode, Adds};
-ghost use Rattle.zarosnik.specs.Interface.{shapeOf, profileOf, signingKeyOf, verifierOf, HashCall, CountCall, UnrankCall, RankCall, CompareCall, LeafKeyCall, RootCall, RevealCall, RecoverCall, SignCall, VerifyCall, ReadSheetCall, WriteSheetCall};
+ghost use Rattle.zarosnik.specs.Interface.{shapeOf, profileOf, counterOf, signingKeyOf, markWord, markLeft, verifierOf, HashCall, CountCall, UnrankCall, RankCall, CompareCall, LeafKeyCall, RootCall, RevealCall, RecoverCall, ReserveCall, SignCall, VerifyCall, ReadSheetCall, WriteSheetCall, WriteKeyCall, ReadKeyCall};
 use codewords::ranking::rank;
 use codewords::unrank;
 use counts::table::codeword_count;
@@ -25,8 +25,12 @@ use sha256::Added;
 use sha256::Hash;
 use sheet::read_sheet;
 use sheet_writer::write_sheet;
-use signer::SigningKey;
 use signer::sign;
+use signing_key::Counter;
+use signing_key::SigningKey;
+use signing_key::reserve;
+use stored_key::read_key;
+use stored_key::write_key;
 use tree::root;
 use verifier::Verifier;
 use verifier::verify;
@@ -58,6 +62,46 @@ fn profile(l: u32, w: u32, s: u32, h: u32, edition: u32) -> Profile
         shape: shape(l, w, s),
         height: h,
         edition,
+    }
+}
+
+// What a mark is written as.
+fn mark_word(mark: bool) -> u32
+    ensures { λ r. ⌜ r ≡ markWord mark ⌝ }
+{
+    if mark { 1 } else { 0 }
+}
+
+// The word of a mark that a call leaves: the new one where it is granted, else the old one, whatever that is.
+fn mark_left(o: Outcome, old: u32, mark: bool) -> u32
+    ensures { λ r. ⌜ r ≡ markLeft (outcomeCode o) old mark ⌝ }
+{
+    match o {
+        Outcome::Refused(_) => old,
+        Outcome::Granted => mark_word(mark),
+    }
+}
+
+// A mark is the word 1, and every other word is none.
+fn counter(next: u32, mark: u32) -> Counter
+    ensures { λ r. ⌜ r ≡ counterOf next mark ⌝ }
+{
+    Counter {
+        next,
+        mark: mark == 1,
+    }
+}
+
+// A key by its fields.
+fn signing_key(p: Profile, seed: &[u8; 16], secret: &[u8; 16], next: u32, mark: u32) -> SigningKey
+    ensures { λ r. ⌜ r ≡ signingKeyOf p (now (seed .entry)) (now (secret .entry)) next mark ⌝ }
+{
+    let leaves = counter(next, mark);
+    SigningKey {
+        profile: p,
+        seed: *seed,
+        secret: *secret,
+        counter: leaves,
     }
 }
 
@@ -257,7 +301,29 @@ pub extern "C" fn zarosnik_one_time_recover(
     returned(outcome)
 }
 
-// Issue.
+// Reserve.
+#[no_mangle]
+pub extern "C" fn zarosnik_reserve(
+    l: u32,
+    w: u32,
+    s: u32,
+    h: u32,
+    edition: u32,
+    next: &mut u32,
+    mark: &mut u32,
+) -> u32
+    ensures { λ code. ⌜ ReserveCall (profileOf l w s h edition) (now (next .entry)) (now (mark .entry)) (now (next .exit)) (now (mark .exit)) code ⌝ }
+{
+    let found = counter(*next, *mark);
+    let reserved = reserve(profile(l, w, s, h, edition), found);
+    let after = reserved.counter;
+    let outcome = reserved.outcome;
+    *next = after.next;
+    *mark = mark_left(outcome, *mark, after.mark);
+    returned(outcome)
+}
+
+// Sign.
 #[no_mangle]
 pub extern "C" fn zarosnik_sign(
     l: u32,
@@ -267,24 +333,21 @@ pub extern "C" fn zarosnik_sign(
     edition: u32,
     seed: &[u8; 16],
     secret: &[u8; 16],
-    next: &mut u32,
+    next: u32,
+    mark: &mut u32,
     r: &[u8; 16],
     message: &[u8],
     table: &mut [u32],
     signature: &mut [u8],
 ) -> u32
-    ensures { λ code. ⌜ SignCall (signingKeyOf (profileOf l w s h edition) (now (seed .entry)) (now (secret .entry)) (now (next .entry))) (now (r .entry)) (now (message .entry)) (now (table .entry)) (now (signature .entry)) (now (table .exit)) (now (signature .exit)) (now (next .exit)) code ⌝ }
+    ensures { λ code. ⌜ SignCall (signingKeyOf (profileOf l w s h edition) (now (seed .entry)) (now (secret .entry)) next (now (mark .entry))) (now (r .entry)) (now (message .entry)) (now (table .entry)) (now (signature .entry)) (now (table .exit)) (now (signature .exit)) (now (mark .entry)) (now (mark .exit)) code ⌝ }
 {
-    let key = SigningKey {
-        profile: profile(l, w, s, h, edition),
-        seed: *seed,
-        secret: *secret,
-        next: *next,
-    };
+    let key = signing_key(profile(l, w, s, h, edition), seed, secret, next, *mark);
     let signed = sign(key, *r, message, table, signature);
     let after = signed.key;
-    *next = after.next;
+    let kept = after.counter;
     let outcome = signed.outcome;
+    *mark = mark_left(outcome, *mark, kept.mark);
     returned(outcome)
 }
 
@@ -367,5 +430,59 @@ pub extern "C" fn zarosnik_write_sheet(
     let made = write_sheet(profile(l, w, s, h, edition), signature, message, sheet);
     *length = made.length;
     let outcome = made.outcome;
+    returned(outcome)
+}
+
+// Write key.
+#[no_mangle]
+pub extern "C" fn zarosnik_write_key(
+    l: u32,
+    w: u32,
+    s: u32,
+    h: u32,
+    edition: u32,
+    seed: &[u8; 16],
+    secret: &[u8; 16],
+    next: u32,
+    mark: u32,
+    frame: &mut [u8],
+    length: &mut usize,
+) -> u32
+    ensures { λ r. ⌜ WriteKeyCall (signingKeyOf (profileOf l w s h edition) (now (seed .entry)) (now (secret .entry)) next mark) (now (frame .entry)) (now (frame .exit)) (now (length .exit)) r ⌝ }
+{
+    let key = signing_key(profile(l, w, s, h, edition), seed, secret, next, mark);
+    let made = write_key(key, frame);
+    *length = made.length;
+    let outcome = made.outcome;
+    returned(outcome)
+}
+
+// Read key.
+#[no_mangle]
+pub extern "C" fn zarosnik_read_key(
+    frame: &[u8],
+    fields: &mut [u32; 5],
+    seed: &mut [u8; 16],
+    secret: &mut [u8; 16],
+    next: &mut u32,
+    mark: &mut u32,
+    line: &mut u32,
+) -> u32
+    ensures { λ r. ⌜ ReadKeyCall (now (frame .entry)) (now (fields .exit)) (now (seed .exit)) (now (secret .exit)) (now (next .exit)) (now (mark .exit)) (now (line .exit)) r ⌝ }
+{
+    let read = read_key(frame);
+    let key = read.key;
+    let p = key.profile;
+    let shape = p.shape;
+    let found = key.counter;
+    let seed_read = key.seed;
+    let secret_read = key.secret;
+    *fields = [shape.chains, shape.width, shape.sum, p.height, p.edition];
+    *seed = seed_read;
+    *secret = secret_read;
+    *next = found.next;
+    *mark = mark_word(found.mark);
+    *line = read.line;
+    let outcome = read.outcome;
     returned(outcome)
 }
