@@ -15,6 +15,7 @@ import hashlib
 import itertools
 import math
 import os
+import re
 import sys
 from typing import NamedTuple
 
@@ -69,7 +70,7 @@ def stale_bytes(count):
 
 OPERATIONS = [
     *["sha256", "count", "spread", "gather", "leaf key", "root", "reveal", "recover"],
-    *["issue", "check", "sheet", "bits", "first bits"],
+    *["orders", "check", "sheet", "bits", "first bits"],
 ]
 
 
@@ -394,18 +395,47 @@ def shown_values(p, leaf, n, table, size):
 TEXT = b"Gate 7: open 40 cm from 06:15 to 09:30 on 12 March.\n"
 
 
-def issue_case(key, size, text=TEXT, words_lent=None):
-    """Two orders, the second with the key that the first handed back. It goes into the slice, and
-    with a refusal the first stays there."""
+# The steps of a desk, by the program's numbers.
+RESERVE, SIGN, RESTART = range(3)
+TWO_ORDERS = [RESERVE, SIGN] * 2
+
+
+def stepped(step, key, text, table, lent):
+    """What a step tells, the key that it hands back, the output slice, the work slice."""
+    if step == RESERVE:
+        outcome, key = signatures.reserve(key)
+        told = f"reserve: outcome {outcome}"
+    elif step == SIGN:
+        outcome, key, lent, table = signatures.sign(key, R, text, table, lent)
+        told = f"sign: outcome {outcome}"
+    else:
+        key = signatures.restarted(key)
+        told = "restart"
+    return f"{told}, next {key.next}, mark {key.mark}", key, lent, table
+
+
+def orders_case(key, size, steps=TWO_ORDERS, text=TEXT, words_lent=None):
+    """Each step has the key that the one before handed back. An order goes into the slice, and with
+    a refusal the one before it stays there."""
     p, lent, told = key.profile, stale_bytes(size), []
     table = table_of(p) if words_lent is None else stale_words(words_lent)
     before = Slices(table, lent, text)
-    label = named(p, f", next {key.next}")
-    taken = words(p) + key.seed + key.secret + word(key.next) + R
-    for _ in range(2):
-        outcome, key, lent, table = signatures.issue(key, R, text, table, lent)
-        told.append(f"outcome {outcome}, next {key.next}")
-    return case("issue", label, taken, ": ".join(told), before, Slices(table, lent, text))
+    label = named(p, f", next {key.next}, mark {key.mark}")
+    taken = words(p) + key.seed + key.secret + words([key.next, key.mark]) + R
+    for step in steps:
+        one, key, lent, table = stepped(step, key, text, table, lent)
+        told.append(one)
+    taken += words([len(steps), *steps])
+    return case("orders", label, taken, ": ".join(told), before, Slices(table, lent, text))
+
+
+def outcomes(line):
+    return [int(number) for number in re.findall(r": outcome (\d+)", line)]
+
+
+def signed(p, leaf):
+    key, out = signatures.reserved_key(p, SEED, SECRET, leaf), stale_bytes(signature_length(p))
+    return signatures.sign(key, R, TEXT, table_of(p), out)[2]
 
 
 def check_case(cabinet, signature, text, change="", words_lent=None):
@@ -424,36 +454,64 @@ def check_case(cabinet, signature, text, change="", words_lent=None):
 
 
 def flat_cases(p):
-    """h = 0: one order, then 12; the order accepted, then passed; and another text."""
-    key, size = SigningKey(p, SEED, SECRET, 0), signature_length(p)
-    yield issue_case(key, size + 3)
-    signature = signatures.issue(key, R, TEXT, table_of(p), stale_bytes(size))[2]
+    """h = 0: one order, then 12 from Reserve; the order accepted, then passed; and another text."""
+    key, size = signatures.fresh_key(p, SEED, SECRET), signature_length(p)
+    yield orders_case(key, size + 3)
+    signature = signed(p, 0)
     cabinet = Verifier(p, SEED, signatures.root_of(p, SEED, SECRET), 0, 0)
     yield check_case(cabinet, signature, TEXT)
     yield check_case(cabinet, signature, TEXT[:-1], ", another text")
 
 
 def scant_cases(p, leaf):
-    """19, for an order that would be accepted if its count were taken."""
-    yield issue_case(SigningKey(p, SEED, SECRET, leaf), signature_length(p) + 3)
+    """19, for an order that would be accepted if its count were taken, and 20 before it."""
+    key, size = SigningKey(p, SEED, SECRET, leaf, 0), signature_length(p) + 3
+    yield orders_case(key, size)
+    yield orders_case(key, size, [SIGN])
     root = signatures.root_of(p, SEED, SECRET)
     number = signatures.message_number(p, R, SEED, root, leaf, TEXT)
     signature = signatures.signature_of(p, SEED, SECRET, leaf, R, number)
     yield check_case(Verifier(p, SEED, root, leaf, 2), signature, TEXT)
 
 
+# Next leaf and mark of a key with two leaves, and steps, each with the outcome that the document
+# gives it; a restart has none.
+COUNTERS = [
+    # a reserved leaf stands in the way of the next, and signs once
+    (0, 0, [(RESERVE, 0), (RESERVE, 21), (SIGN, 0), (SIGN, 20), (RESERVE, 0)]),
+    # before the last leaf has signed 21 is told, and afterwards 12
+    (1, 0, [(SIGN, 20), (RESERVE, 0), (RESERVE, 21), (SIGN, 0), (RESERVE, 12), (SIGN, 20)]),
+    (2, 1, [(RESERVE, 21), (SIGN, 0)]),
+    # a restart gives up the leaf that is reserved
+    (0, 0, [(RESERVE, 0), (RESTART, None), (SIGN, 20), (RESERVE, 0), (SIGN, 0)]),
+    # idle marks, which a refused call hands back
+    (0, 1, [(SIGN, 20), (RESERVE, 0), (SIGN, 0)]),
+    (3, 1, [(SIGN, 20), (RESERVE, 12), (RESTART, None)]),
+    (MASK, 1, [(SIGN, 20), (RESERVE, 12), (RESTART, None)]),
+]
+
+
+def counter_cases(p):
+    for next_leaf, mark, wanted in COUNTERS:
+        key, steps = SigningKey(p, SEED, SECRET, next_leaf, mark), [step for step, _ in wanted]
+        given, line = orders_case(key, signature_length(p), steps)
+        if outcomes(line) != [outcome for _, outcome in wanted if outcome is not None]:
+            sys.exit(f"not answered so: {line}")
+        yield given, line
+
+
 def order_cases():
-    """Issue and Check; h = 0: one order, then 12."""
+    """Reserve, Sign and Check."""
     tall = GATE._replace(h=3)
     size = signature_length(tall)
     for p in [FLAT, FEWEST_BITS, NEARLY_ALL_BITS]:
         yield from flat_cases(p)
     yield from scant_cases(NEARLY_SIGNING, 1)
-    yield issue_case(SigningKey(tall, SEED, SECRET, 5), size)
+    yield from counter_cases(FEWEST_BITS._replace(h=1))
+    yield orders_case(SigningKey(tall, SEED, SECRET, 5, 0), size)
     for p in [SMALL, *OUTSIDE, *OUTSIDE_HEIGHT]:
-        yield issue_case(SigningKey(p, SEED, SECRET, 0), 100)
-    key = SigningKey(tall, SEED, SECRET, 5)
-    signature = signatures.issue(key, R, TEXT, table_of(tall), stale_bytes(size))[2]
+        yield orders_case(signatures.fresh_key(p, SEED, SECRET), 100)
+    signature = signed(tall, 5)
     # it has accepted the leaves 0 and 2
     cabinet = Verifier(tall, SEED, signatures.root_of(tall, SEED, SECRET), 2, 5)
     yield check_case(cabinet, signature, TEXT)
@@ -529,15 +587,12 @@ def fresh_cabinet(p):
     return Verifier(p, SEED, signatures.root_of(p, SEED, SECRET), 0, 0)
 
 
-def signed(p, leaf):
-    key, out = SigningKey(p, SEED, SECRET, leaf), stale_bytes(signature_length(p))
-    return signatures.issue(key, R, TEXT, table_of(p), out)[2]
-
-
 def answered(outcome, made):
-    """The cases, each of which must be answered so by the document."""
+    """The cases, each of which must be answered so by the document: of a desk all steps, and of a
+    cabinet, which then has passed the leaf, the first check."""
     for given, line in made:
-        if f": outcome {outcome}, " not in line:
+        found = outcomes(line)
+        if set(found if line.startswith("orders ") else found[:1]) != {outcome}:
             sys.exit(f"not answered by {outcome}: {line}")
         yield given, line
 
@@ -548,8 +603,8 @@ def code_at(p):
 
 
 def all_right_at(edition):
-    """The seven operations that a profile's edition is for. Where it is none, the order and the
-    sheet are those of edition 1."""
+    """The operations that a profile's edition is for. Where it is none, the order and the sheet are
+    those of edition 1."""
     right = edition if edition in EDITIONS else 1
     p, order, sheet = (
         q._replace(edition=edition) for q in (SMALL, FEWEST_BITS._replace(h=1), SHEET)
@@ -557,7 +612,7 @@ def all_right_at(edition):
     yield leaf_key_case(p, 3)
     yield root_case(p)
     yield from shown_values(p, 3, 5, table_of(p), 16 * p.l)
-    yield issue_case(SigningKey(order, SEED, SECRET, 0), signature_length(order))
+    yield orders_case(signatures.fresh_key(order, SEED, SECRET), signature_length(order))
     signature = signed(order._replace(edition=right), 1)
     yield check_case(fresh_cabinet(order), signature, TEXT, ", leaf 1")
     size = signature_length(sheet)
@@ -570,7 +625,7 @@ def all_wrong_at(p):
     yield leaf_key_case(p, MASK)
     yield root_case(p)
     yield from shown_values(p, MASK, (1 << 160) - 1, [], 3)
-    yield issue_case(SigningKey(p, SEED, SECRET, MASK), 3, b"", 3)
+    yield orders_case(SigningKey(p, SEED, SECRET, MASK, 1), 3, TWO_ORDERS, b"", 3)
     yield check_case(Verifier(p, SEED, R, MASK, MASK), b"\xff" * 5, b"", "", 3)
     yield sheet_case(p, b"474F31", 3, 3, ", no right line")
 
@@ -594,6 +649,7 @@ def second_edition_cases():
     for p in [FLAT, FEWEST_BITS, NEARLY_ALL_BITS]:
         yield from flat_cases(p._replace(edition=2))
     yield from scant_cases(NEARLY_SIGNING._replace(edition=2), 1)
+    yield from counter_cases(FEWEST_BITS._replace(h=1, edition=2))
     p = WIDE._replace(edition=2)
     yield from shown_values(p, 1, 0, table_of(p), 16 * p.l)
     yield leaf_key_case(GATE._replace(edition=2), 1023)
@@ -620,7 +676,7 @@ def crossed_cases():
             yield from answered(15, [crossed])
         second = both[1]
         order = [
-            issue_case(SigningKey(second, SEED, SECRET, leaf), signature_length(second)),
+            orders_case(SigningKey(second, SEED, SECRET, leaf, 0), signature_length(second)),
             check_case(fresh_cabinet(second), signed(second, leaf), TEXT, f", leaf {leaf}"),
         ]
         yield from answered(0, order)

@@ -11,7 +11,9 @@ use super::output::decimal;
 use super::output::hex;
 use super::output::number_is;
 use super::output::outcome_is;
-use signer::SigningKey;
+use signing_key::Counter;
+use signing_key::SigningKey;
+use signing_key::with_counter;
 use verifier::Verifier;
 use window::Window;
 
@@ -25,7 +27,7 @@ pub fn call(operation: u32, table: &mut [u32], bytes: &mut [u8], text: &mut [u8]
         5 => root(),
         6 => reveal(table, bytes),
         7 => recover(table, bytes),
-        8 => issue(table, text, bytes),
+        8 => orders(table, text, bytes),
         9 => check(table, text, bytes),
         10 => sheet(bytes, text),
         11 => bits(),
@@ -96,32 +98,81 @@ fn recover(table: &mut [u32], values: &[u8]) {
     decimal(b", steps ", a.steps);
 }
 
-// The second call gets the key that the first handed back.
-fn issue(table: &mut [u32], text: &[u8], signature: &mut [u8]) {
-    let key = SigningKey {
+// The steps of a desk, each with the key that the one before handed back.
+fn orders(table: &mut [u32], text: &[u8], signature: &mut [u8]) {
+    let mut key = SigningKey {
         profile: profile(),
         seed: value(),
         secret: value(),
-        next: word(),
+        counter: Counter {
+            next: word(),
+            mark: word() == 1,
+        },
     };
     let r = value();
-    let after = issue_with(key, r, table, text, signature);
-    issue_with(after, r, table, text, signature);
+    let steps = length(16);
+    let mut i = 0;
+    while i < steps {
+        key = step(word(), key, r, table, text, signature);
+        i += 1;
+    }
 }
 
-fn issue_with(
+fn step(
+    kind: u32,
     key: SigningKey,
     r: [u8; 16],
     table: &mut [u32],
     text: &[u8],
     signature: &mut [u8],
 ) -> SigningKey {
+    match kind {
+        0 => reserve(key),
+        1 => sign(key, r, table, text, signature),
+        _ => restart(key),
+    }
+}
+
+fn reserve(key: SigningKey) -> SigningKey {
+    io::write_all(1, b": reserve");
+    let p = key.profile;
+    let counter = key.counter;
+    let a = signing_key::reserve(p, counter);
+    let outcome = a.outcome;
+    let after = a.counter;
+    outcome_is(outcome);
+    counter_is(after);
+    with_counter(key, after)
+}
+
+fn sign(
+    key: SigningKey,
+    r: [u8; 16],
+    table: &mut [u32],
+    text: &[u8],
+    signature: &mut [u8],
+) -> SigningKey {
+    io::write_all(1, b": sign");
     let a = signer::sign(key, r, text, table, signature);
     let outcome = a.outcome;
     let after = a.key;
     outcome_is(outcome);
-    decimal(b", next ", after.next);
+    let counter = after.counter;
+    counter_is(counter);
     after
+}
+
+fn restart(key: SigningKey) -> SigningKey {
+    io::write_all(1, b": restart");
+    let after = signing_key::restart(key);
+    let counter = after.counter;
+    counter_is(counter);
+    after
+}
+
+fn counter_is(counter: Counter) {
+    decimal(b", next ", counter.next);
+    decimal(b", mark ", if counter.mark { 1 } else { 0 });
 }
 
 // The second call gets the cabinet that the first handed back.
