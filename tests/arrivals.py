@@ -1,16 +1,22 @@
-"""Holds the library to what document 02 says in point 4 of whole lists of checks: one fresh key's
-issued orders, by two routes, at a cabinet that starts fresh and goes from check to check. Point 6
-has it so in either edition, the cabinet's being the key's.
+"""Holds the library to what document 02 says in points 4 and 5 of whole lists of calls: a fresh key
+that goes from reserve to sign, through cuts and restarts from its stored frame, and its issued
+orders, by two routes, at a cabinet that starts fresh and goes from check to check. Point 6 has it
+so in either edition, the cabinet's being the key's.
 
     python3 tests/arrivals.py --archive FILE    the library in this archive, some seconds
     python3 tests/arrivals.py                   proves the library and writes the archive first
 
-All orders are signed and checked through C, and the cabinet is the two words that the library hands
-back. Beside it stands the set of the leaves accepted so far, and what must be answered and left is
-taken from that set by the document's words: 14 means a leaf 32 or more below the highest accepted,
-or one already accepted. The rule of tests/signatures.py must say the same, and is asked alone where
-a cabinet is handed in that no list of checks leads to.
+All leaves are reserved and all orders signed and checked through C. Key and cabinet are the two
+words each that the library hands back. Beside the key stands which leaves were reserved and which
+have signed, and beside the cabinet the set of the leaves accepted so far; what must be answered and
+left is taken from these by the document's words: 14 means a leaf 32 or more below the highest
+accepted, or one already accepted. The rule of tests/signatures.py must say the same of it, and is
+asked alone where a cabinet is handed in that no list of checks leads to.
 
+- In every list of reserve and sign no leaf signs twice, whatever refused calls come between, and
+  wherever power fails: before a store has ended, behind it, or behind the sign. A cut loses a leaf
+  that was stored as reserved and had not signed, and no other. The orders of a list in which leaves
+  are lost are all accepted, in the order signed and in others.
 - In arrival orders in which each order comes before any leaf 32 or more above it, all are accepted,
   whatever refused checks come between.
 - In other arrival orders just those are refused which come too late, by 14.
@@ -19,6 +25,7 @@ a cabinet is handed in that no list of checks leads to.
 - Any highest leaf and any marks, of each kind of tests/windows.py.
 
 Every check must report l (w - 1) - s steps where it is accepted or refused by 15, and 0 otherwise.
+Every call that is refused must leave the two words as they were.
 Fails too where one of these has not come up in either edition.
 """
 
@@ -51,6 +58,17 @@ SHAPES = [(7, 3, 5, 7), (10, 4, 15, 8)]
 PROFILES = [Profile(*shape, edition) for edition in EDITIONS for shape in SHAPES]
 # A count below 256, which 19 refuses. Table and signature are no longer than those above.
 SCANT = Profile(5, 5, 7, 7, 1)
+# Trees of a few leaves, of which some are lost to cuts; and how many lists for each profile.
+CUT_PROFILES = [Profile(7, 3, 5, h, edition) for edition in EDITIONS for h in range(1, 6)]
+CUT_LISTS = 6
+# How often power fails at a step.
+CUT = 0.15
+# Where it fails, with the mark that the stored frame then has; and the answers of a desk's calls.
+CUTS = [("before the store has ended", 0), ("before the leaf has signed", 1)]
+CUTS += [("behind the sign", 1)]
+ANSWERS = {"reserve": [0, 1, 2, 3, 4, 22, 21, 12], "sign": [0, 1, 2, 3, 4, 22, 5, 16, 6, 20, 19]}
+# Bytes of a stored key, by its edition.
+FRAME_BYTES = {1: 87, 2: 89}
 # What stands in an answer before the call.
 STALE = 0xA5A5A5A5
 # How many arrival orders of each drawn kind, and cabinets, for each profile.
@@ -99,39 +117,177 @@ class Order:
         self.leaf = int.from_bytes(signature[:4], "big")
 
 
-class Key:
-    """A fresh key of a profile, all of whose orders are signed through C, in turn."""
+class Desk:
+    """A fresh key at a desk: two words that the library changes, and the stored frame. Beside them
+    stand how many leaves were reserved, the one that has not signed yet, and the orders by their
+    leaves; what must be answered is taken from these by the document's words. No sign comes before
+    its store has ended, and no older frame is put back."""
 
-    def __init__(self, library, pick, p):
+    def __init__(self, pick, key, met):
+        self.pick, self.key, self.met = pick, key, met
+        self.next_leaf, self.mark = ctypes.c_uint32(0), ctypes.c_uint32(0)
+        self.reserved, self.waiting, self.orders = 0, None, {}
+        self.store()
+
+    def words(self):
+        return self.next_leaf.value, self.mark.value
+
+    def tell(self, what, found, wanted):
+        """An answer, and the two words behind it."""
+        found, waits = (found, *self.words()), self.waiting is not None
+        wanted = (wanted, self.reserved, int(waits))
+        hold(found == wanted, f"{what} at {self.key.p}: {found}, not {wanted}")
+        self.met[what, wanted[0]] += 1
+
+    def reserve(self, wrong=None):
+        """A leaf, unless one waits to sign, none is left, or the profile is this wrong one."""
+        last = self.reserved == 2**self.key.p.h
+        wanted = 21 if self.waiting is not None else 12 if last else 0
+        p, wanted = wrong or (self.key.p, wanted)
+        words = ctypes.addressof(self.next_leaf), ctypes.addressof(self.mark)
+        outcome = self.key.library.zarosnik_reserve(*p, *words)
+        if wanted == 0:
+            self.waiting, self.reserved = self.reserved, self.reserved + 1
+        self.tell("reserve", outcome, wanted)
+
+    def sign(self, wrong=None, p=None, text=None, short=0, cut=0):
+        """With the leaf that is reserved, unless none is or something is wrong."""
+        key, pick = self.key, self.pick
+        text = pick.randbytes(pick.randrange(1, 40)) if text is None else text
+        signature = (ctypes.c_uint8 * signature_length(key.p))()
+        outcome = key.library.zarosnik_sign(
+            *(p or key.p),
+            octets(key.seed),
+            octets(key.secret),
+            self.next_leaf.value,
+            ctypes.addressof(self.mark),
+            octets(pick.randbytes(16)),
+            octets(text),
+            len(text),
+            key.table,
+            len(key.table) - short,
+            signature,
+            len(signature) - cut,
+        )
+        leaf = self.waiting
+        wanted = wrong or (20 if leaf is None else 0)
+        self.waiting = leaf if wanted else None
+        self.tell("sign", outcome, wanted)
+        if wanted:
+            hold(not any(signature), f"a signature is written by {wanted} at {key.p}")
+        else:
+            order = Order(text, bytes(signature))
+            hold(order.leaf == leaf, f"leaf {order.leaf} has signed for {leaf} at {key.p}")
+            hold(leaf not in self.orders, f"leaf {leaf} has signed twice at {key.p}")
+            self.orders[leaf] = order
+
+    def disturb(self):
+        """A call that must be refused. Where no leaf waits, 20 comes before 19."""
+        p, waits = self.key.p, self.waiting is not None
+        none = self.pick.choice([0, 3, 2**32 - 1, self.pick.randrange(3, 2**32)])
+        profiles = {
+            1: p._replace(l=41),
+            2: p._replace(w=17),
+            3: p._replace(s=p.l * (p.w - 1) + 1),
+            4: p._replace(h=11),
+            22: p._replace(edition=none),
+        }
+        cause = self.pick.choice(list(profiles))
+        scant = SCANT._replace(h=p.h, edition=p.edition)
+        calls = [
+            lambda: self.reserve((profiles[cause], cause)),
+            lambda: self.sign(cause, p=profiles[cause]),
+            lambda: self.sign(5, short=1),
+            lambda: self.sign(16, text=self.pick.choice([b"", bytes(201)])),
+            lambda: self.sign(6, cut=1),
+            lambda: self.sign(19 if waits else 20, p=scant),
+            self.reserve if waits else self.sign,
+        ]
+        self.pick.choice(calls)()
+
+    def store(self):
+        """What is written is read back as the same key."""
+        key, written = self.key, ctypes.c_size_t(STALE)
+        frame = (ctypes.c_uint8 * FRAME_BYTES[key.p.edition])()
+        outcome = key.library.zarosnik_write_key(
+            *key.p,
+            octets(key.seed),
+            octets(key.secret),
+            self.next_leaf.value,
+            self.mark.value,
+            frame,
+            len(frame),
+            ctypes.addressof(written),
+        )
+        self.tell("store", outcome, 0)
+        hold(written.value == len(frame), f"{written.value} bytes are written at {key.p}")
+        self.stored, counter = (bytes(frame), self.reserved), self.words()
+        hold(self.read() == counter, f"{self.read()} is read where {counter} was written")
+
+    def read(self):
+        """The next leaf and the mark of the stored frame."""
+        key, words = self.key, (ctypes.c_uint32 * 8)(*[STALE] * 8)
+        seeds = [octets(bytes(16)) for _ in range(2)]
+        frame = octets(self.stored[0])
+        places = [ctypes.addressof(words) + 4 * at for at in (0, 5, 6, 7)]
+        outcome = key.library.zarosnik_read_key(frame, len(frame), places[0], *seeds, *places[1:])
+        found = (outcome, *words[:5], *map(bytes, seeds), words[7])
+        hold(found == (0, *key.p, key.seed, key.secret, 0), f"{found} is read at {key.p}")
+        return words[5], words[6]
+
+    def restart(self, where):
+        """After a cut: from the stored frame, with the mark cleared."""
+        self.next_leaf.value, mark = self.read()
+        self.met["cut", where, mark] += 1
+        self.mark.value = 0
+        self.reserved, self.waiting = self.stored[1], None
+        self.tell("restart", 0, 0)
+
+    def issue(self, lossy):
+        """Leaf by leaf until none is left. Power fails now and then; where a leaf may be lost, also
+        between its store and its sign."""
+        while self.reserved < 2**self.key.p.h:
+            self.disturb_some()
+            self.reserve()
+            if self.reserved == 2**self.key.p.h:
+                # 21 and not 12
+                self.reserve()
+            self.disturb_some()
+            if self.pick.random() < CUT:
+                self.restart("before the store has ended")
+                continue
+            self.store()
+            self.disturb_some()
+            if lossy and self.pick.random() < CUT:
+                self.restart("before the leaf has signed")
+                continue
+            self.sign()
+            if self.pick.random() < CUT:
+                self.restart("behind the sign")
+        for call in (self.reserve, self.sign, self.store, self.reserve):
+            call()
+
+    def disturb_some(self):
+        while self.pick.random() < 0.2:
+            self.disturb()
+
+
+class Key:
+    """A fresh key of a profile, whose orders are signed through C by a list of reserve and sign."""
+
+    def __init__(self, library, pick, p, met, lossy=False):
         self.library, self.p = library, p
         self.seed, self.secret = pick.randbytes(16), pick.randbytes(16)
         self.root = root_of(p, self.seed, self.secret)
         self.steps = p.l * (p.w - 1) - p.s
         self.table = (ctypes.c_uint32 * table_length(p.l, p.s))()
-        self.orders, next_leaf = [], ctypes.c_uint32(0)
-        for leaf in range(2**p.h):
-            self.orders.append(self.sign(pick, next_leaf))
-            found = self.orders[-1].leaf, next_leaf.value
-            hold(found == (leaf, leaf + 1), f"leaf and next leaf {found} for order {leaf} at {p}")
+        desk = Desk(pick, self, met)
+        desk.issue(lossy)
+        self.orders = desk.orders
+        hold(lossy or len(self.orders) == 2**p.h, f"{len(self.orders)} leaves have signed at {p}")
 
-    def sign(self, pick, next_leaf):
-        text, r = pick.randbytes(pick.randrange(1, 40)), pick.randbytes(16)
-        signature = (ctypes.c_uint8 * signature_length(self.p))()
-        outcome = self.library.zarosnik_sign(
-            *self.p,
-            octets(self.seed),
-            octets(self.secret),
-            ctypes.addressof(next_leaf),
-            octets(r),
-            octets(text),
-            len(text),
-            self.table,
-            len(self.table),
-            signature,
-            len(signature),
-        )
-        hold(outcome == 0, f"an order is refused by {outcome} at {self.p}")
-        return Order(text, bytes(signature))
+    def any_order(self, pick):
+        return pick.choice(list(self.orders.values()))
 
     def other_text(self, pick, order):
         """A text that has another number under this signature, so leads to another root."""
@@ -215,7 +371,7 @@ class Run:
     def disturb(self):
         """A check of any order that must be refused, with something else wrong or not."""
         pick, key = self.pick, self.key
-        p, order = key.p, pick.choice(key.orders)
+        p, order = key.p, key.any_order(pick)
         judged, counted = (14, 14) if self.accepted.passes(order.leaf) else (15, 19)
         text, signature = order.text, order.signature
         past = pick.choice([2**p.h, 2**32 - 1, pick.randrange(2**p.h, 2**32)])
@@ -379,6 +535,19 @@ def receive(what, pick, key, leaves, met):
     return refused
 
 
+def receive_lossy(library, pick, p, met):
+    """The orders of a list in which leaves were lost: in the order signed, and in any other that is
+    in time, which all are where no two leaves are 32 apart."""
+    key = Key(library, pick, p, met, lossy=True)
+    met["leaves lost"] += 2**p.h - len(key.orders)
+    met["lists with leaves lost"] += len(key.orders) < 2**p.h
+    signed = list(key.orders)
+    hold(signed == sorted(signed), f"signed in another order at {p}: {signed}")
+    for leaves in (signed, pick.sample(signed, len(signed))) if signed else ():
+        refused = receive("with leaves lost", pick, key, leaves, met)
+        hold(not refused, f"refused at {p}: {sorted(refused)} of {leaves}")
+
+
 def receive_in_time(pick, key, met):
     for leaves in orders_in_time(pick, len(key.orders)):
         hold(comes_in_time(leaves), f"drawn otherwise: {leaves}")
@@ -430,11 +599,11 @@ def hand_in_states(pick, key, met):
     for kind, answer in windows.KINDS:
         state = None
         while state is None:
-            order = pick.choice(key.orders)
+            order = key.any_order(pick)
             state = windows.state_of(pick, kind, answer, order.leaf)
         hand_in(pick, key, met, state, order)
     for _ in range(DRAWN_STATES):
-        order = pick.choice(key.orders)
+        order = key.any_order(pick)
         hand_in(pick, key, met, windows.any_state(pick, order.leaf), order)
         any_words = pick.getrandbits(32), pick.getrandbits(32)
         hand_in(pick, key, met, any_words, order)
@@ -452,28 +621,38 @@ def missing(met):
     wanted += [(f"again {when}", 14) for when in ("at once", "later", "at the end")]
     wanted += [("one of two again", 14), ("handed in", 0), ("handed in", 14)]
     wanted += [("handed in", kind, answer) for kind, answer in windows.KINDS]
+    wanted += [(call, outcome) for call, outcomes in ANSWERS.items() for outcome in outcomes]
+    wanted += [("cut", *cut) for cut in CUTS] + [("with leaves lost", 0), "leaves lost"]
     return [kind for kind in wanted if not met[kind]]
 
 
 def main():
-    archive = archive_of(archive_parser("Holds lists of checks to point 4.").parse_args())
+    archive = archive_of(archive_parser("Holds lists of calls to points 4 and 5.").parse_args())
     pick, met_in = random.Random("arrivals"), {edition: Counter() for edition in EDITIONS}
     with tempfile.TemporaryDirectory() as folder:
         library = load(shared_object(archive, folder))
         for p in PROFILES:
-            key, met = Key(library, pick, p), met_in[p.edition]
+            met = met_in[p.edition]
+            key = Key(library, pick, p, met)
             for part in (receive_in_time, receive_too_late, receive_two, hand_in_states):
                 part(pick, key, met)
             met["orders"] += len(key.orders)
+        for p in CUT_LISTS * CUT_PROFILES:
+            receive_lossy(library, pick, p, met_in[p.edition])
     for edition, met in met_in.items():
         lacking = missing(met)
         hold(not lacking, f"has not come up in edition {edition}: {lacking}")
     met = sum(met_in.values(), Counter())
     accepted, late = met["in time", 0], met["too late", 14]
+    cuts = sum(met["cut", where, mark] for where in dict(CUTS) for mark in (0, 1))
+    refusals = sum(met[call, told] for call, (_, *causes) in ANSWERS.items() for told in causes)
     disturbed = sum(met[what, told] for what, outcomes in DISTURBED.items() for told in outcomes)
     again = sum(met[f"again {when}", 14] for when in ("at once", "later", "at the end"))
     print(
-        f"tests/arrivals.py: {met['orders']} orders, {met_in[2]['orders']} of them in edition 2;"
+        f"tests/arrivals.py: {met['reserve', 0]} leaves reserved, {met['sign', 0]} orders signed,"
+        f" {cuts} cuts, {met['leaves lost']} leaves lost in {met['lists with leaves lost']} lists,"
+        f" {refusals} calls refused, no leaf has signed twice;"
+        f" {met['orders']} orders, {met_in[2]['orders']} of them in edition 2;"
         f" {met['lists in time']} arrival orders in time, all {accepted} accepted;"
         f" {met['lists too late']} others, {late} too late and refused by 14,"
         f" {met['too late', 0]} accepted; {again} replays and {disturbed} other checks refused,"

@@ -10,7 +10,7 @@ import sys
 from pathlib import Path
 
 from sheets import right_sheet
-from signatures import GATE_2, SigningKey, issue, root_of, signature_length
+from signatures import GATE_2, fresh_key, reserve, root_of, sign, signature_length
 from zarosnik import table_length
 
 EXAMPLES = Path(__file__).resolve().parent.parent / "examples"
@@ -24,10 +24,10 @@ TEXT = b"sill level 2.4 m until 18:00"
 
 def expected_sheet():
     work = [0] * table_length(P.l, P.s)
-    key = SigningKey(P, SEED, SECRET, 0)
-    outcome, _, signature, _ = issue(key, R, TEXT, work, bytes(signature_length(P)))
-    if outcome:
-        sys.exit(f"tests/example_sheet.py: the order is refused by {outcome}")
+    refused, key = reserve(fresh_key(P, SEED, SECRET))
+    outcome, _, signature, _ = sign(key, R, TEXT, work, bytes(signature_length(P)))
+    if refused or outcome:
+        sys.exit(f"tests/example_sheet.py: the order is refused by {refused or outcome}")
     return right_sheet(P, signature, TEXT)
 
 

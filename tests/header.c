@@ -36,6 +36,10 @@ static_assert(ZAROSNIK_SHEET_BYTES(ZAROSNIK_L_MAX, ZAROSNIK_H_MAX, ZAROSNIK_EDIT
 static_assert(ZAROSNIK_SHEET_BYTES(ZAROSNIK_L_MAX, ZAROSNIK_H_MAX, ZAROSNIK_EDITION_2, ZAROSNIK_MESSAGE_MAX)
                   == ZAROSNIK_SHEET_BYTES_MAX,
               "sheet");
+static_assert(ZAROSNIK_KEY_BYTES(ZAROSNIK_EDITION_1) == 87, "stored key");
+static_assert(ZAROSNIK_KEY_BYTES(ZAROSNIK_EDITION_2) == 89, "stored key");
+static_assert(ZAROSNIK_KEY_BYTES(ZAROSNIK_EDITION_2) == ZAROSNIK_KEY_BYTES_MAX, "stored key");
+static_assert(ZAROSNIK_PROFILE_NUMBERS == 5, "l, w, s, h, edition");
 
 static_assert(ZAROSNIK_EDITION_1 == 1 && ZAROSNIK_EDITION_2 == 2, "editions");
 
@@ -47,15 +51,18 @@ static_assert(ZAROSNIK_VALUES_BYTES(34u & 63u) == 544, "parentheses");
 static_assert(ZAROSNIK_SIGNATURE_BYTES(34u & 63u, 10u & 15u) == 724, "parentheses");
 static_assert(ZAROSNIK_SHEET_BYTES(34u & 63u, 10u & 15u, 1u & 3u, 28u & 63u) == 1753, "parentheses");
 static_assert(ZAROSNIK_SHEET_BYTES(34u & 63u, 10u & 15u, 2u & 3u, 28u & 63u) == 1755, "parentheses");
+static_assert(ZAROSNIK_KEY_BYTES(1u & 3u) == 87, "parentheses");
+static_assert(ZAROSNIK_KEY_BYTES(2u & 3u) == 89, "parentheses");
 static_assert(ZAROSNIK_LEAVES(10u & 15u) == 1024, "parentheses");
 static_assert(ZAROSNIK_STEPS(34u & 63u, 16u & 63u, 300u - 45u) == 255, "parentheses");
 
 /* Sizes of variables are uint32_t, or size_t where the text's length is, and raise no warning. */
-uint32_t header_sizes(uint32_t l, uint32_t w, uint32_t s, uint32_t h);
-uint32_t header_sizes(uint32_t l, uint32_t w, uint32_t s, uint32_t h)
+uint32_t header_sizes(uint32_t l, uint32_t w, uint32_t s, uint32_t h, uint32_t edition);
+uint32_t header_sizes(uint32_t l, uint32_t w, uint32_t s, uint32_t h, uint32_t edition)
 {
     return ZAROSNIK_TABLE_WORDS(l, s) + ZAROSNIK_TABLE_BYTES(l, s) + ZAROSNIK_VALUES_BYTES(l)
-        + ZAROSNIK_SIGNATURE_BYTES(l, h) + ZAROSNIK_S_MAX(l, w) + ZAROSNIK_LEAVES(h) + ZAROSNIK_STEPS(l, w, s);
+        + ZAROSNIK_SIGNATURE_BYTES(l, h) + ZAROSNIK_S_MAX(l, w) + ZAROSNIK_LEAVES(h) + ZAROSNIK_STEPS(l, w, s)
+        + ZAROSNIK_KEY_BYTES(edition);
 }
 
 size_t header_sheet(uint32_t l, uint32_t h, uint32_t edition, size_t message_len);

@@ -6,9 +6,9 @@
 Both headers compile as C11 and as C++17 with all warnings. The first has the functions, parameters
 and types of the crate `zarosnik`, the refusals of the crate `refusal` and the orders of the crate
 `words`. The page's tables have their numbers and names, the words of zarosnik_outcome_text, and for
-each function its refusals in order. The second hands each parameter on as it is named. What must
-not compile does not: one kind of 16 bytes for another, the gate profile without an edition, and an
-outcome that is not looked at.
+each function its refusals in order. The second hands each parameter on as it is named, and what it
+does beside that is what stands here. What must not compile does not: one kind of 16 bytes for
+another, the gate profile without an edition, and an outcome that is not looked at.
 
 Neither a compiler nor a proof compares a declaration in C with the Rattle source, so it is done here.
 """
@@ -45,8 +45,10 @@ NAMES = {
     "next": "next_leaf",
     "highest": "highest_leaf",
     "written": "message_written",
-    "length": "sheet_written",
+    "fields": "profile",
 }
+# How many bytes a function has written is `length` in the source.
+LENGTHS = {"zarosnik_write_sheet": "sheet_written", "zarosnik_write_key": "frame_written"}
 NO_OUTCOME = "not an outcome of this library"
 # The columns of the page's tables.
 OUTCOME_TABLE = ["Number", "Name", "Meaning", "Met by", "What to do"]
@@ -120,9 +122,9 @@ def declared_functions(text, end=";"):
     return {name: [declared_parameter(p) for p in given.split(",")] for name, given in found}
 
 
-def exported_parameter(name, kind):
+def exported_parameter(function, name, kind):
     """What a parameter of the source is in C: a slice is a pointer and a length."""
-    name = NAMES.get(name, name)
+    name = LENGTHS.get(function, name) if name == "length" else NAMES.get(name, name)
     if kind in TYPES:
         return [(TYPES[kind], name, None)]
     changes, inner = re.fullmatch(r"&(mut )?(.+)", kind).groups()
@@ -140,7 +142,7 @@ def exported_functions(text):
     exported = {}
     for name, given in re.findall(r'pub extern "C" fn (\w+)\((.*?)\) -> u32', text, re.DOTALL):
         parameters = re.findall(r"(\w+): ([^,]+?)\s*(?:,|$)", given)
-        exported[name] = [part for p in parameters for part in exported_parameter(*p)]
+        exported[name] = [part for p in parameters for part in exported_parameter(name, *p)]
     return exported
 
 
@@ -276,6 +278,23 @@ def check_version(text):
 
 # The second header.
 
+# Two of its functions do more than hand a call on: one takes the profile apart, one clears the mark.
+READ_KEY = """
+    uint32_t profile[ZAROSNIK_PROFILE_NUMBERS];
+    uint32_t outcome = {call};
+    key->profile.l = profile[0];
+    key->profile.w = profile[1];
+    key->profile.s = profile[2];
+    key->profile.h = profile[3];
+    key->profile.edition = profile[4];
+    return outcome;
+"""
+RESTART = """
+    uint32_t outcome = zarosnik_key_read_key(key, frame, frame_len, line);
+    key->mark = 0;
+    return outcome;
+"""
+
 
 def argument_name(text):
     """The parameter for which an argument stands, by the last name in it."""
@@ -286,13 +305,19 @@ def argument_name(text):
 def check_typed(text, functions):
     """Each function of the first header but Hash, which takes none of the structs, is called by one
     of the second: zarosnik_CALL by zarosnik_X_CALL, which takes an X first, and with arguments that
-    are named as its parameters are."""
+    are named as its parameters are. Nothing else is done but in the two functions above."""
     called = {}
-    body = r"(zarosnik_\w+)\(([^()]*)\)\s*\{\s*return (zarosnik_\w+)\(([^()]*)\);\s*\}"
-    for name, parameters, callee, given in re.findall(body, text):
+    more = {"zarosnik_read_key": READ_KEY.split()}
+    defined = r"uint32_t (zarosnik_\w+)\(([^()]*)\)\s*\{([^{}]*)\}"
+    for name, parameters, body in re.findall(defined, text):
+        if name == "zarosnik_key_restart" and body.split() == RESTART.split():
+            continue
+        call, callee, given = re.search(r"((zarosnik_\w+)\(([^()]*)\))", body).groups()
         struct = re.match(r"(?:const )?struct (zarosnik_\w+)", parameters).group(1)
         if callee in called or name != struct + callee.removeprefix("zarosnik"):
             fail(f"{name} of a {struct} calls {callee}")
+        if body.replace(call, "{call}").split() != more.get(callee, ["return", "{call};"]):
+            fail(f"{name} does more than it should:{body}")
         called[callee] = [argument_name(argument) for argument in given.split(",")]
     wanted = {name: [p[1] for p in given] for name, given in functions.items()}
     del wanted["zarosnik_hash"]

@@ -21,7 +21,10 @@ edition, and sheets with the other edition's frame 01 and with others; and, by
 tests/written_sheets.py, in both editions sheets written for texts of every length, and refused for
 those just outside the limits, with the sheet's slice a byte too short, just long enough and a byte
 longer and the signature a byte too short and too long, sheets read back for every length, and
-leaves that a tree has not.
+leaves that a tree has not; and, by tests/stored_keys.py, in both editions keys with next leaves at
+both ends of a tree and past it and with each kind of mark, that reserve, sign, are written and are
+read, each of them read back, slices for a stored key just too short, just long enough and longer,
+and stored keys that are wrong at each place, cut at each length, or wrong in another way.
 """
 
 import itertools
@@ -35,15 +38,17 @@ import comparisons
 import editions
 import shapes
 import signatures
+import stored_keys
 import windows
 import written_sheets
 from archived import archive_of, archive_parser, shared_object
-from interface_calls import EDITED, LENT, STATES, load
+from interface_calls import EDITED, LENT, ORDERS, STATES, load
 from interface_cases import case, subsets, wide_numbers
 from interface_inputs import CAUSES
 from interface_memory import unguarded
+from keys import frame_length
 
-COUNT = 16000
+COUNT = 19000
 PROGRESS_SECONDS = 5
 # The implementation keeps what it has hashed. After so many cases it is let go.
 CASES_KEPT = 500
@@ -58,10 +63,12 @@ class Met:
     numbers of the profile, slices longer than they must be and states other than 0 with each
     answer, the kinds of numbers compared, the editions with the answers there, what stood behind s
     in frame 01 with the wrong line, of sheets the kinds written, with the answers, the leaves
-    written, and the texts of those read back, and, of orders, the heights of trees under which they
-    were signed and taken, the shapes with the answers there, the answers to earlier ones, the
-    editions that refused one of the other, and how the leaf stood to the verifier's where it was
-    taken or passed."""
+    written, and the texts of those read back, of keys the next leaves and marks with the answers,
+    those of written ones that were read back, the slices for stored ones and the kinds of stored
+    ones read, with the answers, and, of orders, the heights of trees under which leaves were
+    reserved and orders signed and taken, the shapes with the answers there, the answers to earlier
+    ones, the editions that refused one of the other, and how the leaf stood to the verifier's where
+    it was taken or passed."""
 
     def __init__(self):
         self.outcomes = Counter()
@@ -70,7 +77,7 @@ class Met:
         self.kept = set()
         self.compared = set()
         self.heights = set()
-        self.shapes = {operation: set() for operation in STATES}
+        self.shapes = {operation: set() for operation in ORDERS}
         self.earlier = set()
         self.windows = set()
         self.editions = {operation: set() for operation in EDITED}
@@ -79,6 +86,10 @@ class Met:
         self.leaves_written = set()
         self.read_back = set()
         self.crossed = set()
+        self.counters = set()
+        self.stored_back = set()
+        self.slices = set()
+        self.stored = set()
 
     def add(self, call):
         operation, outcome, arguments = call.operation, call.outcome, call.arguments
@@ -92,17 +103,19 @@ class Met:
         if operation == "compare":
             numbers = (arguments[name].before for name in ("first", "second"))
             self.compared.add(comparisons.kind(*(int.from_bytes(n, "little") for n in numbers)))
-        if operation in STATES:
+        if operation in ORDERS:
             shape = arguments["l"], arguments["w"], arguments["s"]
             self.shapes[operation].add((shape, outcome))
-            if outcome == 0:
-                self.heights.add((operation, arguments["h"]))
+        if operation in STATES and outcome == 0:
+            self.heights.add((operation, arguments["h"]))
         if call.earlier:
             self.earlier.add(outcome)
         if operation in EDITED:
             self.editions[operation].add((arguments["edition"], outcome))
         if operation in ("read_sheet", "write_sheet"):
             self.add_sheet(call)
+        if operation in stored_keys.COUNTING:
+            self.add_key(call)
         if call.crossed:
             self.crossed.add((arguments["edition"], outcome))
         if operation == "verify" and outcome in (0, 14):
@@ -124,6 +137,40 @@ class Met:
         if operation == "write_sheet" and outcome == 0:
             leaf = int.from_bytes(arguments["signature"].before[:4], "big")
             self.leaves_written |= written_sheets.leaf_kinds(p, leaf)
+
+    def add_key(self, call):
+        operation, outcome, given = call.operation, call.outcome, call.arguments
+        if operation == "read_key":
+            return self.add_stored(call)
+        p = signatures.Profile(*(given[name] for name in signatures.Profile._fields))
+        if operation == "write_key":
+            counter, frame = (given["next_leaf"], given["mark"]), given["frame"]
+            if outcome in (0, 6):
+                self.slices.add((p.edition, frame.length - frame_length(p), outcome))
+            answer = int(frame.after[84:86]) if outcome == 0 else None
+        else:
+            next_leaf, mark = given["next_leaf"], given["mark"].words()[0]
+            counter = next_leaf if operation == "sign" else next_leaf.words()[0], mark
+            answer = outcome if outcome in (0, 20, 21, 12) else None
+        if answer is not None:
+            kinds = stored_keys.counter_kinds(p, *counter)
+            self.counters |= {(operation, kind, answer) for kind in kinds}
+
+    def add_stored(self, call):
+        """Of a frame that is right, the next leaf and the mark that stand in it, and the mark that
+        is read. The next leaf and the mark are those of the call's answer but for the mark."""
+        if call.stored:
+            self.stored.add((call.stored, call.outcome))
+        if call.outcome:
+            return
+        given, frame = call.arguments, call.arguments["frame"].before
+        l, w, s, h, edition = given["profile"].after_words()
+        p, next_leaf = signatures.Profile(l, w, s, h, edition), given["next_leaf"].after_words()[0]
+        kinds = stored_keys.counter_kinds(p, next_leaf, int(frame[84:86]))
+        mark = given["mark"].after_words()[0]
+        self.counters |= {(call.operation, kind, mark) for kind in kinds}
+        if call.written:
+            self.stored_back |= kinds
 
     def calls(self):
         return self.outcomes.total()
@@ -163,16 +210,24 @@ class Met:
         for number, size in itertools.product(signatures.EDITIONS, written_sheets.RIGHT_TEXTS):
             if (number, size) not in self.read_back:
                 yield f"no written sheet has been read with text length {size} in edition {number}"
+        yield from (f"has not come up: {line}" for line in self.missing_keys())
         for number in signatures.EDITIONS:
             if (number, 15) not in self.crossed:
                 yield f"verify has never answered 15 in edition {number} to the other's order"
+
+    def missing_keys(self):
+        yield from stored_keys.missing_counters(self.counters)
+        yield from stored_keys.missing_back(self.stored_back)
+        yield from stored_keys.missing_slices(self.slices)
+        yield from stored_keys.missing_read(self.stored)
 
     def missing_kept(self, operation, causes):
         """What must not change is seen only where there is some: past the named length of a slice,
         and in a state that is not 0."""
         names = [*LENT.get(operation, ()), *STATES.get(operation, ())]
         for outcome, name in itertools.product(dict.fromkeys([0, *map(abs, causes)]), names):
-            if outcome == LENT[operation].get(name) or (operation, outcome, name) in self.kept:
+            short = LENT.get(operation, {}).get(name)
+            if outcome == short or (operation, outcome, name) in self.kept:
                 continue
             yield f"{operation} has never answered {outcome} with something left in {name}"
 

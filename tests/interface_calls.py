@@ -4,37 +4,51 @@ what every pointer points to at exit, as the independent implementation gives th
 
 import ctypes
 import hashlib
+from collections import namedtuple
 
+import keys
 import sheets
 import signatures
 import zarosnik
 from interface_memory import Memory, Placed, region, words_memory
-from signatures import Profile
 from zarosnik import number_words
 
-# The parameters in order; `name[]` is a pointer and, behind it, a length. What `&name` points to is
-# only read.
+# The parameters in order. `*name` is a pointer, and what `&name` points to is only read; behind
+# `*name[]` stands a length. Every other is a number, passed by value.
 PROTOTYPES = {
-    "hash": "&data[] digest",
-    "count": "l w s table[] number",
-    "unrank": "l w s &number table[] row[]",
-    "rank": "l w s &row[] table[] number",
-    "compare": "&first &second order looked",
-    "leaf_key": "l w s h edition &public_seed &secret_seed leaf key",
-    "root": "l w s h edition &public_seed &secret_seed root",
-    "one_time_sign": "l w s h edition &public_seed &secret_seed leaf &number table[] values[]",
-    "one_time_recover": "l w s h edition &public_seed leaf &number &values[] table[] key steps",
-    "sign": "l w s h edition &public_seed &secret_seed next_leaf &r"
-    " &message[] table[] signature[]",
-    "verify": "l w s h edition &public_seed &root highest_leaf marks"
-    " &message[] &signature[] table[] steps",
-    "read_sheet": "l w s h edition &sheet[] signature[] message[] message_written line",
-    "write_sheet": "l w s h edition &signature[] &message[] sheet[] sheet_written",
+    "hash": "&data[] *digest",
+    "count": "l w s *table[] *number",
+    "unrank": "l w s &number *table[] *row[]",
+    "rank": "l w s &row[] *table[] *number",
+    "compare": "&first &second *order *looked",
+    "leaf_key": "l w s h edition &public_seed &secret_seed leaf *key",
+    "root": "l w s h edition &public_seed &secret_seed *root",
+    "one_time_sign": "l w s h edition &public_seed &secret_seed leaf &number *table[] *values[]",
+    "one_time_recover": "l w s h edition &public_seed leaf &number &values[] *table[] *key *steps",
+    "reserve": "l w s h edition *next_leaf *mark",
+    "sign": "l w s h edition &public_seed &secret_seed next_leaf *mark &r"
+    " &message[] *table[] *signature[]",
+    "verify": "l w s h edition &public_seed &root *highest_leaf *marks"
+    " &message[] &signature[] *table[] *steps",
+    "read_sheet": "l w s h edition &sheet[] *signature[] *message[] *message_written *line",
+    "write_sheet": "l w s h edition &signature[] &message[] *sheet[] *sheet_written",
+    "read_key": "&frame[] *profile *public_seed *secret_seed *next_leaf *mark *line",
+    "write_key": "l w s h edition &public_seed &secret_seed next_leaf mark *frame[] *frame_written",
 }
+Parameter = namedtuple("Parameter", "name by_value read_only has_length")
+
+
+def parameters(operation):
+    """In order, as `Parameter`."""
+    for told in PROTOTYPES[operation].split():
+        name = told.strip("*&[]")
+        yield Parameter(name, told[0] not in "*&", told[0] == "&", told.endswith("[]"))
+
+
 # The operations that a profile's edition is for.
-EDITED = [name for name, parameters in PROTOTYPES.items() if "edition" in parameters.split()]
-# Every other parameter is a pointer.
-BY_VALUE = dict.fromkeys([*Profile._fields, "leaf"], ctypes.c_uint32)
+EDITED = [name for name in PROTOTYPES if "edition" in PROTOTYPES[name].split()]
+# Those on orders: 19 is theirs.
+ORDERS = ["sign", "verify"]
 # The slices that a call may write, and the cause of refusal where one is too short; Read sheet
 # refuses by 6 for two, and the text's is told apart here.
 TEXT_SLICE = -6
@@ -48,9 +62,14 @@ LENT = {
     "verify": {"table": 5},
     "read_sheet": {"signature": 6, "message": TEXT_SLICE},
     "write_sheet": {"sheet": 6},
+    "write_key": {"frame": 6},
 }
 # What a call is given and hands back by pointer.
-STATES = {"sign": ["next_leaf"], "verify": ["highest_leaf", "marks"]}
+STATES = {
+    "reserve": ["next_leaf", "mark"],
+    "sign": ["mark"],
+    "verify": ["highest_leaf", "marks"],
+}
 
 MOST_HASHED = 65535
 # No call has more.
@@ -59,11 +78,11 @@ POINTERS = 8
 
 def load(shared_object):
     library = ctypes.CDLL(shared_object)
-    for operation, parameters in PROTOTYPES.items():
+    for operation in PROTOTYPES:
         types = []
-        for name in parameters.split():
-            types.append(BY_VALUE.get(name, ctypes.c_void_p))
-            if name.endswith("[]"):
+        for parameter in parameters(operation):
+            types.append(ctypes.c_uint32 if parameter.by_value else ctypes.c_void_p)
+            if parameter.has_length:
                 types.append(ctypes.c_size_t)
         function = getattr(library, f"zarosnik_{operation}")
         function.argtypes = types
@@ -75,7 +94,8 @@ class Call:
     """An operation, its arguments by name, and the number that it must answer with. The causes are
     those that were laid on purpose, in the document's order; for wide numbers of the profile, which
     they are and in what way; whether an order is one of earlier days, or was signed in the other
-    edition; and whether a sheet is one that a call has written."""
+    edition; whether a sheet or a stored key is one that a call has written; and what a stored key
+    is, or what is wrong with it, by tests/stored_keys.py."""
 
     def __init__(self, operation, outcome, shift, arguments):
         self.operation = operation
@@ -87,6 +107,7 @@ class Call:
         self.earlier = False
         self.crossed = False
         self.written = False
+        self.stored = None
 
     def __str__(self):
         lines = [f"zarosnik_{self.operation} must answer {self.outcome}"]
@@ -96,16 +117,15 @@ class Call:
     def place(self, shifts):
         """The arguments as the function takes them, and the memory laid out for them by name."""
         values, placed = [], {}
-        for parameter in PROTOTYPES[self.operation].split():
-            name = parameter.removeprefix("&").removesuffix("[]")
+        for name, by_value, read_only, has_length in parameters(self.operation):
             argument = self.arguments[name]
-            if not isinstance(argument, Memory):
+            if by_value:
                 values.append(argument)
                 continue
-            within = region(len(placed), parameter.startswith("&"))
+            within = region(len(placed), read_only)
             placed[name] = Placed(argument, within, shifts[len(placed)])
             values.append(placed[name].address)
-            if parameter.endswith("[]"):
+            if has_length:
                 values.append(argument.length)
         return values, placed
 
@@ -251,9 +271,25 @@ class Calls:
             steps=self.answer([steps]),
         )
 
+    def state(self, before, after):
+        """A number that the call is given and hands back."""
+        return words_memory([before]).leave([after])
+
+    def reserve(self, key):
+        """The call, and the key that it hands back."""
+        outcome, after = signatures.reserve(key)
+        call = self.call(
+            "reserve",
+            outcome,
+            **key.profile._asdict(),
+            next_leaf=self.state(key.next, after.next),
+            mark=self.state(key.mark, after.mark),
+        )
+        return call, after
+
     def sign(self, key, r, message, table, signature):
         """The call, and the key that it hands back."""
-        outcome, after, written, filled = signatures.issue(
+        outcome, after, written, filled = signatures.sign(
             key, r, message.before, table.words(), signature.before
         )
         call = self.call(
@@ -262,7 +298,8 @@ class Calls:
             **key.profile._asdict(),
             public_seed=Memory(key.seed),
             secret_seed=Memory(key.secret),
-            next_leaf=words_memory([key.next]).leave([after.next]),
+            next_leaf=key.next,
+            mark=self.state(key.mark, after.mark),
             r=Memory(r),
             message=message,
             table=table.leave(filled),
@@ -281,8 +318,8 @@ class Calls:
             **verifier.profile._asdict(),
             public_seed=Memory(verifier.seed),
             root=Memory(verifier.root),
-            highest_leaf=words_memory([verifier.highest]).leave([after.highest]),
-            marks=words_memory([verifier.marks]).leave([after.marks]),
+            highest_leaf=self.state(verifier.highest, after.highest),
+            marks=self.state(verifier.marks, after.marks),
             message=message,
             signature=signature,
             table=table.leave(filled),
@@ -317,4 +354,34 @@ class Calls:
             message=message,
             sheet=sheet.leave(written),
             sheet_written=self.size_answer(size),
+        )
+
+    def read_key(self, frame):
+        """The call, and the key that was read."""
+        outcome, line, key = keys.read_key(frame.before)
+        call = self.call(
+            "read_key",
+            outcome,
+            frame=frame,
+            profile=self.answer(list(key.profile)),
+            public_seed=self.answer(key.seed),
+            secret_seed=self.answer(key.secret),
+            next_leaf=self.answer([key.next]),
+            mark=self.answer([key.mark]),
+            line=self.answer([line]),
+        )
+        return call, key
+
+    def write_key(self, key, frame):
+        outcome, size, written = keys.write_key(key, frame.before)
+        return self.call(
+            "write_key",
+            outcome,
+            **key.profile._asdict(),
+            public_seed=Memory(key.seed),
+            secret_seed=Memory(key.secret),
+            next_leaf=key.next,
+            mark=key.mark,
+            frame=frame.leave(written),
+            frame_written=self.size_answer(size),
         )

@@ -2,14 +2,16 @@
 number give it, so that it can be made again alone.
 
 A run begins with the tallest trees, once for each height, with an order signed and one checked at
-each of the counts on both sides of the powers of two, and with sheets written for texts of every
-length, read, and written again. Every round of cases has, for each operation, granted calls, each
-cause of refusal alone, each two together, and several; numbers to compare of many kinds; numbers of
-the profile that narrower parameters would cut to right ones, or that are the ends of what wide ones
-hold; both editions and numbers that are none; slices whose length passes 32 bits; orders of earlier
-days, and orders and sheets of the other edition; each way in which a leaf can stand to a verifier's
-highest leaf and marks; and sequences in which a fresh key signs and a fresh verifier checks, in the
-order signed and in any other.
+each of the counts on both sides of the powers of two, with sheets written for texts of every
+length, read, and written again, and with keys of every kind, which reserve, sign, are written, read
+and written again, and stored ones that are wrong in every way. Every round of cases has, for each
+operation, granted calls, each cause of refusal alone, each two together, and several; numbers to
+compare of many kinds; numbers of the profile that narrower parameters would cut to right ones, or
+that are the ends of what wide ones hold; both editions and numbers that are none; slices whose
+length passes 32 bits; orders of earlier days, and orders and sheets of the other edition; each way
+in which a leaf can stand to a verifier's highest leaf and marks; and sequences in which a fresh key
+reserves and signs, with cuts and restarts between, and a fresh verifier checks, in the order signed
+and in any other.
 """
 
 import itertools
@@ -18,21 +20,33 @@ from functools import cache, lru_cache, partial
 
 import editions
 import shapes
+import stored_keys
 import windows
 import written_sheets
-from interface_calls import EDITED, STATES, Calls
+from interface_calls import EDITED, ORDERS, Calls
 from interface_damage import Order, flipped, swapped
-from interface_inputs import CAUSES, CUTS, FAR, WIDE, Inputs, cheap_height, signable_shape
+from interface_inputs import (
+    CAUSES,
+    CUTS,
+    FAR,
+    WIDE,
+    Inputs,
+    any_shape,
+    cheap_height,
+    signable_shape,
+)
 from interface_memory import Memory
+from keys import frame_length
 from sheets import sheet_length
 from signatures import (
     EDITIONS,
     GATE,
     Profile,
-    SigningKey,
     Verifier,
+    fresh_key,
     message_number,
     pieces,
+    restarted,
     root_of,
     signature_length,
     signature_of,
@@ -41,7 +55,8 @@ from zarosnik import MOST_BITS
 
 SEQUENCES = 8
 # Causes that come in many ways, and numbers that are compared in more.
-MANIFOLD = [("rank", [10]), ("verify", [15]), ("read_sheet", [17]), *[("compare", [])] * 3]
+MANIFOLD = [("rank", [10]), ("verify", [15]), ("read_sheet", [17]), ("read_key", [17])]
+MANIFOLD += [("read_key", []), *[("compare", [])] * 3]
 # Orders of earlier days have numbers of 128 bits. Where numbers have so many today, an R that gave
 # one below the count is soon found.
 EARLIER_BITS = range(120, MOST_BITS + 1)
@@ -124,8 +139,8 @@ def high_leaf(operation, number, pick):
     """Signs, in this edition, with a leaf that one byte does not hold, under a tree of short
     chains; numbers have 16 bits."""
     p = Profile(10, 4, 15, pick.choice([9, 10]), number)
-    leaf = pick.randrange(1 << 8, 1 << p.h)
-    yield caused(operation, [], Inputs(pick, operation, profile=p).sign(leaf))
+    next_leaf = pick.randrange((1 << 8) + 1, (1 << p.h) + 1)
+    yield caused(operation, [], Inputs(pick, operation, profile=p).sign((next_leaf, 1)))
 
 
 def last(operation, number, digits, pick):
@@ -164,6 +179,71 @@ def read_back(call, pick):
     yield call
 
 
+def counter(operation, kind, pick):
+    """A key whose next leaf and mark are of this kind. Nothing but these may refuse the call."""
+    number, tree, name, mark = kind
+    answer = stored_keys.answer_to(operation, kind)
+    causes = [answer] if answer in (20, 21, 12) else []
+    l, w, s = signable_shape(pick) if operation in ORDERS else any_shape(pick)
+    # a key that signs hashes its tree
+    most = cheap_height(pick, l, w) or 1 if operation in ORDERS else 10
+    p = Profile(l, w, s, stored_keys.drawn_height(pick, tree, most), number)
+    key = stored_keys.any_key(pick, p, stored_keys.NEXT_LEAVES[name][0](p.h), mark)
+    inputs = Inputs(pick, operation, profile=p)
+    if operation == "reserve":
+        # the last leaf was reserved, and a mark goes first
+        causes += [12] if answer == 21 and stored_keys.NEXT_LEAVES[name][2] else []
+        yield caused(operation, causes, inputs.calls.reserve(key)[0])
+    elif operation == "sign":
+        yield caused(operation, causes, inputs.sign(key[3:]))
+    elif operation == "write_key":
+        call = inputs.calls.write_key(key, inputs.lent("frame", frame_length(p)))
+        yield caused(operation, [], call)
+        yield from stored_back(call, key, answer, pick)
+    else:
+        frame = stored_keys.marked_frame(key)
+        call, found = inputs.calls.read_key(Memory(frame))
+        demand(found == key._replace(mark=answer), call)
+        yield caused(operation, [], call)
+        again = inputs.calls.write_key(found, Memory(pick.randbytes(len(frame))))
+        # the same bytes unless the mark does not count
+        demand((again.arguments["frame"].after == frame) == (mark == answer), again)
+        yield again
+
+
+def stored_back(call, key, mark, pick):
+    """Reads the stored key that a call has written, and writes what was read: this is the key, with
+    a mark that does not count as none, and these are the same bytes again."""
+    calls, frame = Calls(pick), call.arguments["frame"].after[: frame_length(key.profile)]
+    read, found = calls.read_key(Memory(frame))
+    demand(read.outcome == 0 and found == key._replace(mark=mark), read)
+    read.written = True
+    yield read
+    call = calls.write_key(found, Memory(pick.randbytes(len(frame))))
+    demand(call.arguments["frame"].after == frame, call)
+    yield call
+
+
+def key_slice(operation, number, longer, pick):
+    """Writes a key, in this edition, into a slice that is so much longer than it must be."""
+    inputs = Inputs(pick, operation, edition=number)
+    key = stored_keys.any_key(pick, inputs.good)
+    size = frame_length(inputs.good) + longer
+    frame = Memory(pick.randbytes(size), spare=max(0, longer))
+    causes = [6] if stored_keys.SLICES[longer] else []
+    yield caused(operation, causes, inputs.calls.write_key(key, frame))
+
+
+def stored(operation, kind, pick):
+    """Reads a frame of this kind."""
+    inputs, answer = Inputs(pick, operation), stored_keys.READ_KINDS[kind]
+    key = stored_keys.any_key(pick, inputs.good)
+    call = inputs.calls.read_key(stored_keys.drawn_frame(pick, key, kind))[0]
+    told = call.outcome if answer is None else answer
+    call.stored = kind
+    yield caused(operation, [told] if told else [], call)
+
+
 def earlier(operation, bits, pick):
     """Checks an order of earlier days, when there was one edition. Where its number has fewer bits
     today it is refused, though it was taken then; with 128 bits it is the same order."""
@@ -194,20 +274,27 @@ def several(operation, pick):
 
 
 class Sequence:
-    """A fresh key signs, a fresh verifier checks. What a call hands back is given to the next. That
-    is the implementation's state, and the library's too: each call is compared before the next."""
+    """A fresh key reserves and signs, a fresh verifier checks. What a call hands back is given to
+    the next. That is the implementation's state, and the library's too: each call is compared
+    before the next."""
 
     def __init__(self, pick, p):
         self.pick = pick
         self.p = p
         self.calls = Calls(pick)
-        self.key = SigningKey(p, pick.randbytes(16), pick.randbytes(16), 0)
+        self.key = fresh_key(p, pick.randbytes(16), pick.randbytes(16))
         self.root = root_of(p, self.key.seed, self.key.secret)
         self.renew_verifier()
         self.issued = []
+        self.lost = []
 
     def renew_verifier(self):
         self.verifier = Verifier(self.p, self.key.seed, self.root, 0, 0)
+
+    def reserve(self):
+        """Granted, or refused where a mark stands or no leaf is left."""
+        call, self.key = self.calls.reserve(self.key)
+        return call
 
     def sign(self):
         """The next order, granted or refused."""
@@ -220,6 +307,43 @@ class Sequence:
         if call.outcome == 0:
             self.issued.append((out.after[:size], message.before))
         return call
+
+    def store(self):
+        frame = Memory(self.pick.randbytes(frame_length(self.p) + self.pick.randrange(3)))
+        call = self.calls.write_key(self.key, frame)
+        self.frame = frame.after[: frame_length(self.p)]
+        return call
+
+    def restart(self):
+        """After a cut: from the stored frame, with the mark cleared."""
+        call, key = self.calls.read_key(Memory(self.frame))
+        self.key = restarted(key)
+        return call
+
+    def now_and_then(self):
+        return self.pick.random() < 0.15
+
+    def order(self):
+        """One leaf is reserved, stored and signed with, unless power fails: before the store has
+        ended, which leaves the old frame, or behind it, where the leaf is lost. Calls that are
+        refused come between."""
+        if self.now_and_then():
+            yield self.sign()
+        yield self.reserve()
+        if self.now_and_then():
+            yield self.reserve()
+        if self.now_and_then():
+            yield self.restart()
+            return
+        yield self.store()
+        while self.key.mark:
+            if self.issued and self.now_and_then():
+                self.lost.append(self.key.next - 1)
+                yield self.restart()
+            else:
+                yield self.sign()
+        if self.now_and_then():
+            yield self.restart()
 
     def check(self, signature, text, causes=()):
         table = Inputs(self.pick, "verify", causes, profile=self.p).table()
@@ -269,12 +393,14 @@ class Sequence:
 
     def run(self):
         yield self.calls.root(self.p, self.key.seed, self.key.secret)
+        yield self.store()
         while self.key.next < 1 << self.p.h:
-            yield self.sign()
-        yield from (self.sign() for _ in range(2))
+            yield from self.order()
+        for call in (self.reserve, self.sign, self.restart, self.sign, self.reserve):
+            yield call()
         leaves = [int.from_bytes(signature[:4], "big") for signature, _ in self.issued]
-        if leaves != list(range(1 << self.p.h)):
-            raise Unsound(f"the leaves signed with are {leaves}")
+        if sorted(leaves + self.lost) != list(range(1 << self.p.h)):
+            raise Unsound(f"the leaves signed with are {leaves}, those lost {self.lost}")
         yield from self.checks(self.issued)
         self.renew_verifier()
         yield from self.checks(self.pick.sample(self.issued, len(self.issued)))
@@ -314,9 +440,11 @@ def tall(p, pick):
     last = (1 << p.h) - 1
     for leaf in (0, pick.randrange(1, last), last):
         orders.key = orders.key._replace(next=leaf)
-        while orders.key.next == leaf:
+        yield orders.reserve()
+        while orders.key.mark:
             yield orders.sign()
-    yield orders.sign()
+    for call in (orders.sign, orders.reserve):
+        yield call()
     for signature, text in orders.issued:
         yield orders.check(signature, flipped(pick, text))
         yield orders.check(signature, text)
@@ -336,9 +464,12 @@ TALL += [Profile(10, 4, 15, GATE.h, 2)]
 def beginning():
     """Once in a run."""
     cases = [partial(tall, p) for p in TALL]
-    cases += [partial(edge, name, shape) for shape in shapes.edges() for name in STATES]
+    cases += [partial(edge, name, shape) for shape in shapes.edges() for name in ORDERS]
     texts = itertools.product(EDITIONS, written_sheets.TEXTS)
-    return cases + [partial(written, "write_sheet", *text) for text in texts]
+    cases += [partial(written, "write_sheet", *text) for text in texts]
+    cases += [partial(counter, *wanted) for wanted in stored_keys.WANTED]
+    cases += [partial(key_slice, "write_key", *sliced) for sliced in stored_keys.SLICED]
+    return cases + [partial(stored, "read_key", kind) for kind in stored_keys.READ_KINDS]
 
 
 @cache

@@ -5,11 +5,13 @@ for: none, one, or several at once, of which the first in the document's order m
 import comparisons
 import editions
 import shapes
+import stored_keys
 import windows
 import written_sheets
-from interface_calls import LENT, MOST_HASHED, TEXT_SLICE, Calls
+from interface_calls import LENT, MOST_HASHED, ORDERS, TEXT_SLICE, Calls
 from interface_damage import Order, flipped, wrong_sheet
 from interface_memory import Filling, Memory
+from keys import frame_length
 from sheets import right_sheet, sheet_length
 from signatures import EDITIONS, Profile, SigningKey, Verifier, revealed, signature_length
 from zarosnik import MOST_BITS, row_of, table_length, ways
@@ -25,10 +27,13 @@ CAUSES = {
     "root": [1, 2, 3, 4, 22],
     "one_time_sign": [1, 2, 3, 4, 22, 5, 6, 11, 7],
     "one_time_recover": [1, 2, 3, 4, 22, 5, 13, 11, 7],
-    "sign": [1, 2, 3, 4, 22, 5, 16, 6, 12, 19],
+    "reserve": [1, 2, 3, 4, 22, 21, 12],
+    "sign": [1, 2, 3, 4, 22, 5, 16, 6, 20, 19],
     "verify": [1, 2, 3, 4, 22, 5, 16, 13, 11, 14, 19, 15],
     "read_sheet": [1, 2, 3, 4, 22, 17, 6, TEXT_SLICE],
     "write_sheet": [1, 2, 3, 4, 22, 16, 13, 6],
+    "read_key": [17],
+    "write_key": [1, 2, 3, 4, 22, 6],
 }
 
 # Slices whose length may pass 32 bits, and the cause of refusal where this is too long. Cut to 32
@@ -56,6 +61,8 @@ FAR = [
     ("write_sheet", "signature", [13]),
     ("write_sheet", "message", [16]),
     ("write_sheet", "sheet", []),
+    ("read_key", "frame", [17]),
+    ("write_key", "frame", []),
 ]
 
 PAST_WORD = 1 << 32
@@ -128,13 +135,15 @@ class Inputs:
         if operation == "rank" and 10 in self.causes and pick.random() < 0.3:
             # room for a sum that is the same in its low byte
             l, w, s = pick.randrange(20, 41), 16, pick.randrange(40)
-        elif operation not in ("sign", "verify"):
+        elif operation not in ORDERS:
             l, w, s = any_shape(pick)
         else:
             l, w, s = scant_shape(pick) if 19 in self.causes else signable_shape(pick)
         # a library may hash the tree before it refuses by 19, and before no other refusal
         hashed = operation in ("root", "sign") and self.causes <= {19}
-        h = cheap_height(pick, l, w) if hashed else pick.randrange(11)
+        # under one leaf no mark stands before the last leaf is reserved
+        least = 1 if 21 in self.causes and 12 not in self.causes else 0
+        h = cheap_height(pick, l, w) if hashed else pick.randrange(least, 11)
         right = self.edition in EDITIONS
         return Profile(l, w, s, h, self.edition if right else pick.choice(EDITIONS))
 
@@ -212,9 +221,9 @@ class Inputs:
         numbers += [count, count, count + 1, PAST_NUMBER - 1, pick.randrange(count, PAST_NUMBER)]
         return pick.choice([n for n in numbers if n >= count])
 
-    def leaf(self, cause):
+    def leaf(self):
         pick, end = self.pick, 1 << self.good.h
-        if cause not in self.causes:
+        if 11 not in self.causes:
             return pick.choice([0, end - 1, pick.randrange(end)])
         leaves = [end, end, end + 1, PAST_WORD - 1, pick.randrange(end, PAST_WORD)]
         # good but for one bit, which a cut may drop
@@ -273,7 +282,7 @@ class Inputs:
         return self.calls.compare(*comparisons.drawn(self.pick))
 
     def leaf_key(self):
-        return self.calls.leaf_key(self.p, self.seed(), self.seed(), self.leaf(11))
+        return self.calls.leaf_key(self.p, self.seed(), self.seed(), self.leaf())
 
     def root(self):
         return self.calls.root(self.p, self.seed(), self.seed())
@@ -282,12 +291,12 @@ class Inputs:
         values = self.lent("values", 16 * self.sized.l)
         seeds = self.seed(), self.seed()
         return self.calls.one_time_sign(
-            self.p, *seeds, self.leaf(11), self.number(), self.table(), values
+            self.p, *seeds, self.leaf(), self.number(), self.table(), values
         )
 
     def one_time_recover(self):
         """Values as signed, with a bit flipped, or any."""
-        p, seed, leaf, number = self.good, self.seed(), self.leaf(11), self.number()
+        p, seed, leaf, number = self.good, self.seed(), self.leaf(), self.number()
         values = self.pick.randbytes(16 * p.l)
         if 7 not in self.causes and self.pick.random() < 0.7:
             values = revealed(p, seed, self.seed(), leaf, number)
@@ -296,10 +305,18 @@ class Inputs:
         values = self.exact("values", self.padded(values, 16 * self.sized.l), 13)
         return self.calls.one_time_recover(self.p, seed, leaf, number, values, self.table())
 
-    def sign(self, leaf=None):
-        """With the next leaf that is drawn, unless it is given."""
-        leaf = self.leaf(12) if leaf is None else leaf
-        key = SigningKey(self.p, self.seed(), self.seed(), leaf)
+    def key(self, counter):
+        return SigningKey(self.p, self.seed(), self.seed(), *counter)
+
+    def reserve(self):
+        counts, spent = 21 in self.causes, 12 in self.causes
+        counter = stored_keys.drawn(self.pick, self.good.h, counts, spent)
+        return self.calls.reserve(self.key(counter))[0]
+
+    def sign(self, counter=None):
+        """With the next leaf and the mark that are drawn, unless they are given."""
+        drawn = stored_keys.drawn(self.pick, self.good.h, 20 not in self.causes)
+        key = self.key(drawn if counter is None else counter)
         signature = self.lent("signature", signature_length(self.sized))
         r = self.pick.randbytes(16)
         return self.calls.sign(key, r, self.message(), self.table(), signature)[0]
@@ -312,7 +329,7 @@ class Inputs:
             if 15 in self.causes:
                 order.damage()
         if 11 in self.causes:
-            order.leaf = self.leaf(11)
+            order.leaf = self.leaf()
         if window is None:
             window = windows.drawn(self.pick, order.leaf, 14 if 14 in self.causes else 0)
         verifier = Verifier(self.p, order.seed, order.root, *window)
@@ -343,3 +360,20 @@ class Inputs:
         signature, message = self.exact("signature", signature, 13), self.message()
         sheet = self.lent("sheet", sheet_length(self.sized, len(message.before)))
         return self.calls.write_sheet(self.p, signature, message, sheet)
+
+    def read_key(self):
+        """Of a right frame, in which a mark may stand that does not count, or of a wrong one."""
+        pick, key = self.pick, stored_keys.any_key(self.pick, self.good)
+        line = stored_keys.marked_frame(key)
+        if self.far == "frame":
+            return self.calls.read_key(self.exact("frame", line, 17))[0]
+        if 17 not in self.causes:
+            return self.calls.read_key(Memory(line))[0]
+        wrong = [kind for kind, answer in stored_keys.READ_KINDS.items() if answer == 17]
+        frame = stored_keys.drawn_frame(pick, key, pick.choice(wrong))
+        return self.calls.read_key(frame)[0]
+
+    def write_key(self, counter=None):
+        drawn = stored_keys.drawn(self.pick, self.good.h)
+        key = self.key(drawn if counter is None else counter)
+        return self.calls.write_key(key, self.lent("frame", frame_length(self.sized)))

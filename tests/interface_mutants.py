@@ -11,8 +11,10 @@ numbers by another rule, or wrongly for one order and one count of pairs alone; 
 an order's number or for 19, or a wrong number at just one of the shapes that must come up; has
 another rule for 14 or for the highest leaf and the marks, or is wrong for just one of the ways in
 which a leaf can stand to them; has another digest, another rule for 22 or for the end of a sheet's
-frame 01, or is wrong for just one of the ends that must come up; or writes another sheet, another
-number of bytes or another refusal, or is wrong for just one length of a text.
+frame 01, or is wrong for just one of the ends that must come up; writes another sheet, another
+number of bytes or another refusal, or is wrong for just one length of a text; or has another rule
+for a mark that counts, for what is reserved or signed with or for a stored key, or is wrong for
+just one kind of next leaf and mark or of a stored key.
 """
 
 import ctypes
@@ -25,21 +27,23 @@ import tempfile
 import shapes
 from archived import archive_of, archive_parser, shared_object
 from comparisons import KINDS
-from interface_calls import BY_VALUE, LENT, PROTOTYPES, STATES, load
-from interface_cases import beginning, edge, plan, window, written
+from interface_calls import LENT, PROTOTYPES, STATES, load, parameters
+from interface_cases import beginning, counter, edge, key_slice, plan, stored, window, written
 from interface_inputs import CAUSES, FAR
 from wrong_editions import right_editions, wrong_editions
+from wrong_frames import right_frames, wrong_frames
+from wrong_keys import right_keys, wrong_keys
 from wrong_orders import right_orders, wrong_orders
 from wrong_sheets import right_writer, wrong_sheets
 from wrong_windows import ALL_KINDS, right_window, wrong_windows
 from zarosnik import EQUAL, GREATER, LESS, WORDS
 
 # Bytes of what has no length of its own; all else has 16.
-WRITTEN = {"message": "message_written", "sheet": "sheet_written"}
-SIZES = {"digest": 32} | dict.fromkeys(WRITTEN.values(), 8)
+WRITTEN = {name: f"{name}_written" for name in ("message", "sheet", "frame")}
+SIZES = {"digest": 32, "profile": 20} | dict.fromkeys(WRITTEN.values(), 8)
 SIZES |= dict.fromkeys(["number", "first", "second"], 20)
 SIZES |= dict.fromkeys(["order", "looked", "steps", "line", *itertools.chain(*STATES.values())], 4)
-ROUNDS = 3
+ROUNDS = 6
 SEEN, UNSEEN = 10, 11
 
 
@@ -48,9 +52,8 @@ class Given:
 
     def __init__(self, operation, values):
         names = []
-        for parameter in PROTOTYPES[operation].split():
-            name = parameter.strip("&[]")
-            names += [name, f"{name}_len"] if parameter.endswith("[]") else [name]
+        for name, _, _, has_length in parameters(operation):
+            names += [name, f"{name}_len"] if has_length else [name]
         self.values = dict(zip(names, values, strict=True))
 
     def __getitem__(self, name):
@@ -206,18 +209,17 @@ def wrong_functions():
     """What is wrong, with which operation, and the wrong function."""
     for what, wrong in wrong_comparisons():
         yield what, "compare", wrong
-    for operation, parameters in PROTOTYPES.items():
+    for operation in PROTOTYPES:
         causes = dict.fromkeys(map(abs, CAUSES[operation]))
         kept = [*LENT.get(operation, ()), *STATES.get(operation, ())]
-        for parameter in parameters.split():
-            name = parameter.strip("&[]")
-            if name in BY_VALUE:
+        for name, by_value, read_only, _ in parameters(operation):
+            if by_value:
                 for bits in (8, 16):
                     yield f"{name} cut to {bits} bits", operation, cut(name, bits)
                 continue
             yield f"{name} read before", operation, read(name, False)
             yield f"{name} read behind", operation, read(name, True)
-            if parameter.startswith("&"):
+            if read_only:
                 yield f"{name} written", operation, write_the_same(name)
             elif causes and name not in kept:
                 yield f"{name} left where refused", operation, leave_answer(name)
@@ -231,8 +233,8 @@ def wrong_functions():
 
 def mutants():
     """The same, with the cases in which it must be seen. What is wrong at one shape, for one kind
-    of window, with one edition or two causes, for one end of frame 01 or for one length of a text
-    alone is seen there."""
+    of window, with one edition or two causes, for one end of frame 01, for one length of a text or
+    for one kind of a key alone is seen there."""
     for what, operation, wrong in wrong_functions():
         yield what, operation, wrong, cases_of(operation)
     for what, operation, wrong, shape in wrong_orders():
@@ -245,6 +247,8 @@ def mutants():
     for what, wrong, text in wrong_sheets():
         cases = written_with(text)
         yield what, "write_sheet", wrong, cases if text else cases_of("write_sheet") + cases
+    for what, operation, wrong, where in [*wrong_keys(), *wrong_frames()]:
+        yield what, operation, wrong, keys_at(operation, where)
 
 
 def nothing_wrong():
@@ -256,6 +260,8 @@ def nothing_wrong():
     for operation, right, where in right_editions():
         yield operation, right, cases_at(operation, where)
     yield "write_sheet", right_writer(), cases_of("write_sheet") + written_with()
+    for operation, right in [*right_keys(), *right_frames()]:
+        yield operation, right, cases_of(operation) + keys_at(operation, "kinds")
 
 
 class Wrong:
@@ -286,6 +292,14 @@ def written_with(text=None):
     """With each edition and length of a text, or with one of them."""
     cases = [case for case in beginning() if case.func == written]
     return [case for case in cases if text in (None, case.args[1:])]
+
+
+def keys_at(operation, where):
+    """In some cases of the plan, with each kind of a key, or with one."""
+    if isinstance(where, list):
+        return cases_at(operation, where)
+    cases = [case for case in beginning() if case.func in (counter, key_slice, stored)]
+    return [case for case in cases if where in ("kinds", case.args) and case.args[0] == operation]
 
 
 def windows_of(kind):

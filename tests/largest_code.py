@@ -26,7 +26,7 @@ from operator import le, lt
 
 import shapes
 from archived import archive_of, archive_parser, shared_object
-from interface_calls import STATES, load
+from interface_calls import ORDERS, load
 from interface_cases import caused, edge, subsets
 from interface_inputs import CAUSES, CUTS, Inputs
 from signatures import EDITIONS, GATE, Profile, count_cause
@@ -243,17 +243,17 @@ def ask_counts(library, pick, found):
 def ask_orders(library, pick):
     """Signs and checks at the gate's l, w and s, in turn in either edition, with every set laid of
     the causes that can hold there: the first of them is told and never 19, and with none laid the
-    order is granted. Issue hashes its whole tree then, so but for once that is a low one: its
-    height has no part in 19. That 19 would be seen, two shapes show that have 255 rows."""
+    order is granted. Sign hashes its whole tree then, so but for once that is a low one: its height
+    has no part in 19. That 19 would be seen, two shapes show that have 255 rows."""
     calls = 0
-    for turn, operation in itertools.product(range(ROUNDS), STATES):
+    for turn, operation in itertools.product(range(ROUNDS), ORDERS):
         causes = [cause for cause in CAUSES[operation] if cause not in CUTS and cause != 19]
         for laid in [(), *subsets(causes, len(causes))]:
             low = turn > 0 and operation == "sign" and not laid
             p = GATE._replace(h=turn if low else GATE.h, edition=EDITIONS[turn % 2])
             inputs = Inputs(pick, operation, laid, profile=p)
             calls += made(library, caused(operation, laid, getattr(inputs, operation)()))
-    for operation, shape in itertools.product(STATES, shapes.nearly_signing()):
+    for operation, shape in itertools.product(ORDERS, shapes.nearly_signing()):
         for call in edge(operation, shape, pick):
             hold(call.outcome == 19, f"drawn otherwise: {call}")
             made(library, call)
@@ -264,7 +264,7 @@ def ask(archive, found):
     with tempfile.TemporaryDirectory() as folder:
         library, pick = load(shared_object(archive, folder)), random.Random("largest code")
         counts, orders = ask_counts(library, pick, found), ask_orders(library, pick)
-    asked = f"{counts} calls of Count and Spread, {orders} of Issue and Check by the gate's count"
+    asked = f"{counts} calls of Count and Spread, {orders} of Sign and Check by the gate's count"
     return f"; the library: {asked}, none answered by 19"
 
 

@@ -35,6 +35,7 @@ from vector_calls import (
     root_vector,
     unrank_vector,
 )
+from vector_keys import keys_family
 from vector_orders import orders_family
 from vector_refusals import refusals_family
 from vector_sheets import sheets_family
@@ -209,6 +210,7 @@ FAMILIES = {
     "orders": orders_family,
     "refusals": refusals_family,
     "sheets": sheets_family,
+    "keys": keys_family,
 }
 
 

@@ -1,13 +1,13 @@
 #!/usr/bin/env perl
-# Signs, verifies, reads and writes the orders in files of vectors/, and compares the numbers, by the rules of
-# docs/INTERFACE.md, with nothing of the library and of the other tests: it shows that the page is enough to build a
-# desk and a cabinet from. It needs Perl's core modules alone.
+# Reserves leaves, signs, verifies, reads and writes the orders and the keys in files of vectors/, and compares the
+# numbers, by the rules of docs/INTERFACE.md, with nothing of the library and of the other tests: it shows that the page
+# is enough to build a desk and a cabinet from. It needs Perl's core modules alone.
 #
 #     perl tests/orders.pl vectors/*.json
 #
-# Prints a line for each call of Root, Issue, Check, Read sheet, Write sheet and Compare. Fails where one answers other
-# than the file says, and where one of these has no call, in either edition but for Compare, which knows none. Vectors
-# of other operations are passed over.
+# Prints a line for each call of Root, Reserve, Sign, Check, Read sheet, Write sheet, Read key, Write key and Compare.
+# Fails where one answers other than the file says, and where one of these has no call, in either edition but for
+# Compare, which knows none, and Read key, to which the frame says it. Vectors of other operations are passed over.
 use strict;
 use warnings;
 use Digest::SHA qw(sha256);
@@ -92,19 +92,34 @@ sub row_of_order {
     return @row;
 }
 
+# The leaf that a key has reserved and not signed with, or undef: the one before its next leaf, where that is a leaf of
+# the tree and the mark says so.
+sub reserved_leaf {
+    my ($h, $next, $mark) = @_;
+    return $mark == 1 && $next > 0 && $next - 1 < 2**$h ? $next - 1 : undef;
+}
+
 # The desk. Each operation answers with what the file has in `out`.
+sub reserve {
+    my ($h, $next, $mark) = @_;
+    my $refused = sub { (outcome => $_[0], next_leaf => $next, mark => $mark) };
+    return $refused->(21) if defined reserved_leaf($h, $next, $mark);
+    return $refused->(12) if $next > 2**$h - 1;
+    return (outcome => 0, next_leaf => $next + 1, mark => 1);
+}
+
 sub sign {
-    my ($l, $w, $s, $h, $edition, $seed, $secret, $leaf, $r, $text) = @_;
-    my $refused = sub { (outcome => $_[0], next_leaf => $leaf, signature => 'untouched') };
+    my ($l, $w, $s, $h, $edition, $seed, $secret, $next, $mark, $r, $text) = @_;
+    my $refused = sub { (outcome => $_[0], mark => $mark, signature => 'untouched') };
     return $refused->(16) if length $text < 1 || length $text > 200;
-    return $refused->(12) if $leaf >= 2**$h;
+    my $leaf = reserved_leaf($h, $next, $mark) // return $refused->(20);
     return $refused->(19) if count($l, $w, $s) < 256;
     my @tree = ($l, $w, $seed, $secret);
     my @row = row_of_order($l, $w, $s, $edition, $r, $seed, node(@tree, $h, 0), $leaf, $text);
     my @values = map { chain_value($seed, $secret, $leaf, $_, $row[$_]) } 0 .. $l - 1;
     my @siblings = map { node(@tree, $_, ($leaf >> $_) ^ 1) } 0 .. $h - 1;
     my $signature = join('', pack('N', $leaf), $r, @values, @siblings);
-    return (outcome => 0, next_leaf => $leaf + 1, signature => uc unpack('H*', $signature));
+    return (outcome => 0, mark => 0, signature => uc unpack('H*', $signature));
 }
 
 # A cabinet's marks as 32 digits: digit i, from 0, is 1 where the leaf i below the highest was accepted.
@@ -201,6 +216,34 @@ sub write_sheet {
         sheet => uc unpack('H*', $sheet . "\xA5" x ($sheet_len - $written)));
 }
 
+# The frame of a key, in a slice that was filled with A5 before.
+sub write_key {
+    my ($l, $w, $s, $h, $edition, $seed, $secret, $next, $mark, $frame_len) = @_;
+    my $marked = defined reserved_leaf($h, $next, $mark) ? 1 : 0;
+    my $bytes = pack('CCCCn a16 a16 N C', 7, $l, $w, $h, $s, $seed, $secret, $next, $marked);
+    my $frame = sprintf "%s%s\n", uc unpack('H*', $bytes), $edition == 2 ? '02' : '';
+    my $written = length $frame;
+    return (outcome => 0, frame_written => $written,
+        frame => uc unpack('H*', $frame . "\xA5" x ($frame_len - $written)));
+}
+
+# The key in a frame. The line is matched as a whole, and its numbers are then held to the profile's limits.
+sub read_key {
+    my ($frame) = @_;
+    my %none = (outcome => 17, line => 1, next_leaf => 0, mark => 0, profile => '0 0 0 0 0');
+    @none{'public_seed', 'secret_seed'} = ('00' x 16) x 2;
+    my $two = '[0-9A-F]{2}';
+    my ($l, $w, $h, $s, $seed, $secret, $next, $mark, $last) =
+        $frame =~ /\A07($two)($two)($two)((?:$two){2})((?:$two){16})((?:$two){16})((?:$two){4})0([01])(02)?\n\z/
+        or return %none;
+    ($l, $w, $h, $s, $next) = map { hex } $l, $w, $h, $s, $next;
+    return %none if $l < 1 || $l > 40 || $w < 2 || $w > 16 || $s > $l * ($w - 1) || $h > 10;
+    $mark = 0 unless defined reserved_leaf($h, $next, $mark);
+    my $profile = join ' ', $l, $w, $s, $h, defined $last ? 2 : 1;
+    return (outcome => 0, line => 0, profile => $profile, public_seed => $seed, secret_seed => $secret,
+        next_leaf => $next, mark => $mark);
+}
+
 # Numbers in hex, eight digits a word, highest word first.
 sub compare {
     my ($first, $second) = map { [unpack('(A8)5', $_)] } @_;
@@ -214,18 +257,22 @@ sub compare {
 sub answer {
     my ($operation, $in) = @_;
     return compare(@$in{'first', 'second'}) if $operation eq 'compare';
+    return read_key(pack('H*', $in->{frame})) if $operation eq 'read_key';
     my @profile = @$in{'l', 'w', 's', 'h', 'edition'};
+    my @counter = @$in{'next_leaf', 'mark'};
     my ($seed, $secret, $root, $r, $text, $signature, $sheet) =
         map { pack('H*', $in->{$_} // '') } qw(public_seed secret_seed root r message signature sheet);
-    return sign(@profile, $seed, $secret, $in->{next_leaf}, $r, $text) if $operation eq 'sign';
+    return reserve($in->{h}, @counter) if $operation eq 'reserve';
+    return sign(@profile, $seed, $secret, @counter, $r, $text) if $operation eq 'sign';
+    return write_key(@profile, $seed, $secret, @counter, $in->{frame_len}) if $operation eq 'write_key';
     return verify(@profile, $seed, $root, @$in{'highest_leaf', 'marks'}, $text, $signature) if $operation eq 'verify';
     return read_sheet(@profile, $sheet, @$in{'signature_len', 'message_len'}) if $operation eq 'read_sheet';
     return write_sheet(@profile, $signature, $text, $in->{sheet_len}) if $operation eq 'write_sheet';
     return (outcome => 0, root => uc unpack('H*', node(@profile[0, 1], $seed, $secret, $profile[3], 0)));
 }
 
-my @operations = qw(root sign verify read_sheet write_sheet);
-my %made = map { $_ => 0 } 'compare', map { ("$_ of edition 1", "$_ of edition 2") } @operations;
+my @operations = qw(root reserve sign verify read_sheet write_sheet write_key);
+my %made = map { $_ => 0 } 'compare', 'read_key', map { ("$_ of edition 1", "$_ of edition 2") } @operations;
 my $differing = 0;
 for my $file (@ARGV) {
     open my $handle, '<', $file or die "$file: $!\n";
@@ -235,9 +282,10 @@ for my $file (@ARGV) {
         my $kind = $operation . (exists $in->{edition} ? " of edition $in->{edition}" : '');
         # profiles out of their limits, editions that are none and slices too short are the library's to refuse
         next if $out->{outcome} >= 1 && $out->{outcome} <= 6 || $out->{outcome} == 22 || !exists $made{$kind};
+        $out->{profile} = "@{$out->{profile}}" if exists $out->{profile};
         my %found = answer($operation, $in);
         my @wrong = grep { $found{$_} ne $out->{$_} } sort keys %found;
-        my $told = join ', ', map { "$_ $found{$_}" } grep { !/^(signature|message|sheet)$/ } sort keys %found;
+        my $told = join ', ', map { "$_ $found{$_}" } grep { !/^(signature|message|sheet|frame)$/ } sort keys %found;
         my $profile = exists $in->{l} ? " at @$in{'l', 'w', 's', 'h', 'edition'}" : '';
         print "$operation$profile, $vector->{note}: $told\n";
         print "  DIFFERS: $_ $found{$_}, expected $out->{$_}\n" for @wrong;

@@ -30,6 +30,7 @@ INSTALLED = [
     "share/doc/zarosnik/examples/order.c",
     "share/doc/zarosnik/examples/order.sheet",
     "share/doc/zarosnik/examples/sheet.c",
+    "share/doc/zarosnik/examples/store.c",
 ]
 # Each is installed where the repository has it.
 OPTIONAL = [("docs/SECURITY.md", "SECURITY.md"), ("vectors", "vectors")]
@@ -92,14 +93,18 @@ def check_version(prefix, folder, search):
 def build_and_run(prefix, folder, search):
     flags = output("pkg-config", "--cflags", "--libs", "zarosnik", folder=folder, **search)
     examples = prefix / "share" / "doc" / "zarosnik" / "examples"
-    # the sheet that is read is the one that the desk writes
-    sheet = [str(folder / "desk.sheet")]
     for compiler in COMPILERS:
-        for name, arguments in {"order": [], "desk": sheet, "sheet": sheet}.items():
+        keys = folder / f"{compiler[0]}.keys"
+        keys.mkdir()
+        # the sheet that is read is the one that the desk writes
+        sheet = [str(folder / "desk.sheet")]
+        runs = {"order": [], "desk": sheet, "sheet": sheet, "store": ["make", str(keys)]}
+        for name, arguments in runs.items():
             source, program = str(examples / f"{name}.c"), str(folder / name)
             built = [*compiler, *WARNINGS, source, *shlex.split(flags), "-o", program]
             output(*built, folder=folder)
-            if "granted" not in output(program, *arguments, folder=folder):
+            said = output(program, *arguments, folder=folder)
+            if ("root: " if name == "store" else "granted") not in said:
                 fail(f"{name} grants nothing")
 
 

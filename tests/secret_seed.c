@@ -1,7 +1,7 @@
 /*
- * Runs each operation that is lent the secret seed, with the seed marked as undefined, for valgrind's memcheck, which
- * reports each branch, each address and each system call that depends on undefined bytes. tests/secret_seed.py builds
- * this program over the archive, runs one case after another and judges the reports.
+ * Runs each operation that is lent the secret seed, as it is or in a stored key, with the seed marked as undefined, for
+ * valgrind's memcheck, which reports each branch, each address and each system call that depends on undefined bytes.
+ * tests/secret_seed.py builds this program over the archive, runs one case after another and judges the reports.
  *
  * What a call answers and leaves must be defined, except the bytes that are computed from the secret: these must all
  * be undefined, so that the marks have passed through the hashing. They are then marked as defined and printed.
@@ -49,10 +49,15 @@ static void granted(uint32_t outcome)
     }
 }
 
-/* Memcheck reports a word of the table that depends on the secret. */
+/* Memcheck reports a byte that depends on the secret. */
+static void expect_public(const void *bytes, size_t size)
+{
+    (void)VALGRIND_CHECK_MEM_IS_DEFINED(bytes, size);
+}
+
 static void public_table(void)
 {
-    (void)VALGRIND_CHECK_MEM_IS_DEFINED(table, sizeof table);
+    expect_public(table, sizeof table);
 }
 
 /* Marks as defined what a call has computed from the secret. Each of its bytes must be undefined until then. */
@@ -102,10 +107,10 @@ static void one_time_sign(void)
 }
 
 /*
- * Issue takes the digest over the root, which is computed from the secret but published, and the number in the digest
+ * Sign takes the digest over the root, which is computed from the secret but published, and the number in the digest
  * decides how far each chain is walked. So the digest is marked as defined as soon as it is made, and nothing else.
  * This is done where the archive's function sha256::running::Hash::finish returns: valgrind calls the wrapper in its
- * place (in the wrapper's name, Zc is a colon). Issue ends by this function the hash of each leaf key and of each node,
+ * place (in the wrapper's name, Zc is a colon). Sign ends by this function the hash of each leaf key and of each node,
  * and then the digest, in call number 2^(h + 1).
  */
 #define DIGEST_CALL (1u << (HEIGHT + 1u))
@@ -130,9 +135,9 @@ void *I_WRAP_SONAME_FNNAME_ZZ(NONE, sha256ZcZcrunningZcZcHashZcZcfinish)(void *f
 static void sign_at(uint32_t sum, uint32_t edition)
 {
     uint8_t signature[SIGNATURE_BYTES];
-    uint32_t next_leaf = LEAF;
-    granted(zarosnik_sign(ZAROSNIK_GATE_L, ZAROSNIK_GATE_W, sum, HEIGHT, edition, public_seed, secret_seed, &next_leaf,
-                          r, (const uint8_t *)order, strlen(order), table, ZAROSNIK_GATE_TABLE_WORDS, signature,
+    uint32_t mark = 1;
+    granted(zarosnik_sign(ZAROSNIK_GATE_L, ZAROSNIK_GATE_W, sum, HEIGHT, edition, public_seed, secret_seed, LEAF + 1,
+                          &mark, r, (const uint8_t *)order, strlen(order), table, ZAROSNIK_GATE_TABLE_WORDS, signature,
                           sizeof signature));
     if (finish_calls != DIGEST_CALL) {
         fail("the digest was not met: Hash::finish is no function of its own in this archive, or called otherwise");
@@ -140,7 +145,7 @@ static void sign_at(uint32_t sum, uint32_t edition)
     public_table();
     disclose(signature + 20, sizeof signature - 20);
     print(signature, sizeof signature);
-    printf("%" PRIu32 "\n", next_leaf);
+    printf("%" PRIu32 "\n", mark);
 }
 
 static void sign_undisclosed(void)
@@ -166,6 +171,52 @@ static void sign_few_bits(void)
 {
     disclosed_call = DIGEST_CALL;
     sign_at(FEW_BITS_SUM, ZAROSNIK_EDITION_1);
+}
+
+/* A stored key has the secret seed in 32 of its characters, behind the kind, the profile and the public seed. */
+#define FRAME_BYTES ZAROSNIK_KEY_BYTES(ZAROSNIK_EDITION_1)
+#define SECRET_AT (2u * (6u + ZAROSNIK_HASH_BYTES))
+#define SECRET_DIGITS (2u * ZAROSNIK_HASH_BYTES)
+
+static void frame_of(uint8_t frame[FRAME_BYTES])
+{
+    size_t frame_len;
+    granted(zarosnik_write_key(PROFILE, public_seed, secret_seed, LEAF + 1, 1, frame, FRAME_BYTES, &frame_len));
+    if (frame_len != FRAME_BYTES) {
+        fail("a stored key of another length");
+    }
+    expect_public(frame, SECRET_AT);
+    expect_public(frame + SECRET_AT + SECRET_DIGITS, FRAME_BYTES - SECRET_AT - SECRET_DIGITS);
+}
+
+static void write_key(void)
+{
+    uint8_t frame[FRAME_BYTES];
+    frame_of(frame);
+    disclose(frame + SECRET_AT, SECRET_DIGITS);
+    printf("%.*s", (int)FRAME_BYTES, (const char *)frame);
+}
+
+/* All but the secret seed must be defined. */
+static void read_key(void)
+{
+    uint8_t frame[FRAME_BYTES];
+    uint32_t profile[ZAROSNIK_PROFILE_NUMBERS];
+    uint8_t seed[ZAROSNIK_HASH_BYTES];
+    uint8_t secret[ZAROSNIK_HASH_BYTES];
+    uint32_t words[3];
+    frame_of(frame);
+    granted(zarosnik_read_key(frame, FRAME_BYTES, profile, seed, secret, &words[0], &words[1], &words[2]));
+    expect_public(profile, sizeof profile);
+    expect_public(seed, sizeof seed);
+    expect_public(words, sizeof words);
+    disclose(secret, sizeof secret);
+    for (size_t i = 0; i < ZAROSNIK_PROFILE_NUMBERS; i++) {
+        printf("%" PRIu32 "\n", profile[i]);
+    }
+    print(seed, sizeof seed);
+    print(secret, sizeof secret);
+    printf("%" PRIu32 "\n%" PRIu32 "\n%" PRIu32 "\n", words[0], words[1], words[2]);
 }
 
 /* Controls: what memcheck must report. */
@@ -206,6 +257,8 @@ static const struct {
     {"sign_edition_2", sign_edition_2},
     {"sign_few_bits", sign_few_bits},
     {"sign_undisclosed", sign_undisclosed},
+    {"write_key", write_key},
+    {"read_key", read_key},
     {"branch", branch},
     {"address", address},
     {"system_call", system_call},

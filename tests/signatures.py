@@ -1,5 +1,5 @@
-"""Leaf key, Root, Reveal, Recover, Issue and Check: an implementation of the scope document that is
-independent of the library, over hashlib's SHA-256.
+"""Leaf key, Root, Reveal, Recover, Reserve, Sign and Check: an implementation of the scope document
+and of the later requests that is independent of the library, over hashlib's SHA-256.
 
 A profile is the four numbers l, w, s, h and its edition. No slice is changed: every function
 answers with the number of its refusal, or 0, its value, and the slices as the call leaves them.
@@ -213,31 +213,61 @@ def signature_of(p, seed, secret, leaf, r, number):
     return leaf.to_bytes(4, "big") + r + values + b"".join(path(p, seed, secret, leaf))
 
 
-SigningKey = namedtuple("SigningKey", "profile seed secret next")
+# The mark is a number, as it is in C: 1 is a mark, every other number none.
+SigningKey = namedtuple("SigningKey", "profile seed secret next mark")
 Verifier = namedtuple("Verifier", "profile seed root highest marks")
+
+
+def fresh_key(p, seed, secret):
+    return SigningKey(p, seed, secret, 0, 0)
+
+
+def reserved_key(p, seed, secret, leaf):
+    """A key that is to sign with this leaf, which is the one before its next."""
+    return SigningKey(p, seed, secret, leaf + 1, 1)
+
+
+def restarted(key):
+    """What a desk goes on with after a cut, from the stored key: the mark cleared."""
+    return key._replace(mark=0)
+
+
+def mark_counts(key):
+    """Only with a next leaf of 1 to 2^h; any other mark is met as none."""
+    return key.mark == 1 and 1 <= key.next <= 2**key.profile.h
+
+
+def reserve(key):
+    """The outcome, the key: the next leaf is marked, and the one behind it is the next."""
+    refused = first_cause(
+        profile_causes(key.profile)
+        + [(21, lambda: mark_counts(key)), (12, lambda: key.next >= 2**key.profile.h)]
+    )
+    return (refused, key) if refused else (0, key._replace(next=key.next + 1, mark=1))
 
 
 def text_cause(text):
     return [(16, lambda: not 1 <= len(text) <= 200)]
 
 
-def issue(key, r, text, work, out):
+def sign(key, r, text, work, out):
     """The outcome, the key, the output slice, the work slice."""
-    p, seed, secret, leaf = key
+    p, seed, secret = key[:3]
     refused = first_cause(
         table_causes(p, work)
         + text_cause(text)
-        + [(6, lambda: len(out) < signature_length(p)), (12, lambda: leaf >= 2**p.h)]
+        + [(6, lambda: len(out) < signature_length(p)), (20, lambda: not mark_counts(key))]
     )
     if refused:
         return refused, key, out, work
     refused = count_cause(p)
     if refused:
         return refused, key, out, with_table(p, work)
+    leaf = key.next - 1
     number = message_number(p, r, seed, root_of(p, seed, secret), leaf, text)
     signature = signature_of(p, seed, secret, leaf, r, number)
     written = signature + out[len(signature) :]
-    return 0, key._replace(next=leaf + 1), written, with_table(p, work)
+    return 0, key._replace(mark=0), written, with_table(p, work)
 
 
 def accepted_leaves(highest, marks):

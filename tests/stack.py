@@ -18,7 +18,8 @@ import tempfile
 from collections import Counter
 
 from archived import ROOT, archive_of, archive_parser, shared_object
-from interface_calls import BY_VALUE, PROTOTYPES
+from interface_calls import PROTOTYPES, parameters
+from keys import frame_length
 from sheets import right_sheet
 from signatures import GATE, GATE_2, LEAST_COUNT, Profile, count_of, signature_length
 from zarosnik import number_words, table_length
@@ -74,26 +75,30 @@ class Caller:
             "message": octets(text),
             "signature": octets(signature),
             "sheet": octets(right_sheet(p, signature, text)),
-            "message_written": (ctypes.c_size_t * 1)(),
-            "sheet_written": (ctypes.c_size_t * 1)(),
+            "frame": octets(bytes(frame_length(p))),
+            "profile": words([0] * 5),
         }
+        sizes = ("message_written", "sheet_written", "frame_written")
+        self.memory |= {name: (ctypes.c_size_t * 1)() for name in sizes}
         self.memory |= {name: words([0]) for name in ("order", "looked", "steps", "line")}
         self.memory |= {name: octets(bytes(32)) for name in ("digest", "public_seed", "root", "r")}
         self.memory |= {name: octets(bytes(32)) for name in ("secret_seed", "key")}
 
     def arguments(self, operation):
-        """Every call begins with the last leaf left to sign with, and every leaf still taken: the
-        one mark set names no leaf, and is there to be moved."""
+        """Every call begins with the last leaf reserved, or left to reserve, and with every leaf
+        still taken: the one mark set names no leaf, and is there to be moved."""
         last = (1 << self.p.h) - 1
-        self.memory |= {"next_leaf": words([last]), "highest_leaf": words([0]), "marks": words([2])}
-        values = {**self.p._asdict(), "leaf": last}
-        for parameter in PROTOTYPES[operation].split():
-            name = parameter.removeprefix("&").removesuffix("[]")
-            if name in BY_VALUE:
+        values = {**self.p._asdict(), "leaf": last, "next_leaf": last + 1, "mark": 1}
+        state = {"next_leaf": last, "mark": 0} if operation == "reserve" else {"mark": 1}
+        state |= {"highest_leaf": 0, "marks": 2}
+        self.memory |= {"next_leaf": words([0])}
+        self.memory |= {name: words([number]) for name, number in state.items()}
+        for name, by_value, _, has_length in parameters(operation):
+            if by_value:
                 yield values[name]
                 continue
             yield ctypes.addressof(self.memory[name])
-            if parameter.endswith("[]"):
+            if has_length:
                 yield len(self.memory[name])
 
     def call(self, operation, expected):
@@ -120,12 +125,13 @@ class Caller:
             self.call(operation, 0)
         for operation in ("one_time_sign", "one_time_recover"):
             self.call(operation, 0)
+        self.call("reserve", 0)
         for operation in ("sign", "verify"):
             self.call(operation, order)
         if order == 0:
             self.memory["message"][0] ^= 1
             self.call("verify", 15)
-        for operation in ("write_sheet", "read_sheet"):
+        for operation in ("write_sheet", "read_sheet", "write_key", "read_key"):
             self.call(operation, 0)
 
     def refused(self):
@@ -133,12 +139,15 @@ class Caller:
         self.memory["data"] = octets(bytes(65536))
         self.memory["number"][:] = [0xFFFFFFFF] * 5
         self.memory["sheet"][-1] = 0
+        self.memory["frame"][-1] = 0
         self.call("hash", 18)
         for operation in ("unrank", "one_time_sign", "one_time_recover"):
             self.call(operation, 7)
-        self.call("read_sheet", 17)
-        self.memory["sheet"] = octets(self.memory["sheet"][:-1])
-        self.call("write_sheet", 6)
+        for operation in ("read_sheet", "read_key"):
+            self.call(operation, 17)
+        self.memory |= {name: octets(self.memory[name][:-1]) for name in ("sheet", "frame")}
+        for operation in ("write_sheet", "write_key"):
+            self.call(operation, 6)
         self.memory["row"][0] ^= 1
         self.call("rank", 10)
 

@@ -236,22 +236,26 @@ def hold_values(library):
 
 
 def hold_order(library):
-    """Issue gives the siblings, and a cabinet with their root takes the order."""
+    """Sign gives the reserved leaf's siblings, and a cabinet with their root takes the order."""
     p = Profile(CHAINS, WIDTH, 262, SIGNED_HEIGHT, 2)
     table = words([0] * table_length(p.l, p.s))
     text, signature = memory(b"sill level 2.4 m"), memory(bytes(signature_length(p)))
-    next_leaf, r = words([SIGNED_LEAF]), memory(bytes(16))
+    next_leaf, mark, r = words([SIGNED_LEAF]), words([0]), memory(bytes(16))
+    outcome = library.call("reserve", *p, next_leaf, mark)
+    found = (outcome, next_leaf[0], mark[0])
+    made = equal("zarosnik_reserve", found, (0, SIGNED_LEAF + 1, 1))
     outcome = library.call(
         "sign",
         *p,
         *seed_memory(FIRST),
-        next_leaf,
+        next_leaf[0],
+        mark,
         r,
         *lent(text),
         *lent(table),
         *lent(signature),
     )
-    made = equal("zarosnik_sign", (outcome, next_leaf[0]), (0, SIGNED_LEAF + 1))
+    made += equal("zarosnik_sign", (outcome, mark[0]), (0, 0))
     siblings = bytes(signature)[-16 * p.h :].hex()
     made += equal("siblings of zarosnik_sign", siblings, SIBLINGS)
     highest, marks, steps = words([0]), words([0]), words([0])

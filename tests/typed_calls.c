@@ -104,22 +104,92 @@ static void leaves(const struct zarosnik_key *key)
     expect("steps of recover", steps, EXPECTED_STEPS);
 }
 
-static void sign(struct zarosnik_key *key)
+/* Both words of a key's state. */
+static void expect_counter(const char *when, const struct zarosnik_key *key, uint32_t next_leaf, uint32_t mark)
+{
+    if (key->next_leaf != next_leaf || key->mark != mark) {
+        fprintf(stderr, "%s: next leaf %" PRIu32 ", mark %" PRIu32 " instead of %" PRIu32 ", %" PRIu32 "\n", when,
+                key->next_leaf, key->mark, next_leaf, mark);
+        differences++;
+    }
+}
+
+static uint32_t sign_into(struct zarosnik_key *key, uint8_t *signature, size_t signature_len)
 {
     struct zarosnik_randomizer r;
-    uint8_t signature[sizeof expected_signature];
     memcpy(r.bytes, expected_r, sizeof expected_r);
-    expect("sign into too little",
-           zarosnik_key_sign(key, r, expected_text, sizeof expected_text, table, TABLE_WORDS, signature,
-                             sizeof signature - 1),
-           ZAROSNIK_REFUSED_OUTPUT_TOO_SHORT);
-    expect("next leaf after a refusal", key->next_leaf, EXPECTED_NEXT);
-    expect("sign",
-           zarosnik_key_sign(key, r, expected_text, sizeof expected_text, table, TABLE_WORDS, signature,
-                             sizeof signature),
-           ZAROSNIK_GRANTED);
-    expect("next leaf", key->next_leaf, EXPECTED_NEXT + 1);
+    return zarosnik_key_sign(key, r, expected_text, sizeof expected_text, table, TABLE_WORDS, signature, signature_len);
+}
+
+/* Any mark but 1 is none, and a refusal leaves it as it is. */
+static void sign(struct zarosnik_key *key)
+{
+    uint8_t signature[sizeof expected_signature];
+    key->mark = 7;
+    expect("sign with nothing reserved", sign_into(key, signature, sizeof signature), ZAROSNIK_REFUSED_NO_MARK);
+    expect_counter("after 20", key, EXPECTED_NEXT, 7);
+    expect("reserve", zarosnik_key_reserve(key), ZAROSNIK_GRANTED);
+    expect_counter("after reserve", key, EXPECTED_NEXT + 1, 1);
+    expect("reserve again", zarosnik_key_reserve(key), ZAROSNIK_REFUSED_MARK_STANDS);
+    expect_counter("after 21", key, EXPECTED_NEXT + 1, 1);
+    expect("sign into too little", sign_into(key, signature, sizeof signature - 1), ZAROSNIK_REFUSED_OUTPUT_TOO_SHORT);
+    expect_counter("after 6", key, EXPECTED_NEXT + 1, 1);
+    expect("sign", sign_into(key, signature, sizeof signature), ZAROSNIK_GRANTED);
+    expect_counter("after sign", key, EXPECTED_NEXT + 1, 0);
     expect_bytes("signature", signature, expected_signature, sizeof expected_signature);
+    expect("sign again", sign_into(key, signature, sizeof signature), ZAROSNIK_REFUSED_NO_MARK);
+    expect_counter("after 20 again", key, EXPECTED_NEXT + 1, 0);
+    struct zarosnik_key spent = *key;
+    spent.next_leaf = ZAROSNIK_LEAVES(EXPECTED_H);
+    expect("reserve past the last leaf", zarosnik_key_reserve(&spent), ZAROSNIK_REFUSED_KEY_SPENT);
+    expect_counter("after 12", &spent, ZAROSNIK_LEAVES(EXPECTED_H), 0);
+}
+
+static void expect_key(const char *name, const struct zarosnik_key *found, const struct zarosnik_key *expected)
+{
+    expect_bytes(name, &found->profile, &expected->profile, sizeof found->profile);
+    expect_bytes(name, found->public_seed.bytes, expected->public_seed.bytes, sizeof found->public_seed.bytes);
+    expect_bytes(name, found->secret_seed.bytes, expected->secret_seed.bytes, sizeof found->secret_seed.bytes);
+    expect_counter(name, found, expected->next_leaf, expected->mark);
+}
+
+/* The key that is stored has the leaf reserved that it signs with. */
+static void store(const struct zarosnik_key *signed_with)
+{
+    struct zarosnik_key key = *signed_with;
+    struct zarosnik_key found;
+    struct zarosnik_key none;
+    uint8_t frame[ZAROSNIK_KEY_BYTES(EXPECTED_EDITION)];
+    size_t frame_len;
+    uint32_t line;
+    static_assert(sizeof frame == sizeof expected_frame, "stored key");
+    memset(&none, 0, sizeof none);
+    key.mark = 1;
+    expect("write key into too little", zarosnik_key_write_key(&key, frame, sizeof frame - 1, &frame_len),
+           ZAROSNIK_REFUSED_OUTPUT_TOO_SHORT);
+    expect("nothing of the key written", frame_len == 0, 1);
+    expect("write key", zarosnik_key_write_key(&key, frame, sizeof frame, &frame_len), ZAROSNIK_GRANTED);
+    expect("all of the key written", frame_len == sizeof frame, 1);
+    expect_bytes("stored key", frame, expected_frame, sizeof expected_frame);
+    memset(&found, 0xA5, sizeof found);
+    expect("read key", zarosnik_key_read_key(&found, expected_frame, sizeof expected_frame, &line), ZAROSNIK_GRANTED);
+    expect("line of the key", line, 0);
+    expect_key("key read", &found, &key);
+    key.mark = 0;
+    memset(&found, 0xA5, sizeof found);
+    expect("restart", zarosnik_key_restart(&found, expected_frame, sizeof expected_frame, &line), ZAROSNIK_GRANTED);
+    expect("line at restart", line, 0);
+    expect_key("key at restart", &found, &key);
+    memset(&found, 0xA5, sizeof found);
+    expect("read key without its end", zarosnik_key_read_key(&found, frame, sizeof frame - 1, &line),
+           ZAROSNIK_REFUSED_SHEET_LINE);
+    expect("line without its end", line, 1);
+    expect_key("key without its end", &found, &none);
+    memset(&found, 0xA5, sizeof found);
+    expect("restart without the end", zarosnik_key_restart(&found, frame, sizeof frame - 1, &line),
+           ZAROSNIK_REFUSED_SHEET_LINE);
+    expect("line of that restart", line, 1);
+    expect_key("key of that restart", &found, &none);
 }
 
 static void write_sheet(void)
@@ -228,11 +298,12 @@ static void few_rows(struct zarosnik_public_seed public_seed, struct zarosnik_se
     uint8_t signature[ZAROSNIK_SIGNATURE_BYTES(EXPECTED_FEW_L, EXPECTED_FEW_H)] = {0};
     uint32_t steps;
     memcpy(r.bytes, expected_r, sizeof expected_r);
+    expect("reserve with few rows", zarosnik_key_reserve(&key), ZAROSNIK_GRANTED);
     expect("sign with few rows",
            zarosnik_key_sign(&key, r, expected_text, sizeof expected_text, table, TABLE_WORDS, signature,
                              sizeof signature),
            ZAROSNIK_REFUSED_COUNT_TOO_SMALL);
-    expect("next leaf with few rows", key.next_leaf, 0);
+    expect_counter("with few rows", &key, 1, 1);
     expect("verify with few rows",
            zarosnik_cabinet_verify(&cabinet, expected_text, sizeof expected_text, signature, sizeof signature, table,
                                    TABLE_WORDS, &steps),
@@ -280,8 +351,10 @@ static void no_edition(struct zarosnik_public_seed public_seed, struct zarosnik_
     uint8_t signature[sizeof expected_signature];
     uint8_t text[ZAROSNIK_MESSAGE_MAX];
     uint8_t sheet[sizeof expected_sheet];
+    uint8_t frame[sizeof expected_frame];
     size_t text_len;
     size_t sheet_len;
+    size_t frame_len;
     uint32_t line;
     uint32_t steps;
     memcpy(r.bytes, expected_r, sizeof expected_r);
@@ -295,6 +368,9 @@ static void no_edition(struct zarosnik_public_seed public_seed, struct zarosnik_
     expect("recover without an edition",
            zarosnik_profile_one_time_recover(none, public_seed, 0, number, expected_values, sizeof expected_values,
                                              table, TABLE_WORDS, &leaf_key, &steps),
+           ZAROSNIK_REFUSED_EDITION);
+    expect("reserve without an edition", zarosnik_key_reserve(&key), ZAROSNIK_REFUSED_EDITION);
+    expect("write key without an edition", zarosnik_key_write_key(&key, frame, sizeof frame, &frame_len),
            ZAROSNIK_REFUSED_EDITION);
     expect("sign without an edition",
            zarosnik_key_sign(&key, r, expected_text, sizeof expected_text, table, TABLE_WORDS, signature,
@@ -321,7 +397,7 @@ int main(void)
     memcpy(public_seed.bytes, expected_public_seed, sizeof expected_public_seed);
     memcpy(secret_seed.bytes, expected_secret_seed, sizeof expected_secret_seed);
     struct zarosnik_key key = zarosnik_fresh_key(profile, public_seed, secret_seed);
-    expect("fresh key", key.next_leaf, 0);
+    expect_counter("fresh key", &key, 0, 0);
     key.next_leaf = EXPECTED_NEXT;
     struct zarosnik_tree_root root;
     expect("root", zarosnik_key_root(&key, &root), ZAROSNIK_GRANTED);
@@ -333,6 +409,7 @@ int main(void)
     compare();
     leaves(&key);
     sign(&key);
+    store(&key);
     write_sheet();
     verify(&cabinet);
     verify_odd(public_seed, root);

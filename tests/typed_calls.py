@@ -17,8 +17,9 @@ import editions
 import signatures
 from archived import ROOT, archive_of, archive_parser
 from header import COMPILERS, INCLUDE, WARNINGS
+from keys import right_frame
 from sheets import read_sheet, right_sheet
-from signatures import EDITIONS, Profile, SigningKey, Verifier
+from signatures import EDITIONS, Profile, Verifier, reserved_key
 from zarosnik import compare, number_words, row_of, table_length, ways
 
 # The gate's profile over a low tree.
@@ -29,7 +30,7 @@ SEED = bytes(range(0x30, 0x40))
 SECRET = bytes(range(0x50, 0x60))
 R = bytes(range(0x90, 0xA0))
 TEXT = b"sill level 1.9 m until 06:00"
-# The order that is issued later and arrives first.
+# The order that is signed later and arrives first.
 LATER_R = bytes(range(0xB0, 0xC0))
 LATER_TEXT = b"sill level 2.2 m from 06:00 until 11:00"
 NUMBER = int.from_bytes(bytes(range(1, 17)), "big")
@@ -45,11 +46,11 @@ ODD = (5, 0x80000080)
 UNMARKED = (0x80000007, 0)
 
 
-def issued(p, leaf, r, text):
+def signed(p, leaf, r, text):
     work = [0] * table_length(p.l, p.s)
     out = bytes(signatures.signature_length(p))
-    key = SigningKey(p, SEED, SECRET, leaf)
-    outcome, _, signature, _ = signatures.issue(key, r, text, work, out)
+    key = reserved_key(p, SEED, SECRET, leaf)
+    outcome, _, signature, _ = signatures.sign(key, r, text, work, out)
     if outcome:
         sys.exit(f"tests/typed_calls.py: the order is refused by {outcome}")
     return signature
@@ -95,7 +96,7 @@ def other_edition(p, root, signature, sheet):
 
 def expected(p):
     """The bytes, the numbers and the single values, by name."""
-    signature, later = issued(p, NEXT, R, TEXT), issued(p, LATER, LATER_R, LATER_TEXT)
+    signature, later = signed(p, NEXT, R, TEXT), signed(p, LATER, LATER_R, LATER_TEXT)
     root, sheet = signatures.root_of(p, SEED, SECRET), right_sheet(p, signature, TEXT)
     byte_arrays = {
         "public_seed": SEED,
@@ -110,6 +111,8 @@ def expected(p):
         "later_text": LATER_TEXT,
         "later_signature": later,
         "sheet": sheet,
+        # once the leaf of the first is reserved
+        "frame": right_frame(reserved_key(p, SEED, SECRET, NEXT)),
     }
     numbers = {"count": ways(p.w, p.l, p.s), "number": NUMBER, "below": BELOW}
     steps = p.l * (p.w - 1) - p.s

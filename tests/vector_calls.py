@@ -6,6 +6,7 @@ vectors/README.md says the format. Also here: the seeds and texts that the vecto
 
 import hashlib
 
+import keys
 import sheets
 import signatures
 import zarosnik
@@ -144,13 +145,24 @@ def recover_vector(note, p, seed, leaf, number, values, words):
     return vector("one_time_recover", note, given, outcome, left)
 
 
+def counter_of(key):
+    return {"next_leaf": key.next, "mark": key.mark}
+
+
+def reserve_vector(note, key):
+    """The vector, the key handed back."""
+    outcome, after = signatures.reserve(key)
+    given = {**key.profile._asdict(), **counter_of(key)}
+    return vector("reserve", note, given, outcome, counter_of(after)), after
+
+
 def sign_vector(note, key, r, text, words, size):
     """The vector, the key handed back, the output slice."""
     work, out = [FILL_WORD] * words, filled(size)
-    outcome, after, written, table = signatures.issue(key, r, text, work, out)
-    given = {**key.profile._asdict(), **seeds(key.seed, key.secret), "next_leaf": key.next}
+    outcome, after, written, table = signatures.sign(key, r, text, work, out)
+    given = {**key.profile._asdict(), **seeds(key.seed, key.secret), **counter_of(key)}
     given |= {"r": hexed(r), "message": hexed(text), "table_len": words, "signature_len": size}
-    left = {"next_leaf": after.next, "table": words_left(work, table)}
+    left = {"mark": after.mark, "table": words_left(work, table)}
     left["signature"] = slice_left(out, written)
     return vector("sign", note, given, outcome, left), after, written
 
@@ -186,3 +198,20 @@ def write_vector(note, p, signature, text, size):
     given = {**p._asdict(), "signature": hexed(signature), "message": hexed(text)}
     left = {"sheet": slice_left(sheet, written), "sheet_written": count}
     return vector("write_sheet", note, given | {"sheet_len": size}, outcome, left)
+
+
+def read_key_vector(note, frame):
+    """The vector, the key that was read."""
+    outcome, line, key = keys.read_key(frame)
+    left = {"profile": list(key.profile), **seeds(key.seed, key.secret), **counter_of(key)}
+    made = vector("read_key", note, {"frame": hexed(frame)}, outcome, left | {"line": line})
+    return made, key
+
+
+def write_key_vector(note, key, size):
+    """The vector, the slice."""
+    frame = filled(size)
+    outcome, count, written = keys.write_key(key, frame)
+    given = {**key.profile._asdict(), **seeds(key.seed, key.secret), **counter_of(key)}
+    left = {"frame": slice_left(frame, written), "frame_written": count}
+    return vector("write_key", note, given | {"frame_len": size}, outcome, left), written

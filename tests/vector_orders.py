@@ -1,8 +1,8 @@
-"""Test vectors of whole orders: a key signs and a cabinet checks, and what a call hands back goes
-to the next. Orders that are taken; replays; changed texts, signatures, seeds and roots; spent keys;
-numbers of few bits, of many and of 128; counts that are too small; orders of earlier days; orders
-that arrive out of order, and every way in which a leaf can stand to a cabinet; orders of edition 2,
-and such as are judged by the other edition.
+"""Test vectors of whole orders: a key reserves and signs and a cabinet checks, and what a call
+hands back goes to the next. Orders that are taken; replays; changed texts, signatures, seeds and
+roots; spent keys; numbers of few bits, of many and of 128; counts that are too small; orders of
+earlier days; orders that arrive out of order, and every way in which a leaf can stand to a cabinet;
+orders of edition 2, and such as are judged by the other edition.
 
 Each call is said to have an outcome, to which what the implementation answers is held.
 """
@@ -18,9 +18,9 @@ from signatures import (
     GATE,
     GATE_2,
     Profile,
-    SigningKey,
     Verifier,
     count_of,
+    fresh_key,
     message_number,
     order_digest,
     pieces,
@@ -37,6 +37,7 @@ from vector_calls import (
     R,
     derived,
     flipped,
+    reserve_vector,
     root_vector,
     sheet_vector,
     sign_vector,
@@ -61,7 +62,7 @@ class Story:
 
     def __init__(self, p, secret=SECRET):
         self.p = p
-        self.key = SigningKey(p, SEED, secret, 0)
+        self.key = fresh_key(p, SEED, secret)
         self.root = root_of(p, SEED, secret)
         self.cabinet = Verifier(p, SEED, self.root, 0, 0)
         self.words = table_length(p.l, p.s)
@@ -72,12 +73,25 @@ class Story:
             raise ValueError(f"not answered by {outcome}: {made}")
         self.vectors.append(made)
 
+    def reserve(self, note, outcome=0):
+        made, self.key = reserve_vector(note, self.key)
+        self.add(made, outcome)
+
     def sign(self, note, text, r, outcome=0):
         """The text and its signature."""
         size = signature_length(self.p)
         made, self.key, written = sign_vector(note, self.key, r, text, self.words, size)
         self.add(made, outcome)
         return text, written
+
+    def order(self, note, text, r):
+        """A leaf is reserved and signs; the same."""
+        self.reserve(f"leaf {self.key.next} is reserved")
+        return self.sign(note, text, r)
+
+    def spent(self, text, r):
+        self.reserve("the key is spent", 12)
+        self.sign("the key is spent, and no leaf is reserved", text, r, 20)
 
     def verify(self, note, order, outcome=0):
         made, self.cabinet = verify_vector(note, self.cabinet, *order, self.words)
@@ -132,12 +146,18 @@ class Story:
 def gate_story(p):
     """The key of examples/order.c: its first two leaves, then its last two."""
     story = Story(p)
-    first = story.sign("the first order of a fresh key", ORDER, R)
+    story.sign("no leaf is reserved yet", ORDER, R, 20)
+    first = story.order("the first order of a fresh key", ORDER, R)
+    story.sign("the leaf has signed, and no other is reserved", LONG_ORDER, derived("gate 1"), 20)
+    story.reserve("leaf 1 is reserved")
+    story.reserve("leaf 1 has not signed yet", 21)
     second = story.sign("a text of 200 bytes", LONG_ORDER, derived("gate 1"))
     story.key = story.key._replace(next=1022)
-    third = story.sign("a text of any bytes", bytes([0, 255, 10, 13]), derived("gate 1022"))
+    third = story.order("a text of any bytes", bytes([0, 255, 10, 13]), derived("gate 1022"))
+    story.reserve("leaf 1023 is reserved, the last")
+    story.reserve("the last leaf has not signed yet: 21 and not 12", 21)
     last = story.sign("the last leaf, a text of one byte", b"0", derived("gate 1023"))
-    story.sign("the key is spent", ORDER, derived("gate 1024"), 12)
+    story.spent(ORDER, derived("gate 1024"))
     story.verify("the first order", first)
     story.verify("the first order again: a replay", first, 14)
     story.verify("the second order", second)
@@ -156,7 +176,7 @@ def worked_story():
     """The order of docs/INTERFACE.md."""
     story = Story(WORKED)
     story.key = story.key._replace(next=LEAF)
-    order = story.sign("the worked order of the interface page", ORDER, R)
+    order = story.order("the worked order of the interface page", ORDER, R)
     story.verify("the worked order", order)
     story.verify("the worked order again: a replay", order, 14)
     return story.vectors
@@ -169,13 +189,14 @@ def order_shapes():
 
 
 def bits_story(shape, edition):
-    """One order at h = 0, with a number of few bits or of many, then 12."""
+    """One order at h = 0, with a number of few bits or of many, then 12 and 20."""
     p = Profile(*shape, 0, edition)
     count = count_of(p)
     story = Story(p)
     note = f"the count is {count}, the number has {number_bits(count)} bits"
-    order = story.sign(note, ORDER, R)
-    story.sign("one order, then 12", OTHER_ORDER, derived("bits"), 12)
+    order = story.order(note, ORDER, R)
+    story.reserve("one order, then 12", 12)
+    story.sign("one order, then 20", OTHER_ORDER, derived("bits"), 20)
     story.verify("a text with another number", (OTHER_ORDER, order[1]), 15)
     story.verify(note, order)
     story.verify("the order again: a replay", order, 14)
@@ -187,7 +208,7 @@ def same_number_story():
     signature: such a profile is for trials."""
     p = Profile(*order_shapes()[0], 0, 1)
     story = Story(p)
-    order = story.sign("an order whose number has 8 bits", ORDER, R)
+    order = story.order("an order whose number has 8 bits", ORDER, R)
     number = message_number(p, R, SEED, story.root, 0, ORDER)
     texts = (b"sill level %d.4 m until 18:00" % level for level in itertools.count(3))
     other = next(t for t in texts if message_number(p, R, SEED, story.root, 0, t) == number)
@@ -200,8 +221,10 @@ def scant_story(shape, edition):
     p = Profile(*shape, 1, edition)
     story = Story(p)
     story.key = story.key._replace(next=1)
+    story.reserve("leaf 1 is reserved")
     story.sign("19: the count is 255", ORDER, R, 19)
     story.sign("19, whatever the text and R are", OTHER_ORDER, derived("scant"), 19)
+    story.reserve("a sign refused keeps the mark", 21)
     number = message_number(p, R, SEED, story.root, 1, ORDER)
     signature = signature_of(p, SEED, SECRET, 1, R, number)
     story.verify("19: a number of 7 bits leads to the root", (ORDER, signature), 19)
@@ -237,11 +260,11 @@ def earlier_story(p):
         return story.vectors
     # its leaf is used up
     story.key = story.key._replace(next=1)
-    order = story.sign("the same text and R today, with the next leaf", text, r)
+    order = story.order("the same text and R today, with the next leaf", text, r)
     story.verify("the order of today", order)
     tried = (derived(f"refused earlier {tries}") for tries in itertools.count())
     refused = next(r for r in tried if earlier_number(story, r) >= count_of(p))
-    order = story.sign("an R whose number of earlier days is not below the count", text, refused)
+    order = story.order("an R whose number of earlier days is not below the count", text, refused)
     story.verify("the order with this R", order)
     return story.vectors
 
@@ -252,8 +275,8 @@ def full_story(p, name):
     orders = []
     for leaf in range(2**p.h):
         text, r = f"order {leaf} of {name}".encode(), derived(f"{name} {leaf}")
-        orders.append(story.sign(f"leaf {leaf}", text, r))
-    story.sign("the key is spent", ORDER, R, 12)
+        orders.append(story.order(f"leaf {leaf}", text, r))
+    story.spent(ORDER, R)
     for leaf, order in enumerate(orders):
         story.verify(f"leaf {leaf} with another text", (ORDER, order[1]), 15)
         story.verify(f"leaf {leaf}", order)
@@ -292,7 +315,7 @@ def window_orders(story):
     for leaf in sorted({leaf for leaf, _, _ in ARRIVALS}):
         story.key = story.key._replace(next=leaf)
         text = f"order {leaf} by two routes".encode()
-        yield leaf, story.sign(f"leaf {leaf}", text, derived(f"two routes {leaf}"))
+        yield leaf, story.order(f"leaf {leaf}", text, derived(f"two routes {leaf}"))
 
 
 def arrivals_story(p):
@@ -354,7 +377,7 @@ def windows_story():
     orders = {}
     for leaf in (0, 7, 64):
         story.key = story.key._replace(next=leaf)
-        orders[leaf] = story.sign(f"leaf {leaf}", ORDER, derived(f"window {leaf}"))
+        orders[leaf] = story.order(f"leaf {leaf}", ORDER, derived(f"window {leaf}"))
     for (name, span), answer in WINDOW_KINDS:
         if span:
             highest, marks = window_for(name, span[0], 64)
@@ -394,14 +417,14 @@ def crossed_story():
     place = leaf.to_bytes(4, "big")
     for story in stories:
         story.key = story.key._replace(next=leaf)
-    orders = [story.sign(f"leaf {leaf}", ORDER, R) for story in stories]
+    orders = [story.order(f"leaf {leaf}", ORDER, R) for story in stories]
     for story, own, other in [(stories[0], *orders), (stories[1], *orders[::-1])]:
         story.verify("the other edition's order", other, 15)
         story.verify("its own edition's order", own)
         story.verify("the other edition's order, now with a leaf that is marked", other, 14)
     first, second = stories
     first.key = first.key._replace(next=leaf)
-    spelt = first.sign("a text that begins with the leaf's four bytes", place + ORDER, R)
+    spelt = first.order("a text that begins with the leaf's four bytes", place + ORDER, R)
     second.judge("this order in edition 2, the text without the leaf", (ORDER, spelt[1]), 0)
     second.judge("this order in edition 2, the text as it is", spelt)
     with_leaf = place + ORDER, orders[1][1]

@@ -5,7 +5,9 @@ A call is asked for with some causes, and all else in it is right. What the impl
 answers is held to the first of them.
 """
 
+from interface_calls import ORDERS
 from interface_inputs import CAUSES as DRAWN
+from keys import frame_length, right_frame
 from sheets import right_sheet, sheet_length
 from signatures import (
     GATE,
@@ -13,6 +15,7 @@ from signatures import (
     SigningKey,
     Verifier,
     message_number,
+    reserved_key,
     root_of,
     signature_length,
     signature_of,
@@ -30,13 +33,16 @@ from vector_calls import (
     hash_vector,
     leaf_key_vector,
     rank_vector,
+    read_key_vector,
     recover_vector,
+    reserve_vector,
     reveal_vector,
     root_vector,
     sheet_vector,
     sign_vector,
     unrank_vector,
     verify_vector,
+    write_key_vector,
     write_vector,
 )
 from zarosnik import row_of, table_length, ways
@@ -85,6 +91,7 @@ class Refused:
         self.words = table_length(sized.l, sized.s) - (5 in causes)
         self.signature_size = signature_length(sized)
         self.sheet_size = sheet_length(sized, len(self.text()))
+        self.frame_size = frame_length(sized)
 
     def number(self):
         """Alone, the smallest that is too large."""
@@ -93,10 +100,10 @@ class Refused:
             return count - 1
         return count if len(self.causes) == 1 else PAST_NUMBER - 1
 
-    def leaf(self, cause):
+    def leaf(self):
         """Alone, the lowest that is too high; else one that is so for every height."""
         end = 2**self.good.h
-        if cause not in self.causes:
+        if 11 not in self.causes:
             return end - 1
         return end if len(self.causes) == 1 else PAST_WORD - 2
 
@@ -122,27 +129,39 @@ class Refused:
         return rank_vector(self.note, self.p, row, self.words)
 
     def leaf_key(self):
-        return leaf_key_vector(self.note, self.p, SEED, SECRET, self.leaf(11))
+        return leaf_key_vector(self.note, self.p, SEED, SECRET, self.leaf())
 
     def root(self):
         return root_vector(self.note, self.p, SEED, SECRET)
 
     def one_time_sign(self):
-        given = self.p, SEED, SECRET, self.leaf(11), self.number()
+        given = self.p, SEED, SECRET, self.leaf(), self.number()
         return reveal_vector(self.note, *given, self.words, 16 * self.chains - (6 in self.causes))
 
     def one_time_recover(self):
         values = derived("values", 16 * self.chains + (13 in self.causes))
-        given = self.p, SEED, self.leaf(11), self.number()
+        given = self.p, SEED, self.leaf(), self.number()
         return recover_vector(self.note, *given, values, self.words)
 
+    def key(self, next_leaf, mark):
+        return SigningKey(self.p, SEED, SECRET, next_leaf, int(mark))
+
+    def reserve(self):
+        """Where no leaf is left, the last one was the one before the next leaf."""
+        next_leaf = 2**self.good.h - (12 not in self.causes)
+        return reserve_vector(self.note, self.key(next_leaf, 21 in self.causes))[0]
+
     def sign(self):
-        key = SigningKey(self.p, SEED, SECRET, self.leaf(12))
+        """With the last leaf. Not reserved, it has no mark or, where 20 is not alone, a mark that
+        counts with no height."""
+        idle = 20 in self.causes and len(self.causes) > 1
+        next_leaf = PAST_WORD - 1 if idle else 2**self.good.h
+        key = self.key(next_leaf, idle or 20 not in self.causes)
         size = self.signature_size - (6 in self.causes)
         return sign_vector(self.note, key, R, self.text(), self.words, size)[0]
 
     def verify(self):
-        p, leaf, root = self.good, self.leaf(11), root_of(self.good, SEED, SECRET)
+        p, leaf, root = self.good, self.leaf(), root_of(self.good, SEED, SECRET)
         # where the count is too small, what the rule would sign if it were not
         number = message_number(p, R, SEED, root, 2**p.h - 1, ORDER)
         signed = signature_of(p, SEED, SECRET, 2**p.h - 1, R, number)
@@ -165,10 +184,18 @@ class Refused:
         size = self.sheet_size - (6 in self.causes)
         return write_vector(self.note, self.p, signature, self.text(), size)
 
+    def read_key(self):
+        line = right_frame(SigningKey(self.good, SEED, SECRET, 1, 1))
+        return read_key_vector(self.note, line[:-1] if 17 in self.causes else line)[0]
+
+    def write_key(self):
+        size = self.frame_size - (6 in self.causes)
+        return write_key_vector(self.note, self.key(1, 1), size)[0]
+
 
 def right_profile(operation, causes):
     """The small profile's count is too small for an order, the gate's is not."""
-    signs = operation in ("sign", "verify") and 19 not in causes
+    signs = operation in ORDERS and 19 not in causes
     return LOW_GATE if signs else SMALL
 
 
@@ -217,10 +244,15 @@ def long_inputs():
     yield 18, hash_vector("18: three bytes, if the length were cut", b"abc", 1 + (1 << 16))
     p, text = LOW_GATE, derived("text", 201)
     words, size = table_length(p.l, p.s), signature_length(p)
-    key = SigningKey(p, SEED, SECRET, 0)
+    key = reserved_key(p, SEED, SECRET, 0)
     yield 16, sign_vector("16: a text of 201 bytes", key, R, text, words, size)[0]
-    key = key._replace(next=PAST_WORD - 1)
-    yield 12, sign_vector("12: the highest next leaf", key, R, ORDER, words, size)[0]
+    key = key._replace(next=PAST_WORD - 1, mark=0)
+    yield 12, reserve_vector("12: the highest next leaf", key)[0]
+    key = key._replace(mark=1)
+    yield 12, reserve_vector("12: the highest next leaf, with a mark", key)[0]
+    yield 20, sign_vector("20: the highest next leaf, with a mark", key, R, ORDER, words, size)[0]
+    key = key._replace(next=0)
+    yield 20, sign_vector("20: next leaf 0, with a mark", key, R, ORDER, words, size)[0]
     cabinet = Verifier(p, SEED, root_of(p, SEED, SECRET), PAST_WORD - 1, PAST_WORD - 1)
     signature = bytes(4) + derived("signature", size - 3)
     for cause, note, order in [

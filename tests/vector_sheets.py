@@ -6,7 +6,7 @@ import itertools
 
 import editions
 from sheets import hex_line, profile_frame, right_sheet, sheet_length
-from signatures import EDITIONS, GATE, GATE_2, Profile, SigningKey, issue, signature_length
+from signatures import EDITIONS, GATE, GATE_2, Profile, reserved_key, sign, signature_length
 from vector_calls import (
     LONG_ORDER,
     ORDER,
@@ -104,7 +104,7 @@ def right_sheets(p, signature):
 def gate_signature(p):
     """Of the first order."""
     size, words = signature_length(p), table_length(p.l, p.s)
-    return issue(SigningKey(p, SEED, SECRET, 0), R, ORDER, [0] * words, filled(size))[2]
+    return sign(reserved_key(p, SEED, SECRET, 0), R, ORDER, [0] * words, filled(size))[2]
 
 
 def gate_sheet(p):

@@ -9,8 +9,9 @@ refusal that docs/INTERFACE.md lists for an operation, a kind of numbers compare
 orders must be signed and checked, a way in which a leaf can stand to a cabinet's highest leaf and
 marks, an operation granted in either edition, an order or a sheet of one edition where the other is
 expected, a number that is no edition, a sheet written for the shortest or the longest text with
-slices of each length that decides, or for a leaf that a tree has not, or a number of a profile that
-would be the gate's if it were cut.
+slices of each length that decides, or for a leaf that a tree has not, a kind of next leaf and mark
+with which leaves are reserved and sign and keys are written and read, a slice for a stored key, a
+kind of stored keys, or a number of a profile that would be the gate's if it were cut.
 The vectors themselves are held to the independent implementation by tests/make_vectors.py, the
 page's worked values by tests/worked_order.py.
 """
@@ -24,24 +25,27 @@ from collections import Counter
 import comparisons
 import editions
 import shapes
+import stored_keys
 import windows
 import written_sheets
 from archived import archive_of, archive_parser, shared_object
 from header import NO_REFUSALS
-from interface_calls import EDITED, PROTOTYPES, STATES, Call, load
+from interface_calls import EDITED, ORDERS, PROTOTYPES, Call, load, parameters
 from interface_memory import Memory, words_memory
+from keys import frame_length
 from make_vectors import FAMILIES, FOLDER
 from signatures import EDITIONS, Profile, Verifier, check
 from vector_calls import FILL, FILL_WORD
+from vector_keys import READ
 from vector_orders import WINDOW_KINDS, order_shapes
 from vector_refusals import CUT
 from vector_sheets import WRITTEN_KINDS
 from zarosnik import filled, number_words, table_length
 
 PAGE = FOLDER.parent / "docs" / "INTERFACE.md"
-WORDS = ("next_leaf", "highest_leaf", "marks", "steps", "line", "order", "looked")
+WORDS = ("next_leaf", "mark", "highest_leaf", "marks", "steps", "line", "order", "looked")
 NUMBERS = ("number", "first", "second")
-BY_VALUE = (*Profile._fields, "leaf")
+COUNTS = ("message_written", "sheet_written", "frame_written")
 
 
 def say(line):
@@ -54,7 +58,9 @@ def memory_of(name, value):
         return words_memory(number_words(int(value, 16)))
     if name in WORDS:
         return words_memory([value])
-    if name in ("message_written", "sheet_written"):
+    if name == "profile":
+        return words_memory(value)
+    if name in COUNTS:
         return Memory(value.to_bytes(8, "little"), unit=8)
     return Memory(bytes.fromhex(value))
 
@@ -81,9 +87,10 @@ def written_over(memory):
     return answer.leave(memory.before)
 
 
-def argument(name, given, left):
+def argument(parameter, given, left):
     """What stands for one parameter of the call. Takes its fields from both."""
-    if name in BY_VALUE:
+    name = parameter.name
+    if parameter.by_value:
         return given.pop(name)
     if name == "data":
         return Memory(bytes.fromhex(given.pop(name)) * given.pop("times"))
@@ -99,11 +106,10 @@ def argument(name, given, left):
 
 def call_of(vector, shift):
     operation, given, left = vector["operation"], dict(vector["in"]), dict(vector["out"])
-    names = [name.strip("&[]") for name in PROTOTYPES[operation].split()]
     # the table's contents are told by l, w and s: these go last
-    names.sort(key=lambda name: name in BY_VALUE)
+    ordered = sorted(parameters(operation), key=lambda parameter: parameter.by_value)
     outcome = left.pop("outcome")
-    arguments = {name: argument(name, given, left) for name in names}
+    arguments = {parameter.name: argument(parameter, given, left) for parameter in ordered}
     if given or left:
         raise ValueError(f"fields that no parameter has: {sorted(given | left)}")
     return Call(operation, outcome, shift % 16, arguments)
@@ -202,6 +208,45 @@ def missing_written(vectors):
         yield f"no vector: write_sheet writes {leaf}"
 
 
+def counters(vectors):
+    """The operation, the kind of next leaf and mark, and the answer, of Write key and Read key the
+    mark written or read."""
+    for vector in vectors:
+        operation, given, left = vector["operation"], vector["in"], vector["out"]
+        outcome = left["outcome"]
+        if operation == "read_key" and outcome == 0:
+            p, next_leaf = Profile(*left["profile"]), left["next_leaf"]
+            mark, answer = int(bytes.fromhex(given["frame"])[84:86]), left["mark"]
+        elif operation in ("reserve", "sign") and outcome in (0, 20, 21, 12):
+            p, next_leaf, mark = profile_of(given), given["next_leaf"], given["mark"]
+            answer = outcome
+        elif operation == "write_key" and outcome == 0:
+            p, next_leaf, mark = profile_of(given), given["next_leaf"], given["mark"]
+            answer = int(bytes.fromhex(left["frame"])[84:86])
+        else:
+            continue
+        for kind in stored_keys.counter_kinds(p, next_leaf, mark):
+            yield operation, kind, answer
+
+
+def missing_keys(vectors):
+    """Of the frames that are read, the note says the kind."""
+    for line in stored_keys.missing_counters(set(counters(vectors))):
+        yield f"no vector: {line}"
+    written = [vector for vector in vectors if vector["operation"] == "write_key"]
+    slices = set()
+    for given, outcome in ((vector["in"], vector["out"]["outcome"]) for vector in written):
+        if outcome in (0, 6):
+            p = profile_of(given)
+            slices.add((p.edition, given["frame_len"] - frame_length(p), outcome))
+    for line in stored_keys.missing_slices(slices):
+        yield f"no vector: {line}"
+    read = {vector["note"] for vector in vectors if vector["operation"] == "read_key"}
+    for kind in READ:
+        if stored_keys.told_frame(kind) not in read:
+            yield f"no vector: read_key is given a frame: {stored_keys.told_frame(kind)}"
+
+
 def missing(vectors):
     """In lines: what has no vector."""
     outcomes = {(vector["operation"], vector["out"]["outcome"]) for vector in vectors}
@@ -213,14 +258,15 @@ def missing(vectors):
         yield f"no vector: {operation} answers {outcome}"
     for operation, outcome in sorted(outcomes - expected):
         yield f"not in the page: {operation} answers {outcome}"
-    for operation, parameters in PROTOTYPES.items():
+    for operation, told in PROTOTYPES.items():
         calls = [vector["in"] for vector in vectors if vector["operation"] == operation]
         for name, number in CUT.items():
-            if name in parameters.split() and all(given[name] != number for given in calls):
+            if name in told.split() and all(given[name] != number for given in calls):
                 yield f"no vector: {operation} with {name} = {number}"
     yield from missing_editions(vectors)
     yield from missing_written(vectors)
-    for operation in STATES:
+    yield from missing_keys(vectors)
+    for operation in ORDERS:
         calls = [vector for vector in vectors if vector["operation"] == operation]
         met = {
             (tuple(call["in"][name] for name in "lws"), call["out"]["outcome"]) for call in calls

@@ -1,6 +1,6 @@
 """The worked values of docs/INTERFACE.md: the small table of counts, a digest's number at several
-counts, the table of the window, and the worked order in both editions, from the implementation in
-this folder that is independent of the library.
+counts, the table of the window, a stored key and the worked order in both editions, from the
+implementation in this folder that is independent of the library.
 
     python3 tests/worked_order.py           compares the page's blocks and that table with these values
     python3 tests/worked_order.py --print   prints them, as they must stand in the page
@@ -12,22 +12,23 @@ import itertools
 import sys
 from pathlib import Path
 
+from keys import right_frame
 from sheets import right_sheet
 from signatures import (
     EDITIONS,
     LEAST_COUNT,
     Profile,
-    SigningKey,
     Verifier,
     address,
     chain_start,
     chain_value,
     check,
-    issue,
     message_number,
     node,
     order_digest,
+    reserved_key,
     root_of,
+    sign,
     signature_length,
 )
 from vector_calls import GATE_SHAPE, ORDER, SECRET, SEED, R, hexed, number_hex
@@ -126,7 +127,7 @@ def window_table():
     after = Verifier(p, SEED, root_of(p, SEED, SECRET), 0, 0)
     for words, leaf, shows in WINDOW_ROWS:
         before = after if words is None else after._replace(highest=words[0], marks=words[1])
-        signature = issue(SigningKey(p, SEED, SECRET, leaf), R, ORDER, work, out)[2]
+        signature = sign(reserved_key(p, SEED, SECRET, leaf), R, ORDER, work, out)[2]
         outcome, after, _, _ = check(before, ORDER, signature, work)
         yield f"| {state(before)} | {leaf} | {outcome} | {state(after)} | {shows} |"
 
@@ -187,7 +188,7 @@ def leaf_block():
 
 def signed(p):
     work, out = [0] * table_length(p.l, p.s), bytes(signature_length(p))
-    return issue(SigningKey(p, SEED, SECRET, LEAF), R, ORDER, work, out)[2]
+    return sign(reserved_key(p, SEED, SECRET, LEAF), R, ORDER, work, out)[2]
 
 
 def checked(p, root, signature):
@@ -215,6 +216,12 @@ def second_block(root):
         yield f"cabinet of edition {edition}: verdict = {outcome}, chain steps = {steps}"
 
 
+def stored_block():
+    """The key in both editions, when its leaf is reserved."""
+    for p in (WORKED, SECOND):
+        yield right_frame(reserved_key(p, SEED, SECRET, LEAF)).decode().rstrip("\n")
+
+
 def blocks():
     """The page's blocks in order: a section's heading and the lines."""
     root = root_of(WORKED, SEED, SECRET)
@@ -223,6 +230,7 @@ def blocks():
     sheet = right_sheet(WORKED, signature, ORDER).decode().splitlines()
     yield "Counts and rows", list(counts_block())
     yield "Digest and message number", list(bits_block(root))
+    yield "Stored key", list(stored_block())
     yield WINDOW, list(window_table())
     for block in [
         key_block(),

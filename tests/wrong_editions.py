@@ -1,4 +1,4 @@
-"""Operations made wrong in the edition of the profile, for tests/interface_mutants.py: Issue and
+"""Operations made wrong in the edition of the profile, for tests/interface_mutants.py: Sign and
 Check by another digest, every operation with 22 for other numbers or out of its turn, and Read
 sheet by another end of frame 01, also for one kind of tests/editions.py alone.
 """
@@ -17,7 +17,7 @@ from editions import (
     told,
     with_last,
 )
-from interface_calls import BY_VALUE, EDITED, PROTOTYPES, STATES
+from interface_calls import EDITED, ORDERS, parameters
 from interface_inputs import CAUSES
 from signatures import EDITIONS, profile_causes
 from wrong_orders import (
@@ -112,7 +112,7 @@ def wrong_digests():
     digests |= {"edition 2's digest for edition 1": leaf_where(EDITIONS)}
     digests |= {"edition 1's digest for edition 2": leaf_where([])}
     digests |= {"the digests exchanged": other_edition}
-    for operation in STATES:
+    for operation in ORDERS:
         for what, digest_of in digests.items():
             yield what, operation, by_digests(operation, digest_of)
     highest = for_leaf(lambda given, leaf: window_of(given)[0])
@@ -172,8 +172,9 @@ def told_before(cause):
 def told_behind(operation, cause):
     """A cause that comes later goes first, as it shows where the edition is made right. Where it
     does not hold, all that was written then is put back."""
-    named = [name.removesuffix("[]") for name in PROTOTYPES[operation].split()]
-    written = [name for name in named if name not in BY_VALUE and not name.startswith("&")]
+    written = [
+        name for name, by_value, read_only, _ in parameters(operation) if not by_value | read_only
+    ]
 
     def wrong(right, given):
         outcome = right(*given.values.values())

@@ -1,4 +1,4 @@
-"""Issue and Check made wrong in the number of an order and in refusal 19, for
+"""Sign and Check made wrong in the number of an order and in refusal 19, for
 tests/interface_mutants.py: by another rule for the bits or for 19, with 19 told before a cause that
 comes first or behind one that comes later, and with something changed that 19 must leave as it was,
 or left that it must change.
@@ -8,7 +8,7 @@ import ctypes
 import itertools
 
 import shapes
-from interface_calls import STATES
+from interface_calls import ORDERS, STATES
 from interface_inputs import CAUSES
 from signatures import (
     LEAST_COUNT,
@@ -69,12 +69,12 @@ def right_digest(given, p, *order):
 
 
 def sign_by(rule, digests=(right_digest,)):
-    """Issue by a rule, which gives a refusal or 0, and a number, from the count and the digest; and
+    """Sign by a rule, which gives a refusal or 0, and a number, from the count and the digest; and
     by one digest."""
     (digest_of,) = digests
 
     def wrong(right, given):
-        leaf, before = given.words("next_leaf")[0], content(given, "signature")
+        leaf, before = given["next_leaf"] - 1, content(given, "signature")
         outcome = right(*given.values.values())
         if outcome not in JUDGED:
             return outcome
@@ -83,7 +83,7 @@ def sign_by(rule, digests=(right_digest,)):
         root, text = root_of(p, *seeds), content(given, "message")
         digest = digest_of(given, p, r, seeds[0], root, leaf, text)
         refused, number = rule(count_of(p), digest)
-        given.words("next_leaf")[0] = leaf if refused else leaf + 1
+        given.words("mark")[0] = 1 if refused else 0
         put(given, "signature", before if refused else signature_of(p, *seeds, leaf, r, number))
         return refused
 
@@ -250,7 +250,7 @@ def last_count_missing(right, given):
 def leaf_used_up(right, given):
     outcome = right(*given.values.values())
     if outcome == 19:
-        given.words("next_leaf")[0] += 1
+        given.words("mark")[0] = 0
     return outcome
 
 
@@ -286,18 +286,18 @@ def wrong_refusals(operation):
 
 def right_orders():
     """Both by the right rule, made in the way of the wrong ones: nothing is to be seen."""
-    return {operation: BY_RULE[operation](by_number(right_number)) for operation in STATES}
+    return {operation: BY_RULE[operation](by_number(right_number)) for operation in ORDERS}
 
 
 def wrong_orders():
     """What is wrong, with which operation, the wrong function, and the shape at which alone it is
     wrong, or None."""
-    for operation in STATES:
+    for operation in ORDERS:
         for what, rule in rules():
             yield what, operation, BY_RULE[operation](rule), None
         for what, wrong in wrong_refusals(operation):
             yield what, operation, wrong, None
-    for operation, shape in itertools.product(STATES, shapes.edges()):
+    for operation, shape in itertools.product(ORDERS, shapes.edges()):
         l, w, s = shape
         wrong = BY_RULE[operation](rule_at(ways(w, l, s)))
         yield f"wrong at l = {l}, w = {w}, s = {s} alone", operation, wrong, shape

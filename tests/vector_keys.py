@@ -1,0 +1,183 @@
+"""Test vectors of keys: Reserve and Sign with every kind of next leaf and mark, stored keys written
+and read, and such as are wrong; and desks that go from fresh through cuts and restarts.
+
+Each call is said to have an outcome, to which what the implementation answers is held.
+"""
+
+import stored_keys
+from keys import frame_length
+from signatures import (
+    EDITIONS,
+    GATE,
+    GATE_2,
+    Profile,
+    SigningKey,
+    reserved_key,
+    restarted,
+    signature_length,
+)
+from stored_keys import HEAD, MARK_DIGITS, NEXT, NEXT_LEAVES, READ_KINDS, SEEDS, SLICES
+from vector_calls import (
+    ORDER,
+    SECRET,
+    SEED,
+    R,
+    derived,
+    read_key_vector,
+    reserve_vector,
+    sign_vector,
+    write_key_vector,
+)
+from vector_orders import Story
+from zarosnik import table_length
+
+# A shape of few steps that signs, under a tree of one leaf and under one of four.
+SHAPE = (7, 3, 5)
+HEIGHTS = {"one leaf": 0, "more leaves": 2}
+# Places in a frame at which a digit is another or none: the ends of what stands there; and lengths
+# that it is cut to.
+ENDS = {end for part in (HEAD, SEEDS, NEXT, MARK_DIGITS) for end in (part[0], part[-1])}
+ENDS |= {*HEAD, SEEDS[31], SEEDS[32], NEXT[3], 86, 87}
+CUT = {0, 1, 2, 12, 43, 44, 84, 85, 86, 87, 88}
+
+
+class Fixed:
+    """In the place of random numbers: always the first."""
+
+    def choice(self, choices):
+        return choices[0]
+
+
+def held(outcome, made):
+    if made["out"]["outcome"] != outcome:
+        raise ValueError(f"not answered by {outcome}: {made}")
+    return made
+
+
+def key_of(kind):
+    """Under the example's seeds, of this kind."""
+    edition, tree, name, mark = kind
+    p = Profile(*SHAPE, HEIGHTS[tree], edition)
+    return SigningKey(p, SEED, SECRET, NEXT_LEAVES[name][0](p.h), mark)
+
+
+def counter_vector(operation, kind):
+    key, answer = key_of(kind), stored_keys.answer_to(operation, kind)
+    p, note = key.profile, stored_keys.told(kind)
+    if operation == "reserve":
+        return held(answer, reserve_vector(f"{answer}: {note}", key)[0])
+    if operation == "sign":
+        sizes = table_length(p.l, p.s), signature_length(p)
+        return held(answer, sign_vector(f"{answer}: {note}", key, R, ORDER, *sizes)[0])
+    if operation == "write_key":
+        made = write_key_vector(f"mark {answer:02}: {note}", key, frame_length(p) + 3)[0]
+        return held(0, made)
+    made, found = read_key_vector(f"mark {answer}: {note}", stored_keys.marked_frame(key))
+    if found.mark != answer:
+        raise ValueError(f"mark {answer} is not read: {made}")
+    return held(0, made)
+
+
+def slices_written():
+    for edition, longer in stored_keys.SLICED:
+        p = Profile(*SHAPE, 2, edition)
+        key, size = reserved_key(p, SEED, SECRET, 1), frame_length(p) + longer
+        note = f"edition {edition}, a slice of {size} bytes"
+        yield held(SLICES[longer], write_key_vector(note, key, size)[0])
+    yield held(6, write_key_vector("edition 1, no slice", key._replace(profile=GATE), 0)[0])
+
+
+def is_told(kind):
+    """Of the kinds at each place and each length, some."""
+    _, what, detail = kind
+    some = {"no digit at": ENDS, "another digit at": ENDS, "cut to": CUT}
+    return what not in some or detail in some[what]
+
+
+# What is read: in each edition, and with what stands behind the mark.
+READ = [kind for kind in READ_KINDS if is_told(kind)]
+
+
+def frames_read():
+    """The key of the gate profile with the seeds of the example, which has a leaf reserved."""
+    for kind in READ:
+        key = reserved_key(GATE, SEED, SECRET, 0x0102)
+        frame = stored_keys.drawn_frame(Fixed(), key, kind).before
+        made, _ = read_key_vector(stored_keys.told_frame(kind), frame)
+        answer = READ_KINDS[kind]
+        yield made if answer is None else held(answer, made)
+
+
+class Desk(Story):
+    """A key whose frame is stored."""
+
+    def __init__(self, p, name):
+        super().__init__(p, derived(name))
+        self.name, self.frame, self.orders = name, None, []
+
+    def store(self, note):
+        made, self.frame = write_key_vector(note, self.key, frame_length(self.p))
+        self.add(made, 0)
+
+    def restart(self, note):
+        made, key = read_key_vector(note, self.frame)
+        self.add(made, 0)
+        self.key = restarted(key)
+
+    def issue(self, note):
+        leaf = self.key.next - 1
+        text, r = f"order {leaf} of {self.name}".encode(), derived(f"{self.name} {leaf}")
+        self.orders.append(self.sign(note, text, r))
+
+
+def cuts_story(p):
+    """Power fails at each step: before a store has ended, behind it, and when the leaf has signed.
+    No leaf signs twice, and all that was signed is accepted."""
+    desk = Desk(p, f"cuts {p.edition}")
+    desk.store("a fresh key is stored")
+    desk.reserve("leaf 0 is reserved")
+    desk.restart("power failed before the store had ended: the old frame")
+    desk.reserve("leaf 0 is reserved again, since it has not signed")
+    desk.store("leaf 0 is marked in the stored key")
+    desk.reserve("leaf 0 has not signed yet", 21)
+    desk.issue("leaf 0 signs")
+    desk.restart("power failed when the leaf had signed: the mark is read, and cleared")
+    desk.sign("no mark stands after a restart", ORDER, R, 20)
+    desk.reserve("leaf 1 is reserved")
+    desk.store("leaf 1 is marked in the stored key")
+    desk.restart("power failed before the leaf signed: the mark is read, and cleared")
+    desk.reserve("leaf 2 is reserved; leaf 1 is lost")
+    desk.store("leaf 2 is marked in the stored key")
+    desk.sign("16: no text, the mark stays", b"", R, 16)
+    desk.issue("leaf 2 signs")
+    desk.reserve("leaf 3 is reserved, the last")
+    desk.store("the last leaf is marked in the stored key")
+    desk.issue("leaf 3 signs")
+    desk.restart("the last leaf has signed: the mark is read, and cleared")
+    desk.spent(ORDER, R)
+    desk.store("the spent key is stored")
+    for order in desk.orders:
+        desk.verify(f"the order of leaf {int.from_bytes(order[1][:4], 'big')}", order)
+    return desk.vectors
+
+
+def gate_keys():
+    for p in (GATE, GATE_2):
+        for note, key in [
+            ("a fresh key of the gate profile", SigningKey(p, SEED, SECRET, 0, 0)),
+            ("its first leaf is reserved", reserved_key(p, SEED, SECRET, 0)),
+            ("its last leaf is reserved", reserved_key(p, SEED, SECRET, 1023)),
+        ]:
+            made, frame = write_key_vector(note, key, frame_length(p))
+            yield held(0, made)
+            yield held(0, read_key_vector(note, frame)[0])
+
+
+def keys_family():
+    for wanted in stored_keys.WANTED:
+        yield counter_vector(*wanted)
+    yield from slices_written()
+    yield from gate_keys()
+    yield from frames_read()
+    for edition in EDITIONS:
+        yield from cuts_story(Profile(*SHAPE, 2, edition))
