@@ -68,9 +68,9 @@ static void our_recover(void)
 
 static void our_sign(void)
 {
-    uint32_t next = in.leaf;
-    ours.refused = zarosnik_sign(PROFILE, in.public_seed, in.secret_seed, &next, in.r, in.message, in.message_len,
-                                 TABLE, ours.signature, sizeof ours.signature);
+    uint32_t mark = 1; /* the leaf is reserved each time */
+    ours.refused = zarosnik_sign(PROFILE, in.public_seed, in.secret_seed, in.leaf + 1, &mark, in.r, in.message,
+                                 in.message_len, TABLE, ours.signature, sizeof ours.signature);
 }
 
 static void our_verify(void)

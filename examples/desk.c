@@ -1,6 +1,7 @@
 /*
- * The whole way of an order, at the gate profile in edition 2: a desk signs it and writes its sheet; a cabinet reads the
- * sheet and checks the order. The sheet then goes to the file named, which sheet.c takes.
+ * The whole way of an order, at the gate profile in edition 2: a desk reserves a leaf, signs the order with it and
+ * writes its sheet; a cabinet reads the sheet and checks the order. The sheet then goes to the file named, which sheet.c
+ * takes.
  *
  *     desk FILE
  *
@@ -8,7 +9,7 @@
  * 100 where the file cannot be.
  *
  * Key and cabinet start fresh with each run, and seeds and R are fixed, so that every run writes the same sheet. A desk
- * draws its secret seed once and R for each order at random, and keeps its next leaf in storage.
+ * draws its secret seed once and R for each order at random, and keeps its key in storage, as store.c does.
  */
 #include <inttypes.h>
 #include <stdio.h>
@@ -34,7 +35,25 @@ static void tell(const char *name, uint32_t outcome)
     printf("%s: %" PRIu32 " (%s)", name, outcome, zarosnik_outcome_text(outcome));
 }
 
-/* The desk signs the order and writes its sheet. */
+/* The desk reserves a leaf and writes its key as it is to be stored. */
+static uint32_t reserve_leaf(struct zarosnik_key *key)
+{
+    uint8_t frame[ZAROSNIK_KEY_BYTES_MAX];
+    size_t frame_len;
+    uint32_t outcome = zarosnik_key_reserve(key);
+    tell("reserve", outcome);
+    printf(", next leaf %" PRIu32 "\n", key->next_leaf);
+    if (outcome != ZAROSNIK_GRANTED) {
+        return outcome;
+    }
+    outcome = zarosnik_key_write_key(key, frame, sizeof frame, &frame_len);
+    tell("write key", outcome);
+    printf(", %zu bytes\n", frame_len);
+    /* Here a desk stores the frame, and goes on only when that has ended. */
+    return outcome;
+}
+
+/* The desk signs the order with the leaf reserved and writes its sheet. */
 static uint32_t write_order(struct zarosnik_key *key, uint8_t sheet[ZAROSNIK_SHEET_BYTES_MAX], size_t *sheet_len)
 {
     const uint8_t *text = (const uint8_t *)order;
@@ -42,11 +61,10 @@ static uint32_t write_order(struct zarosnik_key *key, uint8_t sheet[ZAROSNIK_SHE
     uint32_t outcome = zarosnik_key_sign(key, r, text, strlen(order), table, ZAROSNIK_GATE_TABLE_WORDS, signature,
                                          sizeof signature);
     tell("sign", outcome);
-    printf(", next leaf %" PRIu32 "\n", key->next_leaf);
+    printf(", %zu bytes\n", sizeof signature);
     if (outcome != ZAROSNIK_GRANTED) {
         return outcome;
     }
-    /* Here a desk stores key->next_leaf: only then may a signature leave it, also as a sheet. */
     outcome = zarosnik_profile_write_sheet(key->profile, signature, sizeof signature, text, strlen(order), sheet,
                                            ZAROSNIK_SHEET_BYTES_MAX, sheet_len);
     tell("write sheet", outcome);
@@ -97,6 +115,10 @@ int main(int argc, char **argv)
     struct zarosnik_key key = zarosnik_fresh_key(zarosnik_gate_profile_2, public_seed, secret_seed);
     struct zarosnik_tree_root root;
     uint32_t outcome = zarosnik_key_root(&key, &root);
+    if (outcome != ZAROSNIK_GRANTED) {
+        return (int)outcome;
+    }
+    outcome = reserve_leaf(&key);
     if (outcome != ZAROSNIK_GRANTED) {
         return (int)outcome;
     }

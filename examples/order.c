@@ -4,7 +4,7 @@
  * with what is expected; the exit status is 0 where all agree.
  *
  * Seeds and R are fixed here so that every run prints the same. A desk draws its secret seed once and R for each order
- * at random.
+ * at random, and stores its key between reserving and signing, as store.c does.
  */
 #include <inttypes.h>
 #include <stdio.h>
@@ -48,16 +48,28 @@ static void expect(const char *name, uint32_t found, uint32_t expected)
     }
 }
 
-/* A desk signs a text; the outcome and the next leaf are printed and compared. */
+/* A desk reserves its next leaf; the outcome, the next leaf and the mark are printed and compared. */
+static void reserve(const char *name, struct zarosnik_key *key, uint32_t outcome, uint32_t next_after)
+{
+    uint32_t found = zarosnik_key_reserve(key);
+    printf("%s: %" PRIu32 " (%s), next leaf %" PRIu32 ", mark %" PRIu32 "\n", name, found, zarosnik_outcome_text(found),
+           key->next_leaf, key->mark);
+    expect("outcome of reserve", found, outcome);
+    expect("next leaf after reserve", key->next_leaf, next_after);
+    expect("mark after reserve", key->mark, 1);
+}
+
+/* A desk signs a text with the leaf reserved; the outcome, the next leaf and the mark are printed and compared. */
 static void sign(const char *name, struct zarosnik_key *key, struct zarosnik_randomizer fresh, const char *text,
-                 uint8_t signature[ZAROSNIK_GATE_SIGNATURE_BYTES], uint32_t next_after)
+                 uint8_t signature[ZAROSNIK_GATE_SIGNATURE_BYTES], uint32_t outcome, uint32_t next_after)
 {
     uint32_t found = zarosnik_key_sign(key, fresh, (const uint8_t *)text, strlen(text), table,
                                        ZAROSNIK_GATE_TABLE_WORDS, signature, ZAROSNIK_GATE_SIGNATURE_BYTES);
-    printf("%s: %" PRIu32 " (%s), %u bytes, next leaf %" PRIu32 "\n", name, found, zarosnik_outcome_text(found),
-           ZAROSNIK_GATE_SIGNATURE_BYTES, key->next_leaf);
-    expect("outcome of sign", found, ZAROSNIK_GRANTED);
-    expect("next leaf", key->next_leaf, next_after);
+    printf("%s: %" PRIu32 " (%s), next leaf %" PRIu32 ", mark %" PRIu32 "\n", name, found, zarosnik_outcome_text(found),
+           key->next_leaf, key->mark);
+    expect("outcome of sign", found, outcome);
+    expect("next leaf after sign", key->next_leaf, next_after);
+    expect("mark after sign", key->mark, 0);
 }
 
 /* A cabinet checks a text with a signature; the verdict, the steps and the cabinet's state are printed and compared. */
@@ -78,12 +90,13 @@ static void check(const char *name, struct zarosnik_cabinet *cabinet, const char
 /* Desk and cabinet of edition 1, which have signed and taken the leaves 0 to 6, go on with what they have stored. */
 static void go_on_in_edition_1(void)
 {
-    struct zarosnik_key key = {zarosnik_gate_profile_1, older_seed, older_secret, 7};
+    struct zarosnik_key key = {zarosnik_gate_profile_1, older_seed, older_secret, 7, 0};
     struct zarosnik_tree_root root;
     expect("outcome of the older root", zarosnik_key_root(&key, &root), ZAROSNIK_GRANTED);
     struct zarosnik_cabinet cabinet = {zarosnik_gate_profile_1, older_seed, root, 6, 0x7F};
     uint8_t signature[ZAROSNIK_GATE_SIGNATURE_BYTES];
-    sign("sign in edition 1", &key, r, order, signature, 8);
+    reserve("reserve in edition 1", &key, ZAROSNIK_GRANTED, 8);
+    sign("sign in edition 1", &key, r, order, signature, ZAROSNIK_GRANTED, 8);
     check("older cabinet", &cabinet, order, signature, ZAROSNIK_GRANTED, ZAROSNIK_GATE_STEPS, 7, 0xFF);
 }
 
@@ -101,11 +114,16 @@ int main(void)
     expect("outcome of root", made_root, ZAROSNIK_GRANTED);
     expect("differing root", memcmp(root.bytes, expected_root.bytes, sizeof root.bytes) != 0, 0);
 
-    /* The desk signs two orders, with the leaves 0 and 1. It stores key.next_leaf before it hands a signature out. */
+    /* The desk signs two orders, with the leaves 0 and 1. Where reserve is granted, it stores the key before it signs.
+     * A leaf is reserved for one signature: none is reserved over it, and no second one is made with it. */
     uint8_t signature[ZAROSNIK_GATE_SIGNATURE_BYTES];
     uint8_t later_signature[ZAROSNIK_GATE_SIGNATURE_BYTES];
-    sign("sign", &key, r, order, signature, 1);
-    sign("sign the later", &key, later_r, later_order, later_signature, 2);
+    reserve("reserve", &key, ZAROSNIK_GRANTED, 1);
+    reserve("reserve again", &key, ZAROSNIK_REFUSED_MARK_STANDS, 1);
+    sign("sign", &key, r, order, signature, ZAROSNIK_GRANTED, 1);
+    sign("sign again", &key, later_r, later_order, later_signature, ZAROSNIK_REFUSED_NO_MARK, 1);
+    reserve("reserve for the later", &key, ZAROSNIK_GRANTED, 2);
+    sign("sign the later", &key, later_r, later_order, later_signature, ZAROSNIK_GRANTED, 2);
 
     /* The later order comes by radio, before the other by cable, and both are taken, each once. Mark 0 is that of the
      * highest leaf, 1, and mark 1 that of the leaf below it. The cabinet stores highest_leaf and marks, as one write,
