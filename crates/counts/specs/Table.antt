@@ -35,7 +35,7 @@ withTable p work = rows (p .width) (p .sum) (p .chains + 1) ++ drop (tableLength
 unfoldable pub countCauses : Shape → (words : ℕ) → List (Bool × ℕ)
 countCauses p words = shapeCauses p ++ ((ltb words (tableLength p), 5) ∷ [])
 
--- "profile checks, 5" (Reveal, Recover, Issue, Check)
+-- "profile checks, 5" (Reveal, Recover, Sign, Check)
 unfoldable pub tableCauses : Profile → (words : ℕ) → List (Bool × ℕ)
 tableCauses p words = profileCauses p ++ ((ltb words (tableLength (p .shape)), 5) ∷ [])
 
