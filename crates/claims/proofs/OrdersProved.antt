@@ -39,12 +39,14 @@ in-time-pairs (x ∷ xs) t = (
     by i h (inr far) = absurd (omega (arith, t (suc i) 0 (suc-le-suc h) (omega arith) far))
 
 module _ (p : Profile) (seed secret : List ℕ) where
+  abbrev root : List ℕ
+  root = rootOf (firstDomain seed) p secret
+
   abbrev cabinet : Verifier
-  cabinet = freshVerifier p seed (rootOf (firstDomain seed) p secret)
+  cabinet = freshVerifier p seed root
 
   fresh-accepts : (all : List Issued) → Each (MadeOwn p seed secret) all → Pairs Follows all → (checks : List Check) → AllAccepted (p .shape) cabinet all checks
   fresh-accepts all made follow checks =
-      let root = rootOf (firstDomain seed) p secret in
       all-accepted p seed secret checks cabinet all (fresh-cabinet p seed root) made (each-always (λ one. Free cabinet (leafOf one)) (λ one. fresh-passes-none p seed root (leafOf one)) all) follow
 
   -- signatures that a source of leaves that rise has issued
