@@ -4,8 +4,8 @@ use mathlib.Core.List.{List, _++_, append-nil}
 use Prim.Native.Nat.{ℕ, _+_, _*_, _<_, _≤_}
 use native.Mathlib.Omega.{arith}
 use lib.ListN.{length, take, length-append}
-use Rattle.words.specs.Joined.{joinTo}
-use Rattle.words.proofs.Joins.{joinTo-behind, length-joinTo}
+use Rattle.lists.specs.Joined.{joinTo}
+use Rattle.lists.proofs.Joins.{joinTo-behind, length-joinTo}
 use Rattle.sha256.specs.Digest.{wordBytes}
 use Rattle.sha256.specs.Running.{addState, finished, hashed}
 use Rattle.sha256.specs.declared.running.Hash.{Hash}

@@ -3,8 +3,8 @@ use mathlib.Core.Path.{_≡_, ap, _∙_}
 use mathlib.Core.List.{List, [], append-nil}
 use Prim.Native.Nat.{ℕ, _-_, _*_, _<_, _≤_}
 use lib.ListN.{length, getD, take, drop}
-use Rattle.words.specs.Joined.{joinTo}
-use Rattle.words.proofs.Joins.{joinTo-cong, length-joinTo, part-joinTo}
+use Rattle.lists.specs.Joined.{joinTo}
+use Rattle.lists.proofs.Joins.{joinTo-cong, length-joinTo, part-joinTo}
 use Rattle.tweak.specs.declared.Domain.{Domain}
 use Rattle.chains.specs.Chains.{walked, chainValue}
 use Rattle.chains.specs.Leaves.{revealed, keyOfTops, leafKey, recovered}

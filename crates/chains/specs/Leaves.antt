@@ -2,7 +2,7 @@
 use mathlib.Core.List.{List}
 use Prim.Native.Nat.{ℕ, _-_, _*_}
 use lib.ListN.{getD, take, drop}
-use Rattle.words.specs.Joined.{joinTo}
+use Rattle.lists.specs.Joined.{joinTo}
 use Rattle.profile.specs.declared.Profile.{Profile}
 use Rattle.tweak.specs.Tweak.{leafKeyAddress, tweakedHash}
 use Rattle.tweak.specs.declared.Domain.{Domain}

@@ -15,8 +15,8 @@ use tweak::absorb;
 use tweak::begin;
 use tweak::end;
 use tweak::leaf_key_address;
-use words::bytes::read_16;
-use words::bytes::write_16;
+use octets::read_16;
+use octets::write_16;
 
 // The leaf key. Each top goes into the hash as it is made.
 pub fn key_of_leaf(h: Hasher, leaf: Leaf, secret: &[u8; 16], width: u32, chains: u32) -> [u8; 16]

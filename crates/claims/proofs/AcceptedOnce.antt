@@ -7,7 +7,7 @@ use borrow.Author.Tests.{eqb-true}
 use lib.Dec.{eqb}
 use lib.ListN.{length}
 use Rattle.refusal.proofs.Causes.{none-here, none-of-append}
-use Rattle.words.proofs.Pairs.{Each, each-imply, Pairs, Apart, distinct-pairs}
+use Rattle.lists.proofs.Pairs.{Each, each-imply, Pairs, Apart, distinct-pairs}
 use Rattle.profile.specs.Checks.{leafBeyond}
 use Rattle.counts.specs.Counts.{count}
 use Rattle.counts.specs.Table.{tableCauses}

@@ -3,7 +3,7 @@ use mathlib.Core.Path.{_≡_}
 use mathlib.Core.List.{List, [], _∷_}
 use Prim.Native.Nat.{ℕ, _+_, _<_}
 use borrow.Author.Tests.{ne-eqb}
-use Rattle.words.proofs.Pairs.{Each, each-with, Pairs, Apart}
+use Rattle.lists.proofs.Pairs.{Each, each-with, Pairs, Apart}
 use Rattle.profile.specs.declared.Profile.{Profile}
 use Rattle.tweak.specs.Tweak.{firstDomain}
 use Rattle.tree.specs.Tree.{rootOf}

@@ -7,8 +7,8 @@ use native.Mathlib.Nat.{eq-or-lt-of-le, le-of-suc-le-suc, le-refl, lt-trans}
 use native.Mathlib.Omega.{arith}
 use lib.ListN.{length, getD, length-append, length-map, List·getD-map, List·getD-append}
 use lib.Seq.{getD-at}
-use Rattle.words.specs.Distinct.{Distinct}
-use Rattle.words.proofs.DistinctLaws.{pigeonhole, distinct-map}
+use Rattle.lists.specs.Distinct.{Distinct}
+use Rattle.lists.proofs.DistinctLaws.{pigeonhole, distinct-map}
 use Rattle.profile.specs.declared.Shape.{Shape}
 use Rattle.counts.specs.Counts.{count}
 use Rattle.codewords.specs.Codeword.{rank, AtMost}

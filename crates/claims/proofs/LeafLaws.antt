@@ -8,7 +8,7 @@ use native.Mathlib.Nat.{le-refl}
 use native.Mathlib.Omega.{arith}
 use borrow.Author.Tests.{lt-leb}
 use lib.Dec.{eqb}
-use Rattle.words.proofs.Tests.{neither}
+use Rattle.lists.proofs.Tests.{neither}
 use Rattle.profile.specs.Checks.{leafBeyond}
 use Rattle.profile.specs.declared.Profile.{Profile}
 use Rattle.signing_key.specs.Counter.{freshCounter, marked, reserved, cleared, reserveCode, counterAfter}

@@ -7,8 +7,8 @@ use Prim.Native.Nat.{ℕ, suc, _+_, _<_, _≤_, suc-le-suc}
 use native.Mathlib.Nat.{le-of-suc-le-suc}
 use native.Mathlib.Omega.{arith}
 use lib.ListN.{length, getD}
-use Rattle.words.proofs.Numbers.{lt-or-le}
-use Rattle.words.proofs.Pairs.{Each, each-always, each-permuted, each-place, Pairs, pairs-imply, pairs-with, pairs-permuted, Apart, distinct-pairs}
+use Rattle.lists.proofs.Numbers.{lt-or-le}
+use Rattle.lists.proofs.Pairs.{Each, each-always, each-permuted, each-place, Pairs, pairs-imply, pairs-with, pairs-permuted, Apart, distinct-pairs}
 use Rattle.profile.specs.declared.Profile.{Profile}
 use Rattle.tweak.specs.Tweak.{firstDomain}
 use Rattle.tree.specs.Tree.{rootOf}

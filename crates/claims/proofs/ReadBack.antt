@@ -4,8 +4,8 @@ use mathlib.Core.List.{List, _++_, append-assoc}
 use Prim.Native.Nat.{ℕ, _+_, _*_, _^_, _<_}
 use lib.ListN.{length, take, drop, length-append}
 use lib.Seq.{take-at, drop-at}
-use Rattle.words.specs.Bytes.{fromBytes, toBytes}
-use Rattle.words.proofs.ByteLaws.{length-toBytes, from-to-lt}
+use Rattle.octets.specs.Bytes.{fromBytes, toBytes}
+use Rattle.octets.proofs.ByteLaws.{length-toBytes, from-to-lt}
 use Rattle.profile.specs.declared.Profile.{Profile}
 use Rattle.tweak.specs.declared.Domain.{Domain}
 use Rattle.chains.specs.Leaves.{leafKeyOf}

@@ -3,7 +3,7 @@ use mathlib.Core.List.{List, [], _∷_, _++_}
 use Prim.Native.Nat.{ℕ, _+_, _<_, _≤_}
 use native.Mathlib.Nat.{le-refl}
 use native.Mathlib.Omega.{arith}
-use Rattle.words.proofs.Pairs.{Each, each-imply, Pairs, pairs-imply, Apart}
+use Rattle.lists.proofs.Pairs.{Each, each-imply, Pairs, pairs-imply, Apart}
 use Rattle.claims.specs.Orders.{givenAlong, Along}
 
 module _ {Item : Type 0} (leafOf : Item → ℕ) (Good : Item → Type 0) where

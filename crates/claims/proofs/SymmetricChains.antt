@@ -7,7 +7,7 @@ use Prim.Native.Nat.{ℕ, zero, suc, _+_, _-_, _*_, _/_, _≤_, _<_, min, max}
 use native.Mathlib.Nat.{le-refl, le-of-lt, suc-mul}
 use native.Mathlib.Omega.{arith}
 use lib.ListN.{length, getD}
-use Rattle.words.proofs.Numbers.{lt-or-le}
+use Rattle.lists.proofs.Numbers.{lt-or-le}
 use Rattle.codewords.specs.Codeword.{total, IsRow, IsCodeword, AtMost}
 
 -- the last place of the chain with a name; the first is 0

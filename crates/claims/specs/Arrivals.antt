@@ -4,7 +4,7 @@ use mathlib.Core.List.{List, [], _∷_, map, List·Permᴰ}
 use Prim.Native.Nat.{ℕ, _+_, _≤_, _<_}
 use lib.Dec.{eqb}
 use lib.ListN.{length, getD}
-use Rattle.words.specs.Distinct.{Distinct}
+use Rattle.lists.specs.Distinct.{Distinct}
 use Rattle.profile.specs.declared.Profile.{Profile}
 use Rattle.tweak.specs.Tweak.{firstDomain}
 use Rattle.tree.specs.Tree.{rootOf}

@@ -5,7 +5,7 @@ use mathlib.Core.List.{List, _++_}
 use Prim.Native.Nat.{ℕ, _^_, _≤_, _<_}
 use lib.ListN.{length, take}
 use Rattle.refusal.specs.Code.{firstCause}
-use Rattle.words.specs.Bytes.{fromBytes}
+use Rattle.octets.specs.Bytes.{fromBytes}
 use Rattle.profile.specs.Checks.{InLimits}
 use Rattle.profile.specs.declared.Shape.{Shape}
 use Rattle.profile.specs.declared.Profile.{Profile}

@@ -4,8 +4,7 @@ use mathlib.Core.Logic.{_↔_}
 use mathlib.Core.List.{List, _++_}
 use Prim.Native.Nat.{ℕ}
 use Rattle.refusal.specs.Code.{firstCause}
-use Rattle.words.specs.Bytes.{toBytes}
-use Rattle.words.specs.Powers.{firstBits}
+use Rattle.octets.specs.Bytes.{toBytes, firstBits}
 use Rattle.sha256.specs.Digest as sha256
 use Rattle.profile.specs.declared.Profile.{Profile}
 use Rattle.counts.specs.Counts.{count}

@@ -1,7 +1,7 @@
 -- The published example of SHA-256.
 use mathlib.Core.Path.{_≡_}
 use mathlib.Core.List.{[], _∷_}
-use Rattle.words.specs.Bytes.{toBytes}
+use Rattle.octets.specs.Bytes.{toBytes}
 use Rattle.sha256.specs.Digest.{digest}
 
 -- FIPS 180-4's example: the message "abc"

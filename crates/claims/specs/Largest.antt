@@ -3,7 +3,7 @@ use mathlib.Core.Path.{_≡_}
 use mathlib.Core.List.{List, [], _∷_, _++_}
 use Prim.Native.Nat.{ℕ, zero, suc, _-_, _*_, _/_, _≤_, _<_}
 use lib.ListN.{length, getD}
-use Rattle.words.specs.Distinct.{Distinct}
+use Rattle.lists.specs.Distinct.{Distinct}
 use Rattle.profile.specs.declared.Shape.{Shape}
 use Rattle.counts.specs.Counts.{count}
 use Rattle.codewords.specs.Codeword.{IsRow, AtMost}

@@ -7,7 +7,7 @@ use native.Mathlib.Nat.{zero-add, add-zero, not-suc-le-zero, le-of-suc-le-suc}
 use native.Mathlib.Omega.{arith}
 use borrow.Author.Tests.{lt-ltb, le-ltb}
 use lib.ListN.{length, getD}
-use Rattle.words.proofs.Numbers.{lt-or-le}
+use Rattle.lists.proofs.Numbers.{lt-or-le}
 use Rattle.counts.specs.Counts.{sumTo, share, D}
 use Rattle.counts.proofs.CountLaws.{share-low, share-high, sum-term}
 use Rattle.codewords.specs.Codeword.{Placed, place, codeword, rank, total, IsCodeword}

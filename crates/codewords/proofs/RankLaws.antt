@@ -15,8 +15,8 @@ use Rattle.refusal.specs.declared.Refusal.{Refusal}
 use Rattle.refusal.specs.declared.Outcome.{Outcome}
 use Rattle.refusal.specs.declared.Outcome.the-variants.{Granted, Refused}
 use Rattle.refusal.proofs.Causes.{Avoids, none-here, refused-number, code-kept}
-use Rattle.words.specs.Number.{value, toWords}
-use Rattle.words.proofs.NumberLaws.{value-toWords-5}
+use Rattle.numbers.specs.Number.{value, toWords}
+use Rattle.numbers.proofs.NumberLaws.{value-toWords-5}
 use Rattle.profile.specs.declared.Shape.{Shape}
 use Rattle.counts.specs.Counts.{sumTo, share, D}
 use Rattle.counts.specs.Table.{rows, withTable, countCauses, leavesTable, tableAfter}

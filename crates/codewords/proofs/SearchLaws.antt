@@ -11,9 +11,9 @@ use borrow.Author.Tests.{ltb-true, ltb-false}
 use lib.Dec.{ltb}
 use lib.ListN.{length, take, set}
 use lib.Seq.{take-suc-set}
-use Rattle.words.specs.Number.{value, toWords}
-use Rattle.words.proofs.NumberLaws.{value-toWords-5}
-use Rattle.words.proofs.Numbers.{lt-or-le}
+use Rattle.numbers.specs.Number.{value, toWords}
+use Rattle.numbers.proofs.NumberLaws.{value-toWords-5}
+use Rattle.lists.proofs.Numbers.{lt-or-le}
 use Rattle.counts.specs.Counts.{sumTo, share, D}
 use Rattle.counts.proofs.CountLaws.{sumTo-mono, share-low, share-high, D-small}
 use Rattle.codewords.specs.Codeword.{place, codeword}

@@ -7,7 +7,7 @@ use lib.Dec.{ltb, leb, eqb}
 use lib.ListN.{length, drop}
 use Rattle.refusal.specs.Code.{outcomeCode, firstCause}
 use Rattle.refusal.specs.declared.Outcome.{Outcome}
-use Rattle.words.specs.Number.{toWords}
+use Rattle.numbers.specs.Number.{toWords}
 use Rattle.profile.specs.declared.Shape.{Shape}
 use Rattle.counts.specs.Counts.{count}
 use Rattle.counts.specs.Table.{countCauses, tableAfter}

@@ -5,7 +5,7 @@ ghost use Prim.Native.Nat.{_+_, _-_, _*_, _^_, _≤_, _<_};
 ghost use lib.Dec.{eqb};
 ghost use lib.ListN.{length, take, drop};
 ghost use Rattle.refusal.specs.Code.{outcomeCode, thenFirst};
-ghost use Rattle.words.specs.Number.{value, toWords};
+ghost use Rattle.numbers.specs.Number.{value, toWords};
 ghost use Rattle.counts.specs.Counts.{sumTo};
 ghost use Rattle.counts.specs.Table.{rows};
 ghost use Rattle.codewords.specs.Codeword.{rank as rankOf, total, IsCodeword};
@@ -16,8 +16,7 @@ use counts::table::fill_past;
 use profile::Shape;
 use refusal::Outcome;
 use refusal::Refusal;
-use refusal::then;
-use words::number::add;
+use numbers::number::add;
 
 // What Gather answers. Refused, the number is zero.
 pub struct Ranked {
@@ -63,9 +62,10 @@ fn rank_outcome(checked: Outcome, p: Shape, row: &[u8]) -> Outcome
     let chains = p.chains as usize;
     let width = p.width as usize;
     let sum = p.sum as usize;
-    let long = then(checked, row.len() != chains, Refusal::CodewordLength);
-    let measured = then(long, some_above(width, row), Refusal::DigitTooLarge);
-    then(measured, sum_differs(sum, row), Refusal::CodewordSum)
+    checked
+        .then(row.len() != chains, Refusal::CodewordLength)
+        .then(some_above(width, row), Refusal::DigitTooLarge)
+        .then(sum_differs(sum, row), Refusal::CodewordSum)
 }
 
 // The number with the shares of the lengths below a digit added: those counts are skipped. The share of the length j is the

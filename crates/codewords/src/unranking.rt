@@ -4,7 +4,7 @@ ghost use mathlib.Core.List.{_++_};
 ghost use Prim.Native.Nat.{_≤_, _<_};
 ghost use lib.ListN.{length, drop};
 ghost use Rattle.refusal.specs.Code.{outcomeCode};
-ghost use Rattle.words.specs.Number.{value};
+ghost use Rattle.numbers.specs.Number.{value};
 ghost use Rattle.profile.specs.Checks.{InLimits};
 ghost use Rattle.counts.specs.Counts.{count as countOf};
 ghost use Rattle.counts.specs.Table.{Holds};
@@ -16,9 +16,8 @@ use counts::table::fill_past;
 use profile::Shape;
 use refusal::Outcome;
 use refusal::Refusal;
-use refusal::then;
-use words::number::less;
-use words::number::subtract;
+use numbers::number::less;
+use numbers::number::subtract;
 
 // Writes the codeword of a number below the count, with the table that holds its counts. At each place the skipped counts
 // are taken off one by one, until a share holds the number; then the sum still to be spread falls by that length.
@@ -67,7 +66,7 @@ pub fn place_past(
     requires { ⌜ (outcomeCode early ≡ 0 → Placeable p count (now table) (now row)) ⌝ }
     ensures { λ r. ⌜ PlacesPast (outcomeCode early) p (value number) (now (row .entry)) (now (row .exit)) r ⌝ }
 {
-    let outcome = then(early, !less(number, count), Refusal::NumberTooLarge);
+    let outcome = early.then(!less(number, count), Refusal::NumberTooLarge);
     match outcome {
         Outcome::Refused(_) => outcome,
         Outcome::Granted => {
@@ -83,7 +82,7 @@ pub fn unrank(p: Shape, number: [u32; 5], table: &mut [u32], row: &mut [u8]) -> 
 {
     let chains = p.chains as usize;
     let checked = count_outcome(p, table.len());
-    let early = then(checked, row.len() < chains, Refusal::OutputTooShort);
+    let early = checked.then(row.len() < chains, Refusal::OutputTooShort);
     let count = fill_past(early, p, table);
     place_past(early, p, number, count, table, row)
 }

@@ -9,8 +9,8 @@ use lib.ListN.{length, take, drop}
 use Rattle.refusal.specs.Code.{outcomeCode, firstCause}
 use Rattle.refusal.specs.declared.Outcome.{Outcome}
 use Rattle.refusal.proofs.Causes.{Avoids, kind-then}
-use Rattle.words.specs.Number.{value, toWords}
-use Rattle.words.proofs.NumberLaws.{value-toWords-5}
+use Rattle.numbers.specs.Number.{value, toWords}
+use Rattle.numbers.proofs.NumberLaws.{value-toWords-5}
 use Rattle.profile.specs.Checks.{InLimits}
 use Rattle.profile.specs.declared.Shape.{Shape}
 use Rattle.counts.specs.Counts.{count, CountsFit}

@@ -5,8 +5,8 @@ use Prim.Native.Nat.{ℕ, suc, _+_, _-_, _*_, _^_, _<_, _≤_}
 use native.Mathlib.Nat.{suc-mul, mul-le-mul}
 use native.Mathlib.Omega.{arith}
 use lib.ListN.{take, drop}
-use Rattle.words.specs.Number.{value}
-use Rattle.words.proofs.NumberLaws.{value-toWords-5}
+use Rattle.numbers.specs.Number.{value}
+use Rattle.numbers.proofs.NumberLaws.{value-toWords-5}
 use Rattle.counts.specs.Counts.{share, D}
 use Rattle.counts.specs.Table.{rows}
 use Rattle.counts.proofs.CountLaws.{share-low, share-high, D-window, D-small, D-sum-small}

@@ -10,7 +10,7 @@ use borrow.Author.Tests.{ltb-false, leb-true, leb-false, lt-ltb, le-ltb}
 use lib.Dec.{ltb, leb, eqb}
 use Rattle.refusal.specs.Code.{firstCause}
 use Rattle.refusal.proofs.Causes.{Avoids, Numbered, avoids-other, none-here, none-then, none-of-append}
-use Rattle.words.proofs.Numbers.{lt-or-le}
+use Rattle.lists.proofs.Numbers.{lt-or-le}
 use Rattle.profile.specs.Checks.{shapeCauses, InLimits, profileCauses}
 use Rattle.profile.specs.declared.Shape.{Shape}
 use Rattle.profile.specs.declared.Profile.{Profile}

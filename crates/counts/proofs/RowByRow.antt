@@ -8,7 +8,7 @@ use native.Mathlib.Omega.{arith}
 use lib.Dec.{lit≤}
 use lib.ListN.{length, getD, drop, replicate, length-replicate, getD-replicate, List·getD-append}
 use lib.Seq.{getD-drop, getD-append-add}
-use Rattle.words.proofs.Numbers.{lt-or-le}
+use Rattle.lists.proofs.Numbers.{lt-or-le}
 use Rattle.counts.specs.Counts.{share, D}
 use Rattle.counts.proofs.CountLaws.{D-window, share-low, share-high, share-before, share-start}
 

@@ -8,8 +8,8 @@ use native.Mathlib.Numerals.{add-one}
 use native.Mathlib.Omega.{arith}
 use lib.ListN.{length, take, drop, length-append, length-take, take-append-drop}
 use lib.Seq.{take-at, drop-at, drop-append-add, drop-drop, take-length, paste}
-use Rattle.words.specs.Number.{toWords}
-use Rattle.words.proofs.NumberLaws.{length-toWords}
+use Rattle.numbers.specs.Number.{toWords}
+use Rattle.numbers.proofs.NumberLaws.{length-toWords}
 use Rattle.counts.specs.Counts.{D}
 use Rattle.counts.specs.Table.{cells, rows}
 

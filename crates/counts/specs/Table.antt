@@ -6,7 +6,7 @@ use Prim.Native.Nat.{ℕ, zero, suc, _+_, _*_}
 use lib.Dec.{ltb, eqb}
 use lib.ListN.{length, take, drop}
 use Rattle.refusal.specs.Code.{outcomeCode, firstCause}
-use Rattle.words.specs.Number.{toWords}
+use Rattle.numbers.specs.Number.{toWords}
 use Rattle.profile.specs.Checks.{shapeCauses, profileCauses}
 use Rattle.profile.specs.declared.Shape.{Shape}
 use Rattle.profile.specs.declared.Profile.{Profile}

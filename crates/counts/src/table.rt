@@ -5,8 +5,8 @@ ghost use Prim.Native.Nat.{ℕ, _+_, _*_, _≤_};
 ghost use lib.Dec.{ltb};
 ghost use lib.ListN.{length, take, drop};
 ghost use Rattle.refusal.specs.Code.{outcomeCode, firstCause};
-ghost use Rattle.words.specs.Limbs.{number};
-ghost use Rattle.words.specs.Number.{toWords};
+ghost use Rattle.numbers.specs.Limbs.{number};
+ghost use Rattle.numbers.specs.Number.{toWords};
 ghost use Rattle.profile.specs.Checks.{InLimits};
 ghost use Rattle.counts.specs.Counts.{share, D, count};
 ghost use Rattle.counts.specs.Table.{rows, tableLength, withTable, countCauses, tableCauses, Counts};
@@ -19,12 +19,11 @@ use profile::check_profile;
 use profile::check_shape;
 use refusal::Outcome;
 use refusal::Refusal;
-use refusal::then;
-use words::limbs::Limbs;
-use words::limbs::add;
-use words::limbs::from_words;
-use words::limbs::subtract;
-use words::limbs::to_words;
+use numbers::limbs::Limbs;
+use numbers::limbs::add;
+use numbers::limbs::from_words;
+use numbers::limbs::subtract;
+use numbers::limbs::to_words;
 
 // What Count answers. Refused, the count is zero.
 pub struct Counted {
@@ -139,7 +138,7 @@ pub fn no_room(p: Shape, words: usize) -> bool
 pub fn count_outcome(p: Shape, words: usize) -> Outcome
     ensures { λ r. ⌜ outcomeCode r ≡ firstCause (countCauses p words) ⌝ }
 {
-    then(check_shape(p), no_room(p, words), Refusal::TableTooShort)
+    check_shape(p).then(no_room(p, words), Refusal::TableTooShort)
 }
 
 // The causes of a profile, with room for its table.
@@ -147,11 +146,7 @@ pub fn table_outcome(p: Profile, words: usize) -> Outcome
     ensures { λ r. ⌜ outcomeCode r ≡ firstCause (tableCauses p words) ⌝ }
 {
     let shape = p.shape;
-    then(
-        check_profile(p),
-        no_room(shape, words),
-        Refusal::TableTooShort,
-    )
+    check_profile(p).then(no_room(shape, words), Refusal::TableTooShort)
 }
 
 // Count: fills the work slice with the table and gives the number of codewords.

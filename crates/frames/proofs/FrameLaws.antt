@@ -8,7 +8,7 @@ use borrow.Author.Tests.{eq-eqb, eqb-true}
 use lib.Dec.{eqb}
 use lib.ListN.{length, drop, length-append, length-drop}
 use lib.Seq.{drop-at, drop-drop}
-use Rattle.words.proofs.Lists.{Below, below-append, below-behind}
+use Rattle.lists.proofs.Lists.{Below, below-append, below-behind}
 use Rattle.profile.specs.Checks.{outside}
 use Rattle.profile.proofs.Limits.{inside, not-outside}
 use Rattle.hex.specs.Hex.{Line, wrong, right, lineOf, readLine}

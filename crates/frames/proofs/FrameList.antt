@@ -6,10 +6,10 @@ use native.Mathlib.Omega.{arith}
 use lib.Dec.{lit<}
 use lib.ListN.{length, take, drop, length-append, length-drop}
 use lib.Seq.{length-take-le}
-use Rattle.words.specs.Bytes.{toBytes}
-use Rattle.words.proofs.ByteLaws.{toBytes-lt}
-use Rattle.words.proofs.Lists.{Below, below-by-test, below-cons, below-append}
-use Rattle.words.proofs.Pairs.{Each, each-append}
+use Rattle.octets.specs.Bytes.{toBytes}
+use Rattle.octets.proofs.ByteLaws.{toBytes-lt}
+use Rattle.lists.proofs.Lists.{Below, below-by-test, below-cons, below-append}
+use Rattle.lists.proofs.Pairs.{Each, each-append}
 use Rattle.profile.specs.declared.Profile.{Profile}
 use Rattle.message.specs.Message.{signatureLength}
 use Rattle.frames.specs.Frames.{Within, Frame, sized, firstFrame, editionByte, profileFrame, leafFrame, randomizerFrame, numbered, frames}

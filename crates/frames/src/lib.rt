@@ -4,7 +4,7 @@ ghost use mathlib.Core.Path.{_≡_};
 ghost use mathlib.Core.List.{[], _∷_, _++_};
 ghost use Prim.Native.Nat.{_+_, _≤_, _<_};
 ghost use lib.ListN.{length, getD};
-ghost use Rattle.words.specs.Bytes.{toBytes};
+ghost use Rattle.octets.specs.Bytes.{toBytes};
 ghost use Rattle.frames.specs.Frames.{Within, firstCharacters, editionByte, frames, frameAt};
 ghost use Rattle.frames.specs.Size.{HasSize, behindAll};
 use profile::Profile;

@@ -8,7 +8,7 @@ use native.Mathlib.Omega.{arith}
 use borrow.Author.Tests.{lt-ltb, le-ltb, le-leb, lt-leb, ne-eqb, ltb-true, ltb-false, leb-true, leb-false, eqb-true}
 use lib.Dec.{ltb, leb, eqb, lit<}
 use lib.ListN.{length}
-use Rattle.words.proofs.Lists.{Below, below-cons}
+use Rattle.lists.proofs.Lists.{Below, below-cons}
 use Rattle.hex.specs.Hex.{hexDigit, hexOf, lineEnd, lineOf, digitOf, Line, wrong, right, behind, readLine}
 
 -- the digit of a character, by where the character stands

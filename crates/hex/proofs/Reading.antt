@@ -9,7 +9,7 @@ use borrow.Author.Tests.{lt-ltb, le-ltb, ltb-true, ltb-false, eq-eqb, ne-eqb, eq
 use lib.Dec.{ltb, eqb}
 use lib.ListN.{length, getD, take, drop, set, length-append, take-append-drop, drop-of-length-le}
 use lib.Seq.{drop-cons, append-snoc, take-all, take-suc-set, drop-set-lt}
-use Rattle.words.proofs.Lists.{drop-two, getD-within}
+use Rattle.lists.proofs.Lists.{drop-two, getD-within}
 use Rattle.hex.specs.Digits.{byteOf, byteAt, hasBytes, orKept, readInto, ReadsLine}
 use Rattle.hex.specs.Hex.{lineEnd, digitOf, Line, wrong, right, behind, readLine}
 use Rattle.hex.specs.declared.Digits.{Digits}

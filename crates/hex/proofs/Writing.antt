@@ -6,8 +6,8 @@ use native.Mathlib.Numerals.{add-one}
 use native.Mathlib.Omega.{arith}
 use lib.ListN.{length, getD, take, drop, set, length-append, length-drop}
 use lib.Seq.{length-take-le, take-length, take-suc, sets-eq}
-use Rattle.words.specs.Joined.{joinTo}
-use Rattle.words.proofs.Joins.{written-behind}
+use Rattle.lists.specs.Joined.{joinTo}
+use Rattle.lists.proofs.Joins.{written-behind}
 use Rattle.hex.specs.Hex.{hexDigit, hexOf, lineEnd, lineOf}
 use Rattle.hex.proofs.HexLaws.{length-hexOf, hexOf-append}
 

@@ -1,7 +1,7 @@
 -- The example of document 01, computed from the definitions: "Input 1003030003 prints in full".
 use mathlib.Core.Path.{refl}
-use Rattle.words.specs.Bytes.{fromBytes, toBytes}
-use Rattle.words.specs.Joined.{joinTo}
+use Rattle.octets.specs.Bytes.{fromBytes, toBytes}
+use Rattle.lists.specs.Joined.{joinTo}
 use Rattle.hex.specs.Hex.{hexDigit, hexOf, lineOf, digitOf, behind, readLine}
 use Rattle.profile.specs.Checks.{shapeCauses}
 use Rattle.counts.specs.Counts.{sumTo, share, D, count}

@@ -7,7 +7,7 @@ use native.Mathlib.Omega.{arith}
 use borrow.Author.Tests.{eq-eqb, ne-eqb}
 use lib.ListN.{length, getD, drop, drop-of-length-le}
 use lib.Seq.{drop-cons}
-use Rattle.words.specs.Bytes.{fromBytes}
+use Rattle.octets.specs.Bytes.{fromBytes}
 use Rattle.hex.specs.Digits.{hasBytes}
 use Rattle.hex.specs.Hex.{Line, wrong, right}
 use Rattle.profile.specs.declared.Shape.{Shape}

@@ -7,11 +7,11 @@ use native.Mathlib.Numerals.{add-three}
 use native.Mathlib.Omega.{arith}
 use lib.ListN.{length, getD, take, drop, replicate, length-append}
 use lib.Seq.{take-at}
-use Rattle.words.specs.Bytes.{toBytes}
-use Rattle.words.specs.Joined.{joinTo}
-use Rattle.words.specs.Number.{value}
-use Rattle.words.proofs.ByteLaws.{length-toBytes}
-use Rattle.words.proofs.Joins.{length-joinTo, write-next, write-long}
+use Rattle.octets.specs.Bytes.{toBytes}
+use Rattle.lists.specs.Joined.{joinTo}
+use Rattle.numbers.specs.Number.{value}
+use Rattle.octets.proofs.ByteLaws.{length-toBytes}
+use Rattle.lists.proofs.Joins.{length-joinTo, write-next, write-long}
 use Rattle.hex.specs.Hex.{lineOf}
 use Rattle.hex.proofs.Writing.{length-lineOf}
 use Rattle.profile.specs.declared.Shape.{Shape}

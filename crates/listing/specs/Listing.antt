@@ -6,8 +6,8 @@ use Prim.Native.Nat.{ℕ, min}
 use lib.Dec.{eqb}
 use lib.ListN.{length, getD, drop}
 use Rattle.refusal.specs.Code.{firstCause}
-use Rattle.words.specs.Bytes.{fromBytes, toBytes}
-use Rattle.words.specs.Joined.{joinTo}
+use Rattle.octets.specs.Bytes.{fromBytes, toBytes}
+use Rattle.lists.specs.Joined.{joinTo}
 use Rattle.hex.specs.Hex.{lineOf, Line, wrong, right, readLine}
 use Rattle.profile.specs.declared.Shape.{Shape}
 use Rattle.counts.specs.Counts.{count}

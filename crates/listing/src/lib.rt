@@ -3,7 +3,7 @@ ghost use mathlib.Core.Path.{_≡_};
 ghost use mathlib.Core.List.{_++_};
 ghost use Prim.Native.Nat.{_+_, _*_, _≤_, _<_, min};
 ghost use lib.ListN.{length, take, drop};
-ghost use Rattle.words.specs.Number.{value};
+ghost use Rattle.numbers.specs.Number.{value};
 ghost use Rattle.hex.specs.Hex.{readLine};
 ghost use Rattle.profile.specs.Checks.{InLimits};
 ghost use Rattle.counts.specs.Counts.{count};
@@ -21,7 +21,7 @@ pub use input::Input;
 use profile::Shape;
 use refusal::Outcome;
 use refusal::code;
-use words::number::less;
+use numbers::number::less;
 
 // What the first line asks.
 pub enum Request {

@@ -7,9 +7,9 @@ use native.Mathlib.Omega.{arith}
 use lib.Dec.{eqb}
 use lib.ListN.{length, take, drop, length-append, length-drop}
 use lib.Seq.{length-take-le, take-add, take-all}
-use Rattle.words.specs.Bytes.{fromBytes, toBytes}
-use Rattle.words.specs.Number.{value}
-use Rattle.words.proofs.ByteLaws.{from-append, length-toBytes}
+use Rattle.octets.specs.Bytes.{fromBytes, toBytes}
+use Rattle.numbers.specs.Number.{value}
+use Rattle.octets.proofs.ByteLaws.{from-append, length-toBytes}
 use Rattle.sha256.specs.Digest.{wordBytes, digest}
 use Rattle.sha256.specs.Running.{started, addState, finished, hashed}
 use Rattle.sha256.specs.declared.running.Hash.{Hash}

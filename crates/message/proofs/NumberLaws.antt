@@ -10,12 +10,12 @@ use borrow.Author.Tests.{ltb-false, le-leb, lt-leb}
 use lib.ListN.{length, take}
 use lib.Pow.{pow-mono}
 use lib.Seq.{length-take-le}
-use Rattle.words.specs.Bytes.{fromBytes}
-use Rattle.words.specs.Powers.{Log2, firstBits}
-use Rattle.words.proofs.FirstBits.{first-bits-below, first-bits-front}
-use Rattle.words.proofs.Lists.{Below}
-use Rattle.words.proofs.Numbers.{lt-or-le}
-use Rattle.words.proofs.PowerLaws.{held-fits}
+use Rattle.octets.specs.Bytes.{fromBytes, firstBits}
+use Rattle.numbers.specs.Powers.{Log2}
+use Rattle.octets.proofs.FirstBits.{first-bits-below, first-bits-front}
+use Rattle.lists.proofs.Lists.{Below}
+use Rattle.lists.proofs.Numbers.{lt-or-le}
+use Rattle.numbers.proofs.PowerLaws.{held-fits}
 use Rattle.sha256.proofs.DigestBytes.{length-digest, digest-below}
 use Rattle.profile.specs.declared.Profile.{Profile}
 use Rattle.counts.specs.Counts.{count}

@@ -3,8 +3,7 @@ use mathlib.Core.Bool.{Bool, cond}
 use mathlib.Core.List.{List, [], _++_}
 use Prim.Native.Nat.{ℕ, zero, suc, _+_, _*_, _^_}
 use lib.Dec.{ltb, leb, eqb}
-use Rattle.words.specs.Bytes.{toBytes}
-use Rattle.words.specs.Powers.{firstBits}
+use Rattle.octets.specs.Bytes.{toBytes, firstBits}
 use Rattle.sha256.specs.Digest.{digest}
 use Rattle.profile.specs.Checks.{outside}
 use Rattle.profile.specs.declared.Profile.{Profile}

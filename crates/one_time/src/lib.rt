@@ -3,7 +3,7 @@ ghost use mathlib.Core.Path.{_≡_};
 ghost use mathlib.Core.Bool.{false};
 ghost use lib.ListN.{length};
 ghost use Rattle.refusal.specs.Code.{code, outcomeCode, thenFirst};
-ghost use Rattle.words.specs.Number.{value};
+ghost use Rattle.numbers.specs.Number.{value};
 ghost use Rattle.counts.specs.Table.{leavesTable};
 ghost use Rattle.one_time.specs.Operations.{leafKeyCode, LeafKeys, ownCauses, Reveals, Recovers};
 ghost use Rattle.one_time.specs.Placing.{Places};
@@ -18,7 +18,6 @@ use profile::check_profile;
 use profile::leaf_beyond;
 use refusal::Outcome;
 use refusal::Refusal;
-use refusal::then;
 use tweak::Leaf;
 use tweak::first_hasher;
 
@@ -40,11 +39,7 @@ fn leaf_key_outcome(p: Profile, leaf: u32) -> Outcome
     ensures { λ r. ⌜ outcomeCode r ≡ leafKeyCode p leaf ⌝ }
 {
     let height = p.height;
-    then(
-        check_profile(p),
-        leaf_beyond(height, leaf),
-        Refusal::LeafOutOfRange,
-    )
+    check_profile(p).then(leaf_beyond(height, leaf), Refusal::LeafOutOfRange)
 }
 
 // The causes of Reveal and Recover between 5 and 7, behind an outcome: `refusal` where the size of the values is wrong, and
@@ -52,9 +47,9 @@ fn leaf_key_outcome(p: Profile, leaf: u32) -> Outcome
 fn early_outcome(checked: Outcome, height: u32, leaf: u32, wrong: bool, refusal: Refusal) -> Outcome
     ensures { λ r. ⌜ outcomeCode r ≡ thenFirst (outcomeCode checked) (ownCauses height leaf wrong (code refusal)) ⌝ }
 {
-    let beyond = leaf_beyond(height, leaf);
-    let sized = then(checked, wrong, refusal);
-    then(sized, beyond, Refusal::LeafOutOfRange)
+    checked
+        .then(wrong, refusal)
+        .then(leaf_beyond(height, leaf), Refusal::LeafOutOfRange)
 }
 
 // What Reveal and Recover share, which differ in the refusal of a wrong size: every cause, and where none holds the

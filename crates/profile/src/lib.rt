@@ -5,7 +5,6 @@ ghost use Rattle.refusal.specs.Code.{outcomeCode, firstCause};
 ghost use Rattle.profile.specs.Checks.{outside as outsideOf, shapeCauses, profileCauses, leafBeyond};
 use refusal::Outcome;
 use refusal::Refusal;
-use refusal::then;
 
 // The shape of a codeword (document 01: a row of lengths): l chains, lengths below the width w, the sum s.
 pub struct Shape {
@@ -47,13 +46,10 @@ pub fn check_shape(p: Shape) -> Outcome
     let width = p.width as u64;
     let sum = p.sum as u64;
     let most = largest_sum(p.chains, p.width);
-    let counted = then(
-        Outcome::Granted,
-        outside(1, 40, chains),
-        Refusal::ChainCount,
-    );
-    let measured = then(counted, outside(2, 16, width), Refusal::Width);
-    then(measured, outside(0, most, sum), Refusal::Sum)
+    Outcome::Granted
+        .then(outside(1, 40, chains), Refusal::ChainCount)
+        .then(outside(2, 16, width), Refusal::Width)
+        .then(outside(0, most, sum), Refusal::Sum)
 }
 
 // The checks 1, 2, 3 and 4, and then 22.
@@ -63,9 +59,9 @@ pub fn check_profile(p: Profile) -> Outcome
     let shape = p.shape;
     let height = p.height as u64;
     let edition = p.edition as u64;
-    let shaped = check_shape(shape);
-    let grown = then(shaped, outside(0, 10, height), Refusal::Height);
-    then(grown, outside(1, 2, edition), Refusal::Edition)
+    check_shape(shape)
+        .then(outside(0, 10, height), Refusal::Height)
+        .then(outside(1, 2, edition), Refusal::Edition)
 }
 
 // How many leaves a tree has: 2^h.

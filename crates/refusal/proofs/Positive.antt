@@ -3,7 +3,7 @@ use Prim.Native.Nat.{_<_}
 use lib.Dec.{lit<}
 use Rattle.refusal.specs.Code.{code}
 use Rattle.refusal.specs.declared.Refusal.{Refusal}
-use Rattle.refusal.specs.declared.Refusal.the-variants.{ChainCount, Width, Sum, Height, TableTooShort, OutputTooShort, NumberTooLarge, CodewordLength, DigitTooLarge, CodewordSum, LeafOutOfRange, KeySpent, SignatureLength, LeafPassed, RootDiffers, MessageLength, SheetLine, HashTooLong, CountTooSmall, NoMark, MarkStands, Edition}
+use Rattle.refusal.specs.declared.Refusal.the-variants.{ChainCount, Width, Sum, Height, TableTooShort, OutputTooShort, NumberTooLarge, CodewordLength, DigitTooLarge, CodewordSum, LeafOutOfRange, KeySpent, SignatureLength, LeafPassed, RootDiffers, MessageLength, SheetLine, HashTooLong, CountTooSmall, NoMark, MarkStands, Edition, OrderCount, EndPlaces, LeafOrder, SiblingCount, LeafCount, ShareSum, DeskOutOfRange, ShareUsed, PlaceFilled, PlaceEmpty, ValueZero}
 
 pub code-positive : (r : Refusal) → 0 < code r
 code-positive ChainCount = lit< tt
@@ -28,3 +28,14 @@ code-positive CountTooSmall = lit< tt
 code-positive NoMark = lit< tt
 code-positive MarkStands = lit< tt
 code-positive Edition = lit< tt
+code-positive OrderCount = lit< tt
+code-positive EndPlaces = lit< tt
+code-positive LeafOrder = lit< tt
+code-positive SiblingCount = lit< tt
+code-positive LeafCount = lit< tt
+code-positive ShareSum = lit< tt
+code-positive DeskOutOfRange = lit< tt
+code-positive ShareUsed = lit< tt
+code-positive PlaceFilled = lit< tt
+code-positive PlaceEmpty = lit< tt
+code-positive ValueZero = lit< tt

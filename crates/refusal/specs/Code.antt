@@ -1,10 +1,10 @@
--- The codes of the causes of document 01, "Operations and their refusals", and of those of document 02 that have landed.
+-- The codes of the causes of document 01, "Operations and their refusals", and of document 02; those from 23 on are of points still to come.
 use mathlib.Core.Bool.{Bool, cond}
 use mathlib.Core.List.{List, [], _∷_}
 use Prim.Native.Nat.{ℕ}
 use lib.Dec.{eqb}
 use Rattle.refusal.specs.declared.Refusal.{Refusal}
-use Rattle.refusal.specs.declared.Refusal.the-variants.{ChainCount, Width, Sum, Height, TableTooShort, OutputTooShort, NumberTooLarge, CodewordLength, DigitTooLarge, CodewordSum, LeafOutOfRange, KeySpent, SignatureLength, LeafPassed, RootDiffers, MessageLength, SheetLine, HashTooLong, CountTooSmall, NoMark, MarkStands, Edition}
+use Rattle.refusal.specs.declared.Refusal.the-variants.{ChainCount, Width, Sum, Height, TableTooShort, OutputTooShort, NumberTooLarge, CodewordLength, DigitTooLarge, CodewordSum, LeafOutOfRange, KeySpent, SignatureLength, LeafPassed, RootDiffers, MessageLength, SheetLine, HashTooLong, CountTooSmall, NoMark, MarkStands, Edition, OrderCount, EndPlaces, LeafOrder, SiblingCount, LeafCount, ShareSum, DeskOutOfRange, ShareUsed, PlaceFilled, PlaceEmpty, ValueZero}
 use Rattle.refusal.specs.declared.Outcome.{Outcome}
 use Rattle.refusal.specs.declared.Outcome.the-variants.{Granted, Refused}
 
@@ -49,6 +49,28 @@ code NoMark = 20
 code MarkStands = 21
 -- document 02, point 6: "22 when the edition is neither" 1 nor 2
 code Edition = 22
+-- document 02, point 7: "23 when the number of orders is 0 or above 64"
+code OrderCount = 23
+-- "24 when the end places fall, pass the text, or the last isn't its end"
+code EndPlaces = 24
+-- document 02, point 8: "25 when leaves don't strictly ascend"
+code LeafOrder = 25
+-- "26 when the siblings are not exactly as many as needed"
+code SiblingCount = 26
+-- document 02, point 9: "27 when k is 0, above 64 or above 2^h"
+code LeafCount = 27
+-- document 02, point 10: "28 when the shares together pass 2^h"
+code ShareSum = 28
+-- "29 when the desk is not 0 to 3"
+code DeskOutOfRange = 29
+-- "30 when share and common part are both used up"
+code ShareUsed = 30
+-- document 02, point 12: "31 when adding to a filled place"
+code PlaceFilled = 31
+-- "32 when removing from an empty one"
+code PlaceEmpty = 32
+-- "33 when the value to add is all zero"
+code ValueZero = 33
 
 -- 0 for granted, else the code of the cause
 abbrev pub outcomeCode : Outcome → ℕ

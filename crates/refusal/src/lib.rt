@@ -2,8 +2,8 @@
 ghost use mathlib.Core.Path.{_≡_};
 ghost use Rattle.refusal.specs.Code.{code, outcomeCode, thenCode};
 
-// Every cause of document 01, and of document 02 as far as it has landed, in the order of their codes, which are the
-// documents' numbers.
+// Every cause of documents 01 and 02, in the order of their codes, which are the documents' numbers. Those from 23 on belong to
+// points of document 02 that are still to come.
 pub enum Refusal {
     ChainCount,
     Width,
@@ -27,6 +27,17 @@ pub enum Refusal {
     NoMark,
     MarkStands,
     Edition,
+    OrderCount,
+    EndPlaces,
+    LeafOrder,
+    SiblingCount,
+    LeafCount,
+    ShareSum,
+    DeskOutOfRange,
+    ShareUsed,
+    PlaceFilled,
+    PlaceEmpty,
+    ValueZero,
 }
 
 // The answer of an operation that gives no value of its own.
@@ -62,6 +73,17 @@ pub fn code(r: Refusal) -> u8
         Refusal::NoMark => 20,
         Refusal::MarkStands => 21,
         Refusal::Edition => 22,
+        Refusal::OrderCount => 23,
+        Refusal::EndPlaces => 24,
+        Refusal::LeafOrder => 25,
+        Refusal::SiblingCount => 26,
+        Refusal::LeafCount => 27,
+        Refusal::ShareSum => 28,
+        Refusal::DeskOutOfRange => 29,
+        Refusal::ShareUsed => 30,
+        Refusal::PlaceFilled => 31,
+        Refusal::PlaceEmpty => 32,
+        Refusal::ValueZero => 33,
     }
 }
 
@@ -75,17 +97,20 @@ pub fn outcome_code(o: Outcome) -> u8
     }
 }
 
-// Goes on with the next cause: what is refused so far stays refused, and otherwise the cause is looked at.
-pub fn then(checked: Outcome, holds: bool, cause: Refusal) -> Outcome
-    ensures { λ r. ⌜ outcomeCode r ≡ thenCode (outcomeCode checked) holds (code cause) ⌝ }
-{
-    match checked {
-        Outcome::Refused(_) => checked,
-        Outcome::Granted => {
-            if holds {
-                Outcome::Refused(cause)
-            } else {
-                Outcome::Granted
+impl Outcome {
+    // Goes on with the next cause: what is refused so far stays refused, and otherwise the cause is looked at. So causes in
+    // their order read from top to bottom.
+    pub fn then(self, holds: bool, cause: Refusal) -> Outcome
+        ensures { λ r. ⌜ outcomeCode r ≡ thenCode (outcomeCode self) holds (code cause) ⌝ }
+    {
+        match self {
+            Outcome::Refused(_) => self,
+            Outcome::Granted => {
+                if holds {
+                    Outcome::Refused(cause)
+                } else {
+                    Outcome::Granted
+                }
             }
         }
     }

@@ -3,9 +3,9 @@ use mathlib.Core.Path.{_≡_}
 use mathlib.Core.List.{List, _++_}
 use Prim.Native.Nat.{ℕ}
 use lib.ListN.{length, length-append}
-use Rattle.words.specs.Bytes.{toBytes}
-use Rattle.words.proofs.ByteLaws.{length-toBytes, toBytes-lt}
-use Rattle.words.proofs.Lists.{Below, below-append}
+use Rattle.octets.specs.Bytes.{toBytes}
+use Rattle.octets.proofs.ByteLaws.{length-toBytes, toBytes-lt}
+use Rattle.lists.proofs.Lists.{Below, below-append}
 use Rattle.sha256_block.specs.declared.compression.HashWords.{HashWords}
 use Rattle.sha256.specs.Digest.{finalWords, wordBytes, digest}
 

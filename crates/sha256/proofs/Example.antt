@@ -1,7 +1,7 @@
 -- FIPS 180-4's example "abc", computed from the definitions.
 use mathlib.Core.Path.{_≡_, refl}
 use mathlib.Core.List.{[], _∷_}
-use Rattle.words.specs.Bytes.{fromBytes, toBytes}
+use Rattle.octets.specs.Bytes.{fromBytes, toBytes}
 use Rattle.sha256_block.specs.Functions.{_⊞_, complement, shr, shl, rotr, Ch, Maj, Σ₀, Σ₁, σ₀, σ₁}
 use Rattle.sha256_block.specs.Constants.{hasDivisor, isPrime, primesFrom, primes, rootFrom, wholeRoot, rootWord, roundWords, initialWords}
 use Rattle.sha256_block.specs.Compression.{wordsOf, nextWord, extend, schedule, round, rounds, addWords, compress, hashWords, initial}

@@ -4,9 +4,9 @@ use mathlib.Core.List.{List, [], _∷_, _++_, append-assoc}
 use Prim.Native.Nat.{ℕ, _+_, _-_, _*_, _%_, _<_, _≤_}
 use native.Mathlib.Omega.{arith}
 use lib.ListN.{length, take, replicate, length-append, length-replicate, replicate-append-replicate}
-use Rattle.words.specs.Bytes.{toBytes}
-use Rattle.words.proofs.ByteLaws.{length-toBytes}
-use Rattle.words.proofs.Fill.{take-fill}
+use Rattle.octets.specs.Bytes.{toBytes}
+use Rattle.octets.proofs.ByteLaws.{length-toBytes}
+use Rattle.lists.proofs.Fill.{take-fill}
 use Rattle.sha256_block.specs.Compression.{compress}
 use Rattle.sha256_block.specs.declared.compression.HashWords.{HashWords}
 use Rattle.sha256.specs.Digest.{padding, compressAll}

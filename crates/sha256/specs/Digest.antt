@@ -2,7 +2,7 @@
 use mathlib.Core.List.{List, _∷_, _++_}
 use Prim.Native.Nat.{ℕ, zero, suc, _-_, _*_, _/_, _%_}
 use lib.ListN.{length, take, drop, replicate}
-use Rattle.words.specs.Bytes.{toBytes}
+use Rattle.octets.specs.Bytes.{toBytes}
 use Rattle.sha256_block.specs.Compression.{compress, initial}
 use Rattle.sha256_block.specs.declared.compression.HashWords.{HashWords}
 

@@ -4,7 +4,7 @@ ghost use mathlib.Core.List.{_++_};
 ghost use Prim.Native.Nat.{_+_, _-_, _*_, _≤_};
 ghost use lib.ListN.{length, take, replicate};
 ghost use lib.Seq.{paste};
-ghost use Rattle.words.specs.Bytes.{toBytes};
+ghost use Rattle.octets.specs.Bytes.{toBytes};
 ghost use Rattle.sha256.specs.Digest.{compressAll, wordBytes};
 ghost use Rattle.sha256.specs.Running as spec;
 use refusal::Outcome;
@@ -12,7 +12,7 @@ use refusal::Refusal;
 use sha256_block::HashWords;
 use sha256_block::compress;
 use sha256_block::initial;
-use words::bytes::copy;
+use octets::copy;
 
 // Of the block, total modulo 64 bytes are pending; the others count for nothing.
 pub struct Hash {
@@ -88,7 +88,7 @@ fn put_word(out: [u8; 32], at: usize, x: u32) -> [u8; 32]
     requires { ⌜ at + 4 ≤ 32 ⌝ }
     ensures { λ r. ⌜ r ≡ paste out at (toBytes 4 x) 4 ⌝ }
 {
-    let bytes = words::bytes::word_bytes(x);
+    let bytes = octets::word_bytes(x);
     let mut next = out;
     next[at] = bytes[0];
     next[at + 1] = bytes[1];

@@ -8,7 +8,7 @@ use borrow.Author.Tests.{leb-true, leb-false}
 use lib.Dec.{leb}
 use lib.ListN.{length, getD, take, length-map, List·getD-map}
 use lib.Seq.{length-take-le, getD-take}
-use Rattle.words.proofs.Lists.{Below, below-by-test}
+use Rattle.lists.proofs.Lists.{Below, below-by-test}
 use Rattle.sha256_block.specs.Constants.{hasDivisor, isPrime, primesFrom, primes, IsWholeRoot, IsRootWord, rootFrom, wholeRoot, rootWord, roundWords, initialWords, FirstPrimes, RootWords}
 use Rattle.sha256_block.proofs.Primes.{primes-rise, each-prime, rising-primes, none-missed}
 

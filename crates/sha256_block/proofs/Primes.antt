@@ -9,7 +9,7 @@ use native.Mathlib.Omega.{arith}
 use borrow.Author.Tests.{leb-true, le-leb, not-true, eqb-false, ne-eqb}
 use lib.Dec.{leb, eqb}
 use lib.ListN.{length, getD}
-use Rattle.words.proofs.Tests.{both, neither}
+use Rattle.lists.proofs.Tests.{both, neither}
 use Rattle.sha256_block.specs.Constants.{hasDivisor, isPrime, primesFrom, IsPrime}
 
 -- the test finds every divisor from 2 to d

@@ -7,8 +7,8 @@ use native.Mathlib.Nat.{add-zero, eq-or-lt-of-le}
 use native.Mathlib.Omega.{arith}
 use lib.ListN.{length, getD, take, drop, length-append, length-drop, take-append-drop, List·getD-append}
 use lib.Seq.{drop-drop, take-all, take-suc, take-add, take-append-le, getD-drop, getD-at, drop-at}
-use Rattle.words.specs.Bytes.{fromBytes}
-use Rattle.words.proofs.Lists.{length-part}
+use Rattle.octets.specs.Bytes.{fromBytes}
+use Rattle.lists.proofs.Lists.{length-part}
 use Rattle.sha256_block.specs.Compression.{wordsOf, nextWord, extend}
 
 pub length-words : (n : ℕ) (bytes : List ℕ) → length (wordsOf n bytes) ≡ n

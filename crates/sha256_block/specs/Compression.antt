@@ -2,7 +2,7 @@
 use mathlib.Core.List.{List, [], _∷_, _++_}
 use Prim.Native.Nat.{ℕ, zero, suc, _-_}
 use lib.ListN.{length, getD, take, drop}
-use Rattle.words.specs.Bytes.{fromBytes}
+use Rattle.octets.specs.Bytes.{fromBytes}
 use Rattle.sha256_block.specs.Functions.{_⊞_, Ch, Maj, Σ₀, Σ₁, σ₀, σ₁}
 use Rattle.sha256_block.specs.Constants.{roundWords, initialWords}
 use Rattle.sha256_block.specs.declared.compression.HashWords.{HashWords}

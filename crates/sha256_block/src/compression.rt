@@ -124,7 +124,7 @@ fn block_words(block: &[u8]) -> [u32; 16]
     let mut ws = [0u32; 16];
     let mut t = 0;
     while t < 16 {
-        let w = words::bytes::word_at(block, 4 * t);
+        let w = octets::word_at(block, 4 * t);
         ws[t] = w;
         t += 1;
     }

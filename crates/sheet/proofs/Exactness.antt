@@ -6,7 +6,7 @@ use native.Mathlib.Omega.{arith}
 use lib.Dec.{lit<}
 use lib.ListN.{length, take, drop, length-append, length-drop, take-append-drop}
 use lib.Seq.{take-at, drop-at, length-take-le}
-use Rattle.words.proofs.Lists.{Below, below-by-test, below-append, below-take, below-drop}
+use Rattle.lists.proofs.Lists.{Below, below-by-test, below-append, below-take, below-drop}
 use Rattle.hex.specs.Hex.{Line, wrong, right, lineOf}
 use Rattle.frames.specs.Frames.{Frame, frames, textFrame}
 use Rattle.frames.specs.Lines.{linesOf, sheetOf, readFrame}

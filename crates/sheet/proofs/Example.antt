@@ -4,7 +4,7 @@ use mathlib.Core.Path.{_≡_, refl}
 use mathlib.Core.List.{List, [], _∷_, _++_}
 use Prim.Native.Nat.{ℕ}
 use lib.ListN.{replicate, take, drop}
-use Rattle.words.specs.Bytes.{toBytes}
+use Rattle.octets.specs.Bytes.{toBytes}
 use Rattle.hex.specs.Hex.{hexOf, hexDigit, digitOf, behind, lineEnd, lineOf, readLine}
 use Rattle.profile.specs.declared.Profile.{Profile}
 use Rattle.frames.specs.Frames.{firstCharacters, editionByte, profileFrame, numbered, frames}

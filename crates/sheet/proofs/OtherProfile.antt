@@ -8,8 +8,8 @@ use borrow.Author.Tests.{eqb-true, eqb-false}
 use lib.Dec.{eqb, lit<, lit≤}
 use lib.ListN.{length, getD, drop}
 use Rattle.refusal.specs.Code.{firstCause}
-use Rattle.words.specs.Bytes.{toBytes}
-use Rattle.words.proofs.Lists.{below-by-test}
+use Rattle.octets.specs.Bytes.{toBytes}
+use Rattle.lists.proofs.Lists.{below-by-test}
 use Rattle.profile.specs.Checks.{profileCauses}
 use Rattle.profile.specs.declared.Profile.{Profile}
 use Rattle.profile.proofs.Limits.{profile-passed, profile-limits, sum-small}

@@ -8,7 +8,7 @@ use native.Mathlib.Omega.{arith}
 use lib.Dec.{lit<}
 use lib.ListN.{length, getD, take, drop, set, length-append, length-drop, take-append-drop}
 use lib.Seq.{length-take-le, take-all, take-at, drop-at, drop-drop, getD-drop, paste, paste-suc, length-paste}
-use Rattle.words.proofs.Lists.{Below, below-take, below-drop}
+use Rattle.lists.proofs.Lists.{Below, below-take, below-drop}
 use Rattle.profile.specs.declared.Profile.{Profile}
 use Rattle.hex.specs.Hex.{hexDigit, hexOf, lineEnd, lineOf, digitOf}
 use Rattle.hex.specs.Digits.{byteAt}

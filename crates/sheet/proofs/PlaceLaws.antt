@@ -8,7 +8,7 @@ use native.Mathlib.Omega.{arith}
 use lib.Dec.{lit<, lit≤}
 use lib.ListN.{length, getD, take, drop, drop-of-length-le, take-append-drop}
 use lib.Seq.{drop-cons, take-suc, take-all, getD-take}
-use Rattle.words.proofs.Lists.{below-by-test}
+use Rattle.lists.proofs.Lists.{below-by-test}
 use Rattle.hex.specs.Hex.{hexDigit, hexOf, lineEnd, Line, wrong, right, lineOf}
 use Rattle.hex.proofs.Reading.{ending-within}
 use Rattle.profile.specs.declared.Profile.{Profile}

@@ -18,7 +18,6 @@ use profile::Profile;
 use profile::check_profile;
 use refusal::Outcome;
 use refusal::Refusal;
-use refusal::then;
 
 // What Read sheet answers. The line is 0 unless a line is wrong; refused, the length is 0.
 pub struct SheetRead {
@@ -36,9 +35,10 @@ fn read_checked(p: Profile, sheet: &[u8], signature: &mut [u8], message: &mut [u
     let line = judged.line;
     let length = judged.length;
     let needed = signature_length(p);
-    let formed = then(Outcome::Granted, 0 < line, Refusal::SheetLine);
-    let held = then(formed, signature.len() < needed, Refusal::OutputTooShort);
-    let outcome = then(held, message.len() < length, Refusal::OutputTooShort);
+    let outcome = Outcome::Granted
+        .then(0 < line, Refusal::SheetLine)
+        .then(signature.len() < needed, Refusal::OutputTooShort)
+        .then(message.len() < length, Refusal::OutputTooShort);
     match outcome {
         Outcome::Refused(_) => SheetRead {
             outcome,

@@ -5,7 +5,7 @@ use Prim.Native.Nat.{ℕ, _+_, _-_, _*_, _≤_}
 use native.Mathlib.Omega.{arith}
 use lib.ListN.{length, take, drop, set, length-append, length-drop, take-append-drop}
 use lib.Seq.{take-at, drop-at, drop-drop, drop-append-add, length-take-le, paste}
-use Rattle.words.proofs.Joins.{written-behind}
+use Rattle.lists.proofs.Joins.{written-behind}
 use Rattle.hex.specs.Hex.{hexDigit, hexOf, lineEnd, lineOf}
 use Rattle.hex.proofs.HexLaws.{length-hexOf, hexOf-append}
 use Rattle.hex.proofs.Writing.{length-lineOf, written-line}

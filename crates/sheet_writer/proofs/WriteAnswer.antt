@@ -13,7 +13,7 @@ use Rattle.refusal.specs.declared.Refusal.the-variants.{OutputTooShort}
 use Rattle.refusal.specs.declared.Outcome.{Outcome}
 use Rattle.refusal.specs.declared.Outcome.the-variants.{Granted, Refused}
 use Rattle.refusal.proofs.Causes.{Numbered, without-append, none-here, none-then, none-of-append, refused-then, refused-some}
-use Rattle.words.proofs.Joins.{written-behind}
+use Rattle.lists.proofs.Joins.{written-behind}
 use Rattle.profile.specs.Checks.{profileCauses}
 use Rattle.profile.specs.declared.Profile.{Profile}
 use Rattle.profile.proofs.Limits.{profile-numbered, inside, not-outside}

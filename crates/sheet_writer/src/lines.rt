@@ -15,7 +15,7 @@ use frames::head_byte;
 use hex::write_byte;
 use hex::write_line;
 use profile::Profile;
-use words::bytes::copy;
+use octets::copy;
 
 // Writes the first line, and gives the index behind it.
 fn write_first_line(sheet: &mut [u8]) -> usize

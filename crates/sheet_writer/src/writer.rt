@@ -12,7 +12,6 @@ use profile::Profile;
 use profile::check_profile;
 use refusal::Outcome;
 use refusal::Refusal;
-use refusal::then;
 
 // What Write sheet answers: refused, no byte is written.
 pub struct SheetWritten {
@@ -48,8 +47,9 @@ pub fn write_sheet(p: Profile, signature: &[u8], message: &[u8], sheet: &mut [u8
 {
     let outside = outside_text(message.len());
     let other = signature.len() != signature_length(p);
-    let worded = then(check_profile(p), outside, Refusal::MessageLength);
-    let outcome = then(worded, other, Refusal::SignatureLength);
+    let outcome = check_profile(p)
+        .then(outside, Refusal::MessageLength)
+        .then(other, Refusal::SignatureLength);
     match outcome {
         Outcome::Refused(_) => SheetWritten {
             outcome: outcome,

@@ -15,7 +15,7 @@ use Rattle.refusal.specs.declared.Refusal.the-variants.{CountTooSmall}
 use Rattle.refusal.specs.declared.Outcome.{Outcome}
 use Rattle.refusal.specs.declared.Outcome.the-variants.{Granted, Refused}
 use Rattle.refusal.proofs.Causes.{Avoids, none-here, refused-number, code-kept}
-use Rattle.words.specs.Bytes.{toBytes}
+use Rattle.octets.specs.Bytes.{toBytes}
 use Rattle.profile.specs.Checks.{InLimits}
 use Rattle.profile.specs.declared.Shape.{Shape}
 use Rattle.signing_key.specs.Counter.{marked, cleared}

@@ -4,7 +4,7 @@ use mathlib.Core.List.{List}
 use Prim.Native.Nat.{ℕ}
 use native.Mathlib.Omega.{arith}
 use lib.ListN.{length, length-append}
-use Rattle.words.proofs.ByteLaws.{length-toBytes}
+use Rattle.octets.proofs.ByteLaws.{length-toBytes}
 use Rattle.profile.specs.declared.Profile.{Profile}
 use Rattle.tweak.specs.declared.Domain.{Domain}
 use Rattle.chains.specs.Leaves.{leafKeyOf}

@@ -4,7 +4,7 @@ use mathlib.Core.List.{List, _++_}
 use Prim.Native.Nat.{ℕ, _+_, _*_, _≤_}
 use lib.ListN.{length, take, drop, length-append}
 use lib.Seq.{take-at, length-take-le, paste}
-use Rattle.words.proofs.Joins.{written-behind}
+use Rattle.lists.proofs.Joins.{written-behind}
 
 -- the length of a front with a part more
 longer : (front v : List ℕ) {m k : ℕ} → length front ≡ m → length v ≡ k → length (front ++ v) ≡ m + k

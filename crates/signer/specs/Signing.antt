@@ -7,7 +7,7 @@ use Prim.Native.Nat.{ℕ}
 use lib.Dec.{ltb, eqb}
 use lib.ListN.{length, drop}
 use Rattle.refusal.specs.Code.{outcomeCode, firstCause}
-use Rattle.words.specs.Bytes.{toBytes}
+use Rattle.octets.specs.Bytes.{toBytes}
 use Rattle.profile.specs.declared.Profile.{Profile}
 use Rattle.signing_key.specs.Counter.{marked, markedLeaf, cleared}
 use Rattle.signing_key.specs.Key.{recounted}

@@ -4,7 +4,7 @@ ghost use mathlib.Core.List.{_++_};
 ghost use Prim.Native.Nat.{_*_, _^_, _≤_, _<_};
 ghost use lib.ListN.{length, take, drop};
 ghost use Rattle.refusal.specs.Code.{outcomeCode, thenFirst};
-ghost use Rattle.words.specs.Bytes.{toBytes};
+ghost use Rattle.octets.specs.Bytes.{toBytes};
 ghost use Rattle.profile.specs.Checks.{InLimits};
 ghost use Rattle.tweak.specs.Tweak.{Seeded};
 ghost use Rattle.chains.specs.Leaves.{leafKeyOf, revealed};
@@ -23,7 +23,6 @@ use message::signature_length;
 use profile::Profile;
 use refusal::Outcome;
 use refusal::Refusal;
-use refusal::then;
 use signing_key::SigningKey;
 use signing_key::clear;
 use signing_key::marked;
@@ -33,9 +32,9 @@ use tree::write_path;
 use tweak::Hasher;
 use tweak::Leaf;
 use tweak::first_hasher;
-use words::bytes::copy;
-use words::bytes::word_bytes;
-use words::bytes::write_16;
+use octets::copy;
+use octets::word_bytes;
+use octets::write_16;
 
 // The causes of Sign between 5 and 19, behind an outcome.
 fn sign_outcome(checked: Outcome, key: SigningKey, text: usize, bytes: usize) -> Outcome
@@ -46,9 +45,10 @@ fn sign_outcome(checked: Outcome, key: SigningKey, text: usize, bytes: usize) ->
     let short = bytes < signature_length(p);
     let counter = key.counter;
     let unmarked = !marked(p, counter);
-    let worded = then(checked, outside, Refusal::MessageLength);
-    let roomy = then(worded, short, Refusal::OutputTooShort);
-    then(roomy, unmarked, Refusal::NoMark)
+    checked
+        .then(outside, Refusal::MessageLength)
+        .then(short, Refusal::OutputTooShort)
+        .then(unmarked, Refusal::NoMark)
 }
 
 // Writes the four bytes of a leaf's number at the front.

@@ -9,7 +9,6 @@ use profile::check_profile;
 use profile::leaf_beyond;
 use refusal::Outcome;
 use refusal::Refusal;
-use refusal::then;
 
 // What of a key counts its leaves: the next one, and a mark, which says that the one before it is reserved for a signature.
 pub struct Counter {
@@ -57,8 +56,9 @@ fn reserve_outcome(p: Profile, c: Counter) -> Outcome
 {
     let standing = marked(p, c);
     let used = spent(p, c);
-    let free = then(check_profile(p), standing, Refusal::MarkStands);
-    then(free, used, Refusal::KeySpent)
+    check_profile(p)
+        .then(standing, Refusal::MarkStands)
+        .then(used, Refusal::KeySpent)
 }
 
 // The counter once its next leaf is reserved.

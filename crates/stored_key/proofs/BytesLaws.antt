@@ -8,8 +8,8 @@ use borrow.Author.Tests.{eqb-true, eqb-false}
 use lib.Dec.{eqb}
 use lib.ListN.{length, getD, take, drop, take-append-drop, drop-of-length-le}
 use lib.Seq.{drop-cons, drop-drop}
-use Rattle.words.specs.Bytes.{fromBytes, toBytes}
-use Rattle.words.proofs.Lists.{Below, drop-two, part-4}
+use Rattle.octets.specs.Bytes.{fromBytes, toBytes}
+use Rattle.lists.proofs.Lists.{Below, drop-two, part-4}
 use Rattle.frames.specs.Frames.{editionByte}
 use Rattle.stored_key.specs.KeyFrame.{keyBytes, keyIn}
 

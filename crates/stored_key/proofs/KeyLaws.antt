@@ -9,9 +9,9 @@ use lib.Dec.{eqb, lit<}
 use lib.ListN.{length, getD, take, drop, length-append}
 use lib.Seq.{take-at, drop-at, drop-drop, getD-drop}
 use Rattle.refusal.specs.Code.{firstCause}
-use Rattle.words.specs.Bytes.{toBytes}
-use Rattle.words.proofs.ByteLaws.{toBytes-lt, from-to-lt}
-use Rattle.words.proofs.Lists.{Below, below-by-test, below-cons, below-append}
+use Rattle.octets.specs.Bytes.{toBytes}
+use Rattle.octets.proofs.ByteLaws.{toBytes-lt, from-to-lt}
+use Rattle.lists.proofs.Lists.{Below, below-by-test, below-cons, below-append}
 use Rattle.profile.specs.Checks.{outside, profileCauses}
 use Rattle.profile.proofs.Limits.{profile-passed, profile-limits, sum-small}
 use Rattle.frames.specs.Frames.{editionByte}

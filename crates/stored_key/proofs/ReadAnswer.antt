@@ -10,9 +10,9 @@ use lib.ListN.{length, getD, take, drop, length-drop, drop-of-length-le}
 use lib.Seq.{drop-cons, drop-drop, getD-drop}
 use Rattle.refusal.specs.Code.{outcomeCode, firstCause}
 use Rattle.refusal.specs.declared.Outcome.{Outcome}
-use Rattle.words.specs.Bytes.{fromBytes}
-use Rattle.words.proofs.Lists.{drop-two, below-drop}
-use Rattle.words.proofs.Tests.{both}
+use Rattle.octets.specs.Bytes.{fromBytes}
+use Rattle.lists.proofs.Lists.{drop-two, below-drop}
+use Rattle.lists.proofs.Tests.{both}
 use Rattle.hex.specs.Hex.{right, lineOf, readLine}
 use Rattle.hex.specs.Digits.{hasBytes, ReadsLine}
 use Rattle.hex.proofs.HexLaws.{line-of-read}

@@ -8,7 +8,7 @@ use borrow.Author.Tests.{eqb-true}
 use lib.ListN.{length, getD, take, drop}
 use lib.Seq.{take-at}
 use Rattle.refusal.specs.Code.{outcomeCode}
-use Rattle.words.proofs.Tests.{both}
+use Rattle.lists.proofs.Tests.{both}
 use Rattle.profile.specs.Checks.{outside}
 use Rattle.profile.specs.declared.Profile.{Profile}
 use Rattle.signing_key.specs.Counter.{marked}

@@ -8,8 +8,8 @@ use borrow.Author.Tests.{lt-ltb, eq-eqb, ltb-true, eqb-true}
 use lib.Dec.{ltb, eqb, lit<}
 use lib.ListN.{length, getD}
 use Rattle.refusal.specs.Code.{firstCause}
-use Rattle.words.proofs.Lists.{Below, below-by-test, below-cons}
-use Rattle.words.proofs.Tests.{both}
+use Rattle.lists.proofs.Lists.{Below, below-by-test, below-cons}
+use Rattle.lists.proofs.Tests.{both}
 use Rattle.hex.specs.Hex.{Line, wrong, right, readLine}
 use Rattle.hex.proofs.HexLaws.{read-line-of}
 use Rattle.profile.specs.Checks.{profileCauses}

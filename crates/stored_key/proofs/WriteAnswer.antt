@@ -13,8 +13,8 @@ use Rattle.refusal.specs.declared.Refusal.the-variants.{OutputTooShort}
 use Rattle.refusal.specs.declared.Outcome.{Outcome}
 use Rattle.refusal.specs.declared.Outcome.the-variants.{Granted, Refused}
 use Rattle.refusal.proofs.Causes.{none-then, none-of-append, refused-then, refused-some}
-use Rattle.words.specs.Bytes.{toBytes}
-use Rattle.words.proofs.Joins.{written-behind}
+use Rattle.octets.specs.Bytes.{toBytes}
+use Rattle.lists.proofs.Joins.{written-behind}
 use Rattle.hex.specs.Hex.{hexOf, lineEnd, lineOf}
 use Rattle.hex.proofs.HexLaws.{length-hexOf, hexOf-append}
 use Rattle.hex.proofs.Writing.{length-lineOf}

@@ -5,7 +5,7 @@ use Prim.Native.Nat.{ℕ}
 use lib.Dec.{ltb, eqb}
 use lib.ListN.{length, getD, take, drop}
 use Rattle.refusal.specs.Code.{firstCause}
-use Rattle.words.specs.Bytes.{fromBytes, toBytes}
+use Rattle.octets.specs.Bytes.{fromBytes, toBytes}
 use Rattle.hex.specs.Hex.{Line, wrong, right}
 use Rattle.profile.specs.Checks.{profileCauses}
 use Rattle.frames.specs.Frames.{Frame, framed, editionByte}

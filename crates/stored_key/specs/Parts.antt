@@ -6,7 +6,7 @@ use Prim.Native.Nat.{ℕ}
 use lib.Dec.{ltb, eqb}
 use lib.ListN.{getD}
 use Rattle.refusal.specs.Code.{outcomeCode}
-use Rattle.words.specs.Bytes.{toBytes}
+use Rattle.octets.specs.Bytes.{toBytes}
 use Rattle.profile.specs.declared.Profile.{Profile}
 use Rattle.frames.specs.Frames.{editionByte}
 use Rattle.stored_key.specs.Operations.{noKey}

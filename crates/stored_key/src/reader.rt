@@ -16,8 +16,8 @@ use refusal::Refusal;
 use signing_key::Counter;
 use signing_key::SigningKey;
 use signing_key::marked;
-use words::bytes::read_16;
-use words::bytes::word_at;
+use octets::read_16;
+use octets::word_at;
 
 // What Read key answers: refused, the line is 1 and the key is all zero.
 pub struct KeyRead {

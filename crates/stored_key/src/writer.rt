@@ -23,7 +23,7 @@ use refusal::Refusal;
 use signing_key::Counter;
 use signing_key::SigningKey;
 use signing_key::marked;
-use words::bytes::word_bytes;
+use octets::word_bytes;
 
 // What Write key answers: refused, no byte is written.
 pub struct KeyWritten {

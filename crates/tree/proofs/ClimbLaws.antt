@@ -10,7 +10,7 @@ use native.Mathlib.Omega.{arith}
 use borrow.Author.Tests.{eqb-true, eqb-false}
 use lib.Dec.{eqb}
 use lib.ListN.{length, take, drop}
-use Rattle.words.proofs.Joins.{length-joinTo, part-joinTo}
+use Rattle.lists.proofs.Joins.{length-joinTo, part-joinTo}
 use Rattle.tweak.specs.declared.Domain.{Domain}
 use Rattle.tree.specs.Tree.{parentOf, node, isLeft, sibling, path, climbedOnce, climbed}
 use Rattle.tree.proofs.Indices.{half-place}

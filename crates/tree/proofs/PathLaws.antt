@@ -5,8 +5,8 @@ use Prim.Native.Nat.{ℕ, _+_, _*_, _/_, _^_, _≤_, _<_}
 use native.Mathlib.Nat.{zero-add}
 use native.Mathlib.Omega.{arith}
 use lib.ListN.{length, take, drop}
-use Rattle.words.specs.Joined.{joinTo}
-use Rattle.words.proofs.Joins.{write-next}
+use Rattle.lists.specs.Joined.{joinTo}
+use Rattle.lists.proofs.Joins.{write-next}
 use Rattle.tweak.specs.declared.Domain.{Domain}
 use Rattle.tree.specs.Tree.{node, sibling, path}
 use Rattle.tree.proofs.NodeLaws.{length-node}

@@ -6,7 +6,7 @@ use Prim.Native.Nat.{ℕ, zero, suc, _+_, _-_, _*_, _/_, _%_, _^_}
 use lib.Dec.{eqb}
 use lib.ListN.{take, drop, replicate}
 use Rattle.refusal.specs.Code.{outcomeCode, firstCause}
-use Rattle.words.specs.Joined.{joinTo}
+use Rattle.lists.specs.Joined.{joinTo}
 use Rattle.profile.specs.Checks.{profileCauses}
 use Rattle.profile.specs.declared.Profile.{Profile}
 use Rattle.tweak.specs.Tweak.{firstDomain, nodeAddress, tweakedHash}

@@ -17,8 +17,8 @@ use tweak::begin;
 use tweak::end;
 use tweak::first_hasher;
 use tweak::node_address;
-use words::bytes::read_16;
-use words::bytes::write_16;
+use octets::read_16;
+use octets::write_16;
 
 // What Root answers. Refused, the root is zero.
 pub struct TreeRoot {

@@ -2,7 +2,7 @@
 ghost use Prim.Native.Nat.{_≤_};
 use profile::Profile;
 use profile::Shape;
-use words::bytes::word_at;
+use octets::word_at;
 
 pub fn word() -> u32 {
     let mut bytes = [0u8; 4];

@@ -5,9 +5,9 @@ use Prim.Native.Nat.{ℕ}
 use native.Mathlib.Omega.{arith}
 use lib.ListN.{length, take, drop, set, replicate, length-append}
 use lib.Seq.{length-take-le, paste}
-use Rattle.words.specs.Bytes.{toBytes}
-use Rattle.words.proofs.ByteLaws.{length-toBytes}
-use Rattle.words.proofs.Fill.{paste-behind}
+use Rattle.octets.specs.Bytes.{toBytes}
+use Rattle.octets.proofs.ByteLaws.{length-toBytes}
+use Rattle.lists.proofs.Fill.{paste-behind}
 use Rattle.sha256_block.specs.Compression.{initial, compress}
 use Rattle.sha256_block.specs.declared.compression.HashWords.{HashWords}
 use Rattle.sha256.specs.Digest.{padding, compressAll, finalWords, wordBytes, digest}

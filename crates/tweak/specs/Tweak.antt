@@ -3,7 +3,7 @@ use mathlib.Core.Path.{_≡_}
 use mathlib.Core.List.{List, _++_}
 use Prim.Native.Nat.{ℕ}
 use lib.ListN.{length, take, replicate}
-use Rattle.words.specs.Bytes.{toBytes}
+use Rattle.octets.specs.Bytes.{toBytes}
 use Rattle.sha256_block.specs.Compression.{initial, compress}
 use Rattle.sha256.specs.Digest.{digest}
 use Rattle.tweak.specs.declared.Domain.{Domain}

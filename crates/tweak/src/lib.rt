@@ -10,9 +10,9 @@ use sha256::put;
 use sha256_block::HashWords;
 use sha256_block::compress;
 use sha256_block::initial;
-use words::bytes::read_16;
-use words::bytes::word_bytes;
-use words::bytes::write_16;
+use octets::read_16;
+use octets::word_bytes;
+use octets::write_16;
 
 // What the hashes of one tree share (FIPS 205: PK.seed and the first two fields of an address).
 pub struct Domain {

@@ -8,7 +8,7 @@ use borrow.Author.Tests.{eq-eqb, ne-eqb, eqb-true}
 use lib.Dec.{eqb}
 use lib.ListN.{length, getD, drop, drop-of-length-le}
 use lib.Seq.{drop-cons}
-use Rattle.words.proofs.Tests.{both}
+use Rattle.lists.proofs.Tests.{both}
 use Rattle.verifier.specs.Verifying.{same}
 
 pub same-refl : (xs : List ℕ) → same xs xs ≡ true

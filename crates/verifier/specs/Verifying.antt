@@ -6,7 +6,7 @@ use Prim.Native.Nat.{ℕ, _+_, _*_}
 use lib.Dec.{eqb}
 use lib.ListN.{length, take, drop}
 use Rattle.refusal.specs.Code.{outcomeCode, firstCause}
-use Rattle.words.specs.Bytes.{fromBytes}
+use Rattle.octets.specs.Bytes.{fromBytes}
 use Rattle.profile.specs.Checks.{leafBeyond}
 use Rattle.profile.specs.declared.Profile.{Profile}
 use Rattle.counts.specs.Counts.{count}

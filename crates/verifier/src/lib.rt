@@ -4,7 +4,7 @@ ghost use mathlib.Core.Bool.{false};
 ghost use Prim.Native.Nat.{_≤_};
 ghost use lib.ListN.{length, take};
 ghost use Rattle.refusal.specs.Code.{outcomeCode, thenFirst};
-ghost use Rattle.words.specs.Number.{value};
+ghost use Rattle.numbers.specs.Number.{value};
 ghost use Rattle.profile.specs.Checks.{InLimits};
 ghost use Rattle.counts.specs.Counts as counts;
 ghost use Rattle.codewords.specs.Codeword.{stepsLeft};
@@ -26,15 +26,14 @@ use profile::Profile;
 use profile::leaf_beyond;
 use refusal::Outcome;
 use refusal::Refusal;
-use refusal::then;
 use tree::climb_path;
 use tweak::Leaf;
 use tweak::first_hasher;
 use window::Window;
 use window::passed;
 use window::take;
-use words::bytes::front_word;
-use words::bytes::read_16;
+use octets::front_word;
+use octets::read_16;
 
 // A cabinet (document 01; document 02, point 4): its profile, the public seed, the root, and the window over the leaves that it has accepted.
 pub struct Verifier {
@@ -116,10 +115,11 @@ fn verify_outcome(checked: Outcome, v: Verifier, text: usize, signature: &[u8]) 
     let beyond = leaf_beyond(height, leaf);
     let kept = v.window;
     let low = passed(kept, leaf);
-    let worded = then(checked, outside, Refusal::MessageLength);
-    let whole = then(worded, other, Refusal::SignatureLength);
-    let inside = then(whole, beyond, Refusal::LeafOutOfRange);
-    then(inside, low, Refusal::LeafPassed)
+    checked
+        .then(outside, Refusal::MessageLength)
+        .then(other, Refusal::SignatureLength)
+        .then(beyond, Refusal::LeafOutOfRange)
+        .then(low, Refusal::LeafPassed)
 }
 
 // The root that a signature leads to, and the chain steps made on the way.

@@ -8,7 +8,7 @@ use native.Mathlib.Omega.{arith}
 use borrow.Author.Tests.{eq-eqb, eqb-false}
 use lib.Dec.{eqb, lit<}
 use lib.Pow.{pow-pos, pow-add, shl-shr, shr-shr, field, mod-mod-pow}
-use Rattle.words.proofs.Numbers.{lt-or-le}
+use Rattle.lists.proofs.Numbers.{lt-or-le}
 use Rattle.window.specs.Window.{marked, moved}
 
 -- bit k of a number is among its lowest s, for k below s

@@ -6,8 +6,8 @@ use Prim.Native.Nat.{ℕ, _+_, _-_, _^_, _<_, _≤_}
 use native.Mathlib.Omega.{arith}
 use borrow.Author.Tests.{eqb-true, eqb-false, ltb-true, ltb-false, le-leb, lt-leb, eq-eqb, ne-eqb}
 use lib.Dec.{ltb, leb, eqb, lit<}
-use Rattle.words.proofs.Numbers.{lt-or-le}
-use Rattle.words.proofs.Tests.{neither}
+use Rattle.lists.proofs.Numbers.{lt-or-le}
+use Rattle.lists.proofs.Tests.{neither}
 use Rattle.window.specs.Window.{marked, passed, moved, taken}
 use Rattle.window.specs.declared.Window.{Window}
 use Rattle.window.proofs.MarkLaws.{marked-moved-own, marked-moved, unmarked-moved, marked-added-own, marked-added}

@@ -6,7 +6,7 @@ use Prim.Native.Nat.{ℕ}
 use lib.Dec.{eqb}
 use Rattle.refusal.specs.Code.{outcomeCode}
 use Rattle.refusal.specs.declared.Outcome.{Outcome}
-use Rattle.words.specs.Number.{value}
+use Rattle.numbers.specs.Number.{value}
 use Rattle.profile.specs.declared.Shape.{Shape}
 use Rattle.profile.specs.declared.Profile.{Profile}
 use Rattle.signing_key.specs.Counter.{cleared, Reserves}

@@ -9,9 +9,9 @@ use lib.Dec.{eqb}
 use lib.ListN.{replicate}
 use Rattle.refusal.specs.Code.{outcomeCode}
 use Rattle.refusal.specs.declared.Outcome.{Outcome}
-use Rattle.words.specs.Number.{value}
-use Rattle.words.specs.Order.{orderCode, Compares}
-use Rattle.words.specs.declared.number.Compared.{Compared}
+use Rattle.numbers.specs.Number.{value}
+use Rattle.numbers.specs.Order.{orderCode, Compares}
+use Rattle.numbers.specs.declared.number.Compared.{Compared}
 use Rattle.sha256.specs.Digest.{digest}
 use Rattle.sha256.specs.Running.{started, addCode}
 use Rattle.profile.specs.declared.Shape.{Shape}

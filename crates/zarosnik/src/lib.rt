@@ -35,8 +35,8 @@ use tree::root;
 use verifier::Verifier;
 use verifier::verify;
 use window::Window;
-use words::number::compare;
-use words::number::order_code;
+use numbers::number::compare;
+use numbers::number::order_code;
 
 // The code that a call returns.
 fn returned(o: Outcome) -> u32

@@ -1,7 +1,7 @@
 -- Leaf keys, the root, the signature of a number and what Recover finds go by shape and height alone; a leaf in front of a text is hashed as part of it.
 use mathlib.Core.Path.{refl, sym, ap, _∙_}
 use mathlib.Core.List.{_++_, append-assoc, append-nil}
-use Rattle.words.specs.Bytes.{toBytes}
+use Rattle.octets.specs.Bytes.{toBytes}
 use Rattle.sha256.specs.Digest as sha256
 use Rattle.one_time.specs.Operations.{revealedBy, recoveredBy}
 use Rattle.tree.specs.Tree.{rootOf}

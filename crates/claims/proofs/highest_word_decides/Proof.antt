@@ -1,5 +1,5 @@
 -- The order of two numbers is that of their highest words that differ.
-use Rattle.words.proofs.Comparison.{highest-decides}
+use Rattle.numbers.proofs.Comparison.{highest-decides}
 use Rattle.claims.proofs.highest_word_decides.Statement.{statement}
 use Rattle.claims.proofs.highest_word_decides.Tie as tie
 

@@ -3,7 +3,7 @@ use mathlib.Core.Path.{sym, ap, _∙_}
 use native.Mathlib.Omega.{arith}
 use borrow.Author.Needs.{needs}
 use lib.ListN.{length, getD}
-use Rattle.words.proofs.Lists.{getD-only}
+use Rattle.lists.proofs.Lists.{getD-only}
 use Rattle.frames.proofs.FrameNumbers.{length-frames, value-at, sibling-at, profile-at, text-at, kind-byte, profile-long, edition-long, profile-byte}
 use Rattle.frames.proofs.head_byte.Statement.{statement}
 use Rattle.frames.proofs.head_byte.Tie as tie

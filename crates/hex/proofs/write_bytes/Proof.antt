@@ -6,8 +6,8 @@ use native.Mathlib.Omega.{arith}
 use borrow.Author.Needs.{needs}
 use denote.Ref.{now}
 use lib.ListN.{length, take, drop}
-use Rattle.words.specs.Joined.{joinTo}
-use Rattle.words.proofs.Joins.{write-start, write-next, write-long}
+use Rattle.lists.specs.Joined.{joinTo}
+use Rattle.lists.proofs.Joins.{write-start, write-next, write-long}
 use Rattle.hex.proofs.Writing.{pairOf, pair-long, all-joined}
 use Rattle.hex.proofs.write_bytes.Statement.{statement}
 use Rattle.hex.proofs.write_bytes.Tie as tie

@@ -4,7 +4,7 @@ use native.Mathlib.Omega.{arith}
 use borrow.Author.Needs.{needs}
 use borrow.Author.Tests.{ltb-true, ltb-false}
 use lib.Dec.{ltb}
-use Rattle.words.specs.Number.{value}
+use Rattle.numbers.specs.Number.{value}
 use Rattle.listing.proofs.Rows.{one-word, least-word}
 use Rattle.listing.proofs.line_count.Statement.{statement}
 use Rattle.listing.proofs.line_count.Tie as tie

@@ -5,7 +5,7 @@ use native.Mathlib.Omega.{arith}
 use borrow.Author.Needs.{needs}
 use denote.Ref.{now}
 use lib.ListN.{length}
-use Rattle.words.proofs.Joins.{write-start}
+use Rattle.lists.proofs.Joins.{write-start}
 use Rattle.listing.specs.Listing.{rowLine}
 use Rattle.listing.proofs.Rows.{lineLength, Printed, line-room, keeps-length, printed-next, printed-all}
 use Rattle.listing.proofs.write_rows.Statement.{statement}

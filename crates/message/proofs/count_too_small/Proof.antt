@@ -1,6 +1,6 @@
 -- `message::count_too_small` meets its contract: the number it compares with is 256.
 use borrow.Author.Needs.{needs}
-use Rattle.words.specs.Number.{value}
+use Rattle.numbers.specs.Number.{value}
 use Rattle.message.specs.Message.{countTooSmall}
 use Rattle.message.proofs.count_too_small.Statement.{statement}
 use Rattle.message.proofs.count_too_small.Tie as tie

@@ -2,7 +2,7 @@
 use mathlib.Core.Path.{_∙_}
 use native.Mathlib.Omega.{arith}
 use borrow.Author.Needs.{needs}
-use Rattle.words.specs.Number.{value}
+use Rattle.numbers.specs.Number.{value}
 use Rattle.message.specs.Message.{messageNumber}
 use Rattle.message.proofs.NumberLaws.{bits-few}
 use Rattle.message.proofs.message_number.Statement.{statement}

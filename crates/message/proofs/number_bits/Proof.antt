@@ -3,7 +3,7 @@ use mathlib.Core.Path.{_≡_}
 use Prim.Native.Nat.{min}
 use native.Mathlib.Omega.{arith}
 use borrow.Author.Needs.{needs}
-use Rattle.words.specs.Number.{value}
+use Rattle.numbers.specs.Number.{value}
 use Rattle.message.specs.Message.{numberBits}
 use Rattle.message.proofs.NumberLaws.{bits-of-log}
 use Rattle.message.proofs.number_bits.Statement.{statement}

@@ -3,7 +3,7 @@ use mathlib.Core.Path.{_≡_, sym, _∙_}
 use borrow.Author.Needs.{needs}
 use lib.ListN.{length}
 use mir.Syntax.{w8}
-use Rattle.words.proofs.Lists.{below-fits}
+use Rattle.lists.proofs.Lists.{below-fits}
 use Rattle.message.proofs.NumberLaws.{first-16}
 use Rattle.message.proofs.number_of_digest.Statement.{statement}
 use Rattle.message.proofs.number_of_digest.Tie as tie

@@ -4,8 +4,8 @@ use native.Mathlib.Omega.{arith}
 use borrow.Author.Needs.{needs}
 use denote.Ref.{now}
 use lib.ListN.{length, replicate}
-use Rattle.words.specs.Bytes.{toBytes}
-use Rattle.words.proofs.ByteLaws.{length-toBytes}
+use Rattle.octets.specs.Bytes.{toBytes}
+use Rattle.octets.proofs.ByteLaws.{length-toBytes}
 use Rattle.chains.specs.Leaves.{revealed}
 use Rattle.chains.proofs.LeafRecover.{length-revealed}
 use Rattle.message.specs.Message.{signatureLength}

@@ -6,7 +6,7 @@ use borrow.Author.Needs.{needs}
 use denote.Ref.{now}
 use lib.ListN.{length}
 use Rattle.refusal.specs.Code.{outcomeCode}
-use Rattle.words.specs.Number.{value}
+use Rattle.numbers.specs.Number.{value}
 use Rattle.signing_key.specs.Counter.{cleared}
 use Rattle.signing_key.specs.Key.{recounted}
 use Rattle.counts.specs.Counts.{count}

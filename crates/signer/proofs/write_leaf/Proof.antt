@@ -3,8 +3,8 @@ use native.Mathlib.Omega.{arith}
 use borrow.Author.Needs.{needs}
 use denote.Ref.{now}
 use lib.ListN.{length-set}
-use Rattle.words.specs.Bytes.{toBytes}
-use Rattle.words.proofs.Fill.{store-4}
+use Rattle.octets.specs.Bytes.{toBytes}
+use Rattle.lists.proofs.Fill.{store-4}
 use Rattle.signer.proofs.write_leaf.Statement.{statement}
 use Rattle.signer.proofs.write_leaf.Tie as tie
 

@@ -4,7 +4,7 @@ use Prim.Native.Nat.{_%_}
 use native.Mathlib.Nat.{div-one}
 use native.Mathlib.Omega.{arith}
 use borrow.Author.Needs.{needs}
-use Rattle.words.specs.Bytes.{toBytes}
+use Rattle.octets.specs.Bytes.{toBytes}
 use Rattle.tweak.specs.Tweak.{address}
 use Rattle.tweak.proofs.address.Statement.{statement}
 use Rattle.tweak.proofs.address.Tie as tie

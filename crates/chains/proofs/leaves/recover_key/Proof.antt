@@ -6,7 +6,7 @@ use native.Mathlib.Omega.{arith}
 use borrow.Author.Needs.{needs}
 use denote.Ref.{now}
 use lib.ListN.{length, getD, take, drop}
-use Rattle.words.proofs.Joins.{length-value}
+use Rattle.lists.proofs.Joins.{length-value}
 use Rattle.sha256.specs.Running.{hashed}
 use Rattle.tweak.specs.declared.Domain.{Domain}
 use Rattle.codewords.specs.Codeword.{stepsLeft}

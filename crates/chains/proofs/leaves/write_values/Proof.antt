@@ -6,8 +6,8 @@ use native.Mathlib.Omega.{arith}
 use borrow.Author.Needs.{needs}
 use denote.Ref.{now}
 use lib.ListN.{length, getD, take, drop}
-use Rattle.words.specs.Joined.{joinTo}
-use Rattle.words.proofs.Joins.{write-start, write-next}
+use Rattle.lists.specs.Joined.{joinTo}
+use Rattle.lists.proofs.Joins.{write-start, write-next}
 use Rattle.tweak.specs.declared.Domain.{Domain}
 use Rattle.chains.specs.Chains.{chainValue}
 use Rattle.chains.specs.Leaves.{revealed}

@@ -4,7 +4,7 @@ use Prim.Native.Nat.{_+_, _-_, _≤_}
 use native.Mathlib.Omega.{arith}
 use borrow.Author.Needs.{needs}
 use denote.Ref.{now}
-use Rattle.words.specs.Number.{value, toWords}
+use Rattle.numbers.specs.Number.{value, toWords}
 use Rattle.counts.specs.Counts.{sumTo}
 use Rattle.codewords.proofs.RankLaws.{downFrom, skip-begins, skip-fits, skip-next}
 use Rattle.codewords.proofs.ranking.skip.Statement.{statement}

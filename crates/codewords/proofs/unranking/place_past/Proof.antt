@@ -4,7 +4,7 @@ use borrow.Author.Needs.{needs}
 use lib.Dec.{leb}
 use Rattle.refusal.specs.Code.{outcomeCode, thenCode}
 use Rattle.refusal.proofs.Causes.{then-means, refused-number}
-use Rattle.words.specs.Number.{value}
+use Rattle.numbers.specs.Number.{value}
 use Rattle.counts.specs.Counts.{count}
 use Rattle.counts.proofs.Answer.{count-value}
 use Rattle.codewords.proofs.UnrankAnswer.{not-below, granted-below}

@@ -8,8 +8,8 @@ use borrow.Author.Needs.{needs}
 use borrow.Author.Tests.{ltb-false}
 use denote.Ref.{now}
 use lib.ListN.{take-append-drop, length, take, drop, length-set}
-use Rattle.words.specs.Number.{value, toWords}
-use Rattle.words.proofs.Fill.{behind-next}
+use Rattle.numbers.specs.Number.{value, toWords}
+use Rattle.lists.proofs.Fill.{behind-next}
 use Rattle.profile.proofs.Limits.{sum-small}
 use Rattle.counts.proofs.TableLaws.{cell-of, cell-within}
 use Rattle.counts.proofs.CountLaws.{D-small}

@@ -3,7 +3,7 @@ use mathlib.Core.Path.{sym}
 use Prim.Native.Nat.{_*_}
 use borrow.Author.Needs.{needs}
 use denote.Ref.{now}
-use Rattle.words.proofs.Lists.{part-5}
+use Rattle.lists.proofs.Lists.{part-5}
 use Rattle.counts.proofs.cells.load.Statement.{statement}
 use Rattle.counts.proofs.cells.load.Tie as tie
 

@@ -6,8 +6,8 @@ use native.Mathlib.Omega.{arith}
 use borrow.Author.Needs.{needs}
 use denote.Ref.{now}
 use lib.ListN.{length, getD, take, drop, length-set}
-use Rattle.words.proofs.Lists.{part-5}
-use Rattle.words.proofs.Fill.{store-5}
+use Rattle.lists.proofs.Lists.{part-5}
+use Rattle.lists.proofs.Fill.{store-5}
 use Rattle.counts.proofs.cells.store.Statement.{statement}
 use Rattle.counts.proofs.cells.store.Tie as tie
 

@@ -5,9 +5,9 @@ use native.Mathlib.Omega.{arith}
 use borrow.Author.Needs.{needs}
 use denote.Ref.{now}
 use lib.ListN.{take, drop}
-use Rattle.words.specs.Number.{value}
+use Rattle.numbers.specs.Number.{value}
 use Rattle.counts.specs.Counts.{D}
-use Rattle.words.specs.Limbs.{number}
+use Rattle.numbers.specs.Limbs.{number}
 use Rattle.counts.proofs.NextCell.{row-start, row-small, above, grown-fits, grown, out-within, shrunk}
 use Rattle.counts.proofs.table.cell.Statement.{statement}
 use Rattle.counts.proofs.table.cell.Tie as tie

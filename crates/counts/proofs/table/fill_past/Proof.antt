@@ -3,7 +3,7 @@ use mathlib.Core.Path.{refl, ap}
 use borrow.Author.Needs.{needs}
 use Rattle.refusal.specs.Code.{outcomeCode}
 use Rattle.refusal.proofs.Causes.{refused-number}
-use Rattle.words.specs.Number.{toWords}
+use Rattle.numbers.specs.Number.{toWords}
 use Rattle.counts.proofs.table.fill_past.Statement.{statement}
 use Rattle.counts.proofs.table.fill_past.Tie as tie
 

@@ -6,9 +6,9 @@ use native.Mathlib.Omega.{arith}
 use borrow.Author.Needs.{needs}
 use denote.Ref.{now}
 use lib.ListN.{length, drop}
-use Rattle.words.specs.Number.{value, toWords}
+use Rattle.numbers.specs.Number.{value, toWords}
 use Rattle.counts.specs.Counts.{share, D}
-use Rattle.words.specs.Limbs.{number}
+use Rattle.numbers.specs.Limbs.{number}
 use Rattle.counts.specs.Table.{cells, rows}
 use Rattle.counts.proofs.CountLaws.{share-start, share-before}
 use Rattle.counts.proofs.NextCell.{row-small}

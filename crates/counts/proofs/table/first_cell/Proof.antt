@@ -2,7 +2,7 @@
 use mathlib.Core.Path.{_≡_}
 use Prim.Native.Nat.{suc, _-_}
 use native.Mathlib.Omega.{arith}
-use Rattle.words.specs.Number.{toWords}
+use Rattle.numbers.specs.Number.{toWords}
 use Rattle.counts.specs.Counts.{D}
 use Rattle.counts.proofs.table.first_cell.Statement.{statement}
 use Rattle.counts.proofs.table.first_cell.Tie as tie

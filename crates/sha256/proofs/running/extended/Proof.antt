@@ -7,7 +7,7 @@ use borrow.Author.Needs.{needs}
 use denote.Ref.{now}
 use lib.ListN.{length, take, replicate}
 use lib.Seq.{length-take-le}
-use Rattle.words.proofs.Fill.{pasted, part-to-end}
+use Rattle.lists.proofs.Fill.{pasted, part-to-end}
 use Rattle.sha256.specs.Running.{pending}
 use Rattle.sha256.specs.declared.running.Hash.{Hash}
 use Rattle.sha256.proofs.Extension.{within-block, past-block}

@@ -6,7 +6,7 @@ use native.Mathlib.Omega.{arith}
 use borrow.Author.Needs.{needs}
 use lib.ListN.{length, take}
 use lib.Seq.{length-take-le}
-use Rattle.words.proofs.Fill.{pasted}
+use Rattle.lists.proofs.Fill.{pasted}
 use Rattle.sha256.specs.Running.{finished, pending}
 use Rattle.sha256.specs.declared.running.Hash.{Hash}
 use Rattle.sha256.proofs.Padding.{marked, one-block, two-blocks}

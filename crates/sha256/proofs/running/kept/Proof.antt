@@ -4,7 +4,7 @@ use mathlib.Core.List.{_++_}
 use native.Mathlib.Nat.{zero-add}
 use borrow.Author.Needs.{needs}
 use lib.ListN.{take, drop, replicate}
-use Rattle.words.proofs.Fill.{drop-replicate}
+use Rattle.lists.proofs.Fill.{drop-replicate}
 use Rattle.sha256.proofs.running.kept.Statement.{statement}
 use Rattle.sha256.proofs.running.kept.Tie as tie
 

@@ -3,8 +3,8 @@ use mathlib.Core.Path.{_≡_}
 use native.Mathlib.Omega.{arith}
 use borrow.Author.Needs.{needs}
 use lib.ListN.{length}
-use Rattle.words.specs.Bytes.{toBytes}
-use Rattle.words.proofs.Fill.{store-4}
+use Rattle.octets.specs.Bytes.{toBytes}
+use Rattle.lists.proofs.Fill.{store-4}
 use Rattle.sha256.proofs.running.put_word.Statement.{statement}
 use Rattle.sha256.proofs.running.put_word.Tie as tie
 

@@ -6,7 +6,7 @@ use native.Mathlib.Omega.{arith}
 use borrow.Author.Needs.{needs}
 use denote.Ref.{now}
 use lib.ListN.{length, drop, length-drop}
-use Rattle.words.proofs.Fill.{paste-next, part-to-end}
+use Rattle.lists.proofs.Fill.{paste-next, part-to-end}
 use Rattle.sha256.specs.Running.{rest}
 use Rattle.sha256.proofs.running.rest.Statement.{statement}
 use Rattle.sha256.proofs.running.rest.Tie as tie

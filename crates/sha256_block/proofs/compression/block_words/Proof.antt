@@ -6,8 +6,8 @@ use native.Mathlib.Numerals.{add-one}
 use native.Mathlib.Omega.{arith}
 use borrow.Author.Needs.{needs}
 use lib.ListN.{set, take, drop, replicate}
-use Rattle.words.specs.Bytes.{fromBytes}
-use Rattle.words.proofs.Fill.{store-next}
+use Rattle.octets.specs.Bytes.{fromBytes}
+use Rattle.lists.proofs.Fill.{store-next}
 use Rattle.sha256_block.specs.Compression.{wordsOf}
 use Rattle.sha256_block.proofs.Schedule.{length-words, words-next}
 use Rattle.sha256_block.proofs.compression.block_words.Statement.{statement}

@@ -1,6 +1,6 @@
 -- `stored_key::writer::last_bytes` meets its contract: the next leaf's bytes, the mark's, and 02.
 use borrow.Author.Needs.{needs}
-use Rattle.words.specs.Bytes.{toBytes}
+use Rattle.octets.specs.Bytes.{toBytes}
 use Rattle.frames.specs.Frames.{editionByte}
 use Rattle.stored_key.proofs.writer.last_bytes.Statement.{statement}
 use Rattle.stored_key.proofs.writer.last_bytes.Tie as tie

@@ -1,6 +1,6 @@
 -- `sha256::running::Hash::digest` meets its contract: eight pastes of four bytes fill the array.
 use borrow.Author.Needs.{needs}
-use Rattle.words.specs.Bytes.{toBytes}
+use Rattle.octets.specs.Bytes.{toBytes}
 use Rattle.sha256.specs.Digest.{wordBytes}
 use Rattle.sha256.proofs.running.Hash.digest.Statement.{statement}
 use Rattle.sha256.proofs.running.Hash.digest.Tie as tie

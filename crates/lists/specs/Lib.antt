@@ -1,0 +1,3 @@
+-- Values joined, and lists without repetition.
+pub mod Distinct
+pub mod Joined

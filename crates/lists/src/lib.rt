@@ -1,0 +1,1 @@
+// Laws on lists, for the proofs of the other crates. No code.

@@ -1,0 +1,2 @@
+-- What numbers written in bytes mean.
+pub mod Bytes
