@@ -47,9 +47,10 @@ fn leaf_key_outcome(p: Profile, leaf: u32) -> Outcome
 fn early_outcome(checked: Outcome, height: u32, leaf: u32, wrong: bool, refusal: Refusal) -> Outcome
     ensures { λ r. ⌜ outcomeCode r ≡ thenFirst (outcomeCode checked) (ownCauses height leaf wrong (code refusal)) ⌝ }
 {
+    let beyond = leaf_beyond(height, leaf);
     checked
         .then(wrong, refusal)
-        .then(leaf_beyond(height, leaf), Refusal::LeafOutOfRange)
+        .then(beyond, Refusal::LeafOutOfRange)
 }
 
 // What Reveal and Recover share, which differ in the refusal of a wrong size: every cause, and where none holds the

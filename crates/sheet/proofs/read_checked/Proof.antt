@@ -51,8 +51,8 @@ open-at c =
 judge-requires : tie.Need-judge-requires
 judge-requires c κs = let s = c .before .before .before in profile-limits (s .args .p) (s .pre)
 
-cast-t18 : tie.Need-cast-t18
-cast-t18 c =
+cast-t23 : tie.Need-cast-t23
+cast-t23 c =
     let j = c .before .before .before .before .before .before in
     let s = j .before .before .before .before in
     omega (arith, line-is j, line-small (s .args .p) (now (s .args .sheet)) (profile-limits (s .args .p) (s .pre)))
@@ -75,8 +75,8 @@ copy-text-requires c κs =
     let fits : copied .copy-signature .result + 2 * (1 + n) < 2 ^ 64 = omega (arith, copied .copy-signature .ensures .0, w .long, j .before .before .before .before .good .1 .0) in
     (fits, open-at o .room)
 
-cast-t24 : tie.Need-cast-t24
-cast-t24 c =
+cast-t29 : tie.Need-cast-t29
+cast-t29 c =
     let o = c .before .before .before .before .before .before .before .before in
     let j = o .before .before .before .before .before .before in
     let a = j .before .before .before .before .args in
@@ -109,11 +109,11 @@ read-checked-spec =
     (tie.spec
     judge-requires
     (λ c κs. search needs) (λ c κs. search needs) (λ c κs. search needs) (λ c κs. search needs) (λ c. search needs)
-    cast-t18
+    cast-t23
     (λ c. search needs)
     copy-signature-requires
     copy-text-requires
-    cast-t24
+    cast-t29
     returns
     (λ c. search needs) (λ c. search needs)
     returns-2)
