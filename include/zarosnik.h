@@ -178,7 +178,19 @@ enum zarosnik_outcome {
     ZAROSNIK_REFUSED_COUNT_TOO_SMALL = 19,
     ZAROSNIK_REFUSED_NO_MARK = 20,
     ZAROSNIK_REFUSED_MARK_STANDS = 21,
-    ZAROSNIK_REFUSED_EDITION = 22
+    ZAROSNIK_REFUSED_EDITION = 22,
+    /* No call of this release gives those from here on: they are of operations still to come. */
+    ZAROSNIK_REFUSED_ORDER_COUNT = 23,
+    ZAROSNIK_REFUSED_END_PLACES = 24,
+    ZAROSNIK_REFUSED_LEAF_ORDER = 25,
+    ZAROSNIK_REFUSED_SIBLING_COUNT = 26,
+    ZAROSNIK_REFUSED_LEAF_COUNT = 27,
+    ZAROSNIK_REFUSED_SHARE_SUM = 28,
+    ZAROSNIK_REFUSED_DESK_OUT_OF_RANGE = 29,
+    ZAROSNIK_REFUSED_SHARE_USED = 30,
+    ZAROSNIK_REFUSED_PLACE_FILLED = 31,
+    ZAROSNIK_REFUSED_PLACE_EMPTY = 32,
+    ZAROSNIK_REFUSED_VALUE_ZERO = 33
 };
 
 /* How the first of two numbers stands to the second: what zarosnik_compare writes to order. */
@@ -215,6 +227,17 @@ static inline const char *zarosnik_outcome_text(uint32_t outcome)
     case ZAROSNIK_REFUSED_NO_MARK: return "no leaf reserved";
     case ZAROSNIK_REFUSED_MARK_STANDS: return "a reserved leaf has not signed yet";
     case ZAROSNIK_REFUSED_EDITION: return "edition neither 1 nor 2";
+    case ZAROSNIK_REFUSED_ORDER_COUNT: return "number of orders 0 or above 64";
+    case ZAROSNIK_REFUSED_END_PLACES: return "end places that fall, pass the texts or end elsewhere";
+    case ZAROSNIK_REFUSED_LEAF_ORDER: return "leaves that do not rise";
+    case ZAROSNIK_REFUSED_SIBLING_COUNT: return "siblings more or fewer than needed";
+    case ZAROSNIK_REFUSED_LEAF_COUNT: return "number of leaves 0, above 64 or above 2^h";
+    case ZAROSNIK_REFUSED_SHARE_SUM: return "shares together above 2^h";
+    case ZAROSNIK_REFUSED_DESK_OUT_OF_RANGE: return "desk not 0 to 3";
+    case ZAROSNIK_REFUSED_SHARE_USED: return "share and common part both used up";
+    case ZAROSNIK_REFUSED_PLACE_FILLED: return "place of the register already filled";
+    case ZAROSNIK_REFUSED_PLACE_EMPTY: return "place of the register already empty";
+    case ZAROSNIK_REFUSED_VALUE_ZERO: return "value to add all zero";
     default: return "not an outcome of this library";
     }
 }

@@ -424,7 +424,7 @@ def main():
     compared = declared_enum(flat, "zarosnik_order")
     same(functions, exported_functions(source_text("zarosnik")), "header", "source")
     same(outcomes, refusals(source_text("refusal")), "header", "source")
-    same(compared, compared_orders(source_text("words")), "header", "source")
+    same(compared, compared_orders(source_text("numbers")), "header", "source")
     check_version(flat)
     check_typed(typed, functions)
     refuse_ignored({**functions, **declared_functions(typed, r"\{")})
