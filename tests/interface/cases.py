@@ -1,0 +1,507 @@
+"""The cases of a run. A case is one call or a sequence of calls; the run's seed and the case's
+number give it, so that it can be made again alone.
+
+A run begins with the tallest trees, once for each height, with an order signed and one checked at
+each of the counts on both sides of the powers of two, with sheets written for texts of every
+length, read, and written again, and with keys of every kind, which reserve, sign, are written, read
+and written again, and stored ones that are wrong in every way. Every round of cases has, for each
+operation, granted calls, each cause of refusal alone, each two together, and several; numbers to
+compare of many kinds; numbers of the profile that narrower parameters would cut to right ones, or
+that are the ends of what wide ones hold; both editions and numbers that are none; slices whose
+length passes 32 bits; orders of earlier days, and orders and sheets of the other edition; each way
+in which a leaf can stand to a verifier's highest leaf and marks; and sequences in which a fresh key
+reserves and signs, with cuts and restarts between, and a fresh verifier checks, in the order signed
+and in any other.
+"""
+
+import itertools
+import random
+from functools import cache, lru_cache, partial
+
+import editions
+import shapes
+import stored_keys
+import windows
+import written_sheets
+from calls import EDITED, ORDERS, Calls
+from damage import Order, flipped, swapped
+from inputs import (
+    CAUSES,
+    CUTS,
+    FAR,
+    WIDE,
+    Inputs,
+    any_shape,
+    cheap_height,
+    signable_shape,
+)
+from memory import Memory
+from keys import frame_length
+from sheets import sheet_length
+from signatures import (
+    EDITIONS,
+    GATE,
+    Profile,
+    Verifier,
+    fresh_key,
+    message_number,
+    pieces,
+    restarted,
+    root_of,
+    signature_length,
+    signature_of,
+)
+from zarosnik import MOST_BITS
+
+SEQUENCES = 8
+# Causes that come in many ways, and numbers that are compared in more.
+MANIFOLD = [("rank", [10]), ("verify", [15]), ("read_sheet", [17]), ("read_key", [17])]
+MANIFOLD += [("read_key", []), *[("compare", [])] * 3]
+# Orders of earlier days have numbers of 128 bits. Where numbers have so many today, an R that gave
+# one below the count is soon found.
+EARLIER_BITS = range(120, MOST_BITS + 1)
+# Sequences sign with every leaf of trees that are no higher than this.
+MOST_HEIGHT = 3
+
+
+def subsets(causes, most):
+    return [laid for n in range(1, most + 1) for laid in itertools.combinations(causes, n)]
+
+
+def wide_numbers(operation):
+    """Each set of numbers of the profile, by their causes, with each way in which they are wide.
+    The edition is among them alone, with one other, and with all."""
+    causes = [cause for cause in CAUSES[operation] if cause in CUTS]
+    sets = subsets(causes, len(causes))
+    some = [laid for laid in sets if 22 not in laid or len(laid) in (1, 2, len(causes))]
+    return list(itertools.product(some, WIDE))
+
+
+class Unsound(Exception):
+    """A call is not what it was drawn to be: a fault of the tests, not of the library."""
+
+
+def demand(holds, call):
+    if not holds:
+        raise Unsound(f"drawn otherwise, with the causes {call.causes}: {call}")
+
+
+def caused(operation, causes, call):
+    """The call, with the causes in the document's order. The first one must be told."""
+    call.causes = [cause for cause in CAUSES[operation] if cause in causes]
+    demand(call.outcome == abs(next(iter(call.causes), 0)), call)
+    return call
+
+
+def single(operation, causes, pick, far=None, wide=None):
+    """One call. A far slice is one whose length passes 32 bits. Where l is the end of what a number
+    can be, no s is too large, so just the first cause is sure then."""
+    inputs = Inputs(pick, operation, causes, far, wide)
+    call = caused(operation, causes, getattr(inputs, operation)())
+    if wide:
+        call.wide = tuple(causes), wide
+        call.causes = call.causes[:1]
+    yield call
+
+
+def edge(operation, shape, pick):
+    """An order at a count near a power of two, and nothing but the count may refuse it. The tree is
+    low: it has no part in the bits."""
+    answer = shapes.answer_at(shape)
+    causes = [answer] if answer else []
+    p = Profile(*shape, pick.randrange(2), pick.choice(EDITIONS))
+    inputs = Inputs(pick, operation, causes, profile=p)
+    yield caused(operation, causes, getattr(inputs, operation)())
+
+
+def edition(operation, number, pick):
+    """Nothing but the edition may refuse the call."""
+    causes = [22] if editions.answer_to(number) else []
+    inputs = Inputs(pick, operation, causes, edition=number)
+    yield caused(operation, causes, getattr(inputs, operation)())
+
+
+def crossed(operation, number, pick):
+    """Checks, in this edition, an order that was signed in the other. Where numbers are few, both
+    may have the same one: another is drawn then."""
+    while True:
+        p = Profile(*signable_shape(pick), pick.randrange(11), number)
+        order = Order(pick, p)
+        order.sign_as_other_edition()
+        if not order.leads_to_root():
+            break
+    call = caused(operation, [15], Inputs(pick, operation, [15], profile=p).verify(order))
+    call.crossed = True
+    yield call
+
+
+def high_leaf(operation, number, pick):
+    """Signs, in this edition, with a leaf that one byte does not hold, under a tree of short
+    chains; numbers have 16 bits."""
+    p = Profile(10, 4, 15, pick.choice([9, 10]), number)
+    next_leaf = pick.randrange((1 << 8) + 1, (1 << p.h) + 1)
+    yield caused(operation, [], Inputs(pick, operation, profile=p).sign((next_leaf, 1)))
+
+
+def last(operation, number, digits, pick):
+    """Reads, expecting this edition, a sheet with these digits behind s in frame 01."""
+    causes = [17] if editions.line_to(number, digits) else []
+    inputs = Inputs(pick, operation, causes, edition=number)
+    yield caused(operation, causes, inputs.read_sheet(digits))
+
+
+def written(operation, number, size, pick):
+    """Writes, in this edition, texts of so many bytes as sheets, with slices of each length."""
+    for slices in written_sheets.SLICES:
+        inputs = Inputs(pick, operation, edition=number)
+        given = written_sheets.drawn(pick, inputs.good, size, slices)
+        call = inputs.calls.write_sheet(inputs.good, *given)
+        yield caused(operation, written_sheets.causes_of(size, slices), call)
+        if call.outcome == 0:
+            yield from read_back(call, pick)
+
+
+def read_back(call, pick):
+    """Reads the sheet that a call has written, and writes what was read: this is the signature and
+    the text, and these are the same bytes again."""
+    calls, given = Calls(pick), call.arguments
+    p = Profile(*(given[name] for name in Profile._fields))
+    parts = [given[name].before for name in ("signature", "message")]
+    sheet = given["sheet"].after[: sheet_length(p, len(parts[1]))]
+    slices = [Memory(pick.randbytes(len(part))) for part in parts]
+    read = calls.read_sheet(p, Memory(sheet), *slices)
+    demand(read.outcome == 0 and [memory.after for memory in slices] == parts, read)
+    read.written = True
+    yield read
+    again = [Memory(memory.after) for memory in slices]
+    call = calls.write_sheet(p, *again, Memory(pick.randbytes(len(sheet))))
+    demand(call.arguments["sheet"].after == sheet, call)
+    yield call
+
+
+def counter(operation, kind, pick):
+    """A key whose next leaf and mark are of this kind. Nothing but these may refuse the call."""
+    number, tree, name, mark = kind
+    answer = stored_keys.answer_to(operation, kind)
+    causes = [answer] if answer in (20, 21, 12) else []
+    l, w, s = signable_shape(pick) if operation in ORDERS else any_shape(pick)
+    # a key that signs hashes its tree
+    most = cheap_height(pick, l, w) or 1 if operation in ORDERS else 10
+    p = Profile(l, w, s, stored_keys.drawn_height(pick, tree, most), number)
+    key = stored_keys.any_key(pick, p, stored_keys.NEXT_LEAVES[name][0](p.h), mark)
+    inputs = Inputs(pick, operation, profile=p)
+    if operation == "reserve":
+        # the last leaf was reserved, and a mark goes first
+        causes += [12] if answer == 21 and stored_keys.NEXT_LEAVES[name][2] else []
+        yield caused(operation, causes, inputs.calls.reserve(key)[0])
+    elif operation == "sign":
+        yield caused(operation, causes, inputs.sign(key[3:]))
+    elif operation == "write_key":
+        call = inputs.calls.write_key(key, inputs.lent("frame", frame_length(p)))
+        yield caused(operation, [], call)
+        yield from stored_back(call, key, answer, pick)
+    else:
+        frame = stored_keys.marked_frame(key)
+        call, found = inputs.calls.read_key(Memory(frame))
+        demand(found == key._replace(mark=answer), call)
+        yield caused(operation, [], call)
+        again = inputs.calls.write_key(found, Memory(pick.randbytes(len(frame))))
+        # the same bytes unless the mark does not count
+        demand((again.arguments["frame"].after == frame) == (mark == answer), again)
+        yield again
+
+
+def stored_back(call, key, mark, pick):
+    """Reads the stored key that a call has written, and writes what was read: this is the key, with
+    a mark that does not count as none, and these are the same bytes again."""
+    calls, frame = Calls(pick), call.arguments["frame"].after[: frame_length(key.profile)]
+    read, found = calls.read_key(Memory(frame))
+    demand(read.outcome == 0 and found == key._replace(mark=mark), read)
+    read.written = True
+    yield read
+    call = calls.write_key(found, Memory(pick.randbytes(len(frame))))
+    demand(call.arguments["frame"].after == frame, call)
+    yield call
+
+
+def key_slice(operation, number, longer, pick):
+    """Writes a key, in this edition, into a slice that is so much longer than it must be."""
+    inputs = Inputs(pick, operation, edition=number)
+    key = stored_keys.any_key(pick, inputs.good)
+    size = frame_length(inputs.good) + longer
+    frame = Memory(pick.randbytes(size), spare=max(0, longer))
+    causes = [6] if stored_keys.SLICES[longer] else []
+    yield caused(operation, causes, inputs.calls.write_key(key, frame))
+
+
+def stored(operation, kind, pick):
+    """Reads a frame of this kind."""
+    inputs, answer = Inputs(pick, operation), stored_keys.READ_KINDS[kind]
+    key = stored_keys.any_key(pick, inputs.good)
+    call = inputs.calls.read_key(stored_keys.drawn_frame(pick, key, kind))[0]
+    told = call.outcome if answer is None else answer
+    call.stored = kind
+    yield caused(operation, [told] if told else [], call)
+
+
+def earlier(operation, bits, pick):
+    """Checks an order of earlier days, when there was one edition. Where its number has fewer bits
+    today it is refused, though it was taken then; with 128 bits it is the same order."""
+    p = Profile(*pick.choice(shapes.by_bits()[bits]), pick.randrange(11), 1)
+    order, causes = Order(pick, p), [] if bits == MOST_BITS else [15]
+    order.sign_as_earlier()
+    call = caused(operation, causes, Inputs(pick, operation, causes, profile=p).verify(order))
+    call.earlier = True
+    yield call
+
+
+def window(operation, kind, answer, pick):
+    """Checks an order whose leaf stands to the verifier in this way. Nothing but 14 may refuse it.
+    Not every leaf can stand so."""
+    found = None
+    while found is None:
+        p = Profile(*signable_shape(pick), pick.randrange(11), pick.choice(EDITIONS))
+        order = Order(pick, p)
+        found = windows.state_of(pick, kind, answer, order.leaf)
+    causes = [answer] if answer else []
+    call = Inputs(pick, operation, causes, profile=p).verify(order, found)
+    yield caused(operation, causes, call)
+
+
+def several(operation, pick):
+    causes = [cause for cause in CAUSES[operation] if pick.random() < 0.3]
+    yield from single(operation, causes, pick)
+
+
+class Sequence:
+    """A fresh key reserves and signs, a fresh verifier checks. What a call hands back is given to
+    the next. That is the implementation's state, and the library's too: each call is compared
+    before the next."""
+
+    def __init__(self, pick, p):
+        self.pick = pick
+        self.p = p
+        self.calls = Calls(pick)
+        self.key = fresh_key(p, pick.randbytes(16), pick.randbytes(16))
+        self.root = root_of(p, self.key.seed, self.key.secret)
+        self.renew_verifier()
+        self.issued = []
+        self.lost = []
+
+    def renew_verifier(self):
+        self.verifier = Verifier(self.p, self.key.seed, self.root, 0, 0)
+
+    def reserve(self):
+        """Granted, or refused where a mark stands or no leaf is left."""
+        call, self.key = self.calls.reserve(self.key)
+        return call
+
+    def sign(self):
+        """The next order, granted or refused."""
+        causes = self.pick.choice([[], [], [], [5], [16], [6]])
+        inputs = Inputs(self.pick, "sign", causes, profile=self.p)
+        size = signature_length(self.p)
+        message, out = inputs.message(), inputs.lent("signature", size)
+        r = self.pick.randbytes(16)
+        call, self.key = self.calls.sign(self.key, r, message, inputs.table(), out)
+        if call.outcome == 0:
+            self.issued.append((out.after[:size], message.before))
+        return call
+
+    def store(self):
+        frame = Memory(self.pick.randbytes(frame_length(self.p) + self.pick.randrange(3)))
+        call = self.calls.write_key(self.key, frame)
+        self.frame = frame.after[: frame_length(self.p)]
+        return call
+
+    def restart(self):
+        """After a cut: from the stored frame, with the mark cleared."""
+        call, key = self.calls.read_key(Memory(self.frame))
+        self.key = restarted(key)
+        return call
+
+    def now_and_then(self):
+        return self.pick.random() < 0.15
+
+    def order(self):
+        """One leaf is reserved, stored and signed with, unless power fails: before the store has
+        ended, which leaves the old frame, or behind it, where the leaf is lost. Calls that are
+        refused come between."""
+        if self.now_and_then():
+            yield self.sign()
+        yield self.reserve()
+        if self.now_and_then():
+            yield self.reserve()
+        if self.now_and_then():
+            yield self.restart()
+            return
+        yield self.store()
+        while self.key.mark:
+            if self.issued and self.now_and_then():
+                self.lost.append(self.key.next - 1)
+                yield self.restart()
+            else:
+                yield self.sign()
+        if self.now_and_then():
+            yield self.restart()
+
+    def check(self, signature, text, causes=()):
+        table = Inputs(self.pick, "verify", causes, profile=self.p).table()
+        call, self.verifier = self.calls.verify(
+            self.verifier, Memory(text), Memory(signature), table
+        )
+        return call
+
+    def refused_check(self, taken):
+        """A check that is refused. Where numbers are few, a changed text or R may have the number
+        of the order and is then taken: another check is drawn."""
+        verifier = self.verifier
+        while True:
+            call = self.wrong_check(taken)
+            if call.outcome:
+                return call
+            self.verifier = verifier
+
+    def other_edition(self, signature, text):
+        """What the key's other edition would sign with the same leaf, R and text."""
+        p = self.p._replace(edition=editions.other(self.p.edition))
+        leaf, r = int.from_bytes(signature[:4], "big"), signature[4:20]
+        number = message_number(p, r, self.key.seed, self.root, leaf, text)
+        return signature_of(p, self.key.seed, self.key.secret, leaf, r, number)
+
+    def wrong_check(self, taken):
+        """Damaged, another key's or edition's, without the work slice, or replayed."""
+        pick, (signature, text) = self.pick, self.pick.choice(self.issued)
+        head, parts = signature[:20], pieces(signature[20:])
+        values, siblings = parts[: self.p.l], parts[self.p.l :]
+        foreign = Order(pick, self.p)
+        checks = [
+            (flipped(pick, signature), text),
+            (head + b"".join(swapped(pick, values) + siblings), text),
+            (signature[:-1], text),
+            (signature + b"\0", text),
+            (signature, flipped(pick, text)),
+            (signature, b""),
+            (signature, text, [5]),
+            (foreign.signature(), foreign.text),
+            (self.other_edition(signature, text), text),
+        ]
+        if len(siblings) > 1:
+            checks.append((head + b"".join(values + swapped(pick, siblings)), text))
+        checks += [pick.choice(taken) for _ in range(4) if taken]
+        return self.check(*pick.choice(checks))
+
+    def run(self):
+        yield self.calls.root(self.p, self.key.seed, self.key.secret)
+        yield self.store()
+        while self.key.next < 1 << self.p.h:
+            yield from self.order()
+        for call in (self.reserve, self.sign, self.restart, self.sign, self.reserve):
+            yield call()
+        leaves = [int.from_bytes(signature[:4], "big") for signature, _ in self.issued]
+        if sorted(leaves + self.lost) != list(range(1 << self.p.h)):
+            raise Unsound(f"the leaves signed with are {leaves}, those lost {self.lost}")
+        yield from self.checks(self.issued)
+        self.renew_verifier()
+        yield from self.checks(self.pick.sample(self.issued, len(self.issued)))
+        yield from self.sheet()
+
+    def checks(self, arriving):
+        """Whatever is refused in between, each order issued is taken and reports the same steps:
+        the tree has no two leaves 32 apart."""
+        for place, order in enumerate(arriving):
+            for _ in range(self.pick.randrange(3)):
+                yield self.refused_check(arriving[:place])
+            call = self.check(*order)
+            steps = self.p.l * (self.p.w - 1) - self.p.s
+            demand(call.outcome == 0 and call.arguments["steps"].after_words() == [steps], call)
+            yield call
+
+    def sheet(self):
+        """Of an order issued: written, read, and written again."""
+        signature, text = self.pick.choice(self.issued)
+        sheet = Memory(self.pick.randbytes(sheet_length(self.p, len(text)) + 9))
+        call = self.calls.write_sheet(self.p, Memory(signature), Memory(text), sheet)
+        demand(call.outcome == 0, call)
+        yield call
+        yield from read_back(call, self.pick)
+
+
+def sequence(pick):
+    l, w, s = signable_shape(pick)
+    h = min(cheap_height(pick, l, w), MOST_HEIGHT)
+    yield from Sequence(pick, Profile(l, w, s, h, pick.choice(EDITIONS))).run()
+
+
+def tall(p, pick):
+    """A tree that takes long to hash, once in a run: the first leaf, any between, and the last."""
+    orders = Sequence(pick, p)
+    yield orders.calls.root(p, orders.key.seed, orders.key.secret)
+    last = (1 << p.h) - 1
+    for leaf in (0, pick.randrange(1, last), last):
+        orders.key = orders.key._replace(next=leaf)
+        yield orders.reserve()
+        while orders.key.mark:
+            yield orders.sign()
+    for call in (orders.sign, orders.reserve):
+        yield call()
+    for signature, text in orders.issued:
+        yield orders.check(signature, flipped(pick, text))
+        yield orders.check(signature, text)
+    orders.renew_verifier()
+    for signature, text in reversed(orders.issued):
+        yield orders.check(signature, text)
+
+
+# The gate profile; every height that a sequence has not, at the shape of the shortest chains at
+# which numbers have 128 bits, in turn in either edition; and the tallest tree in edition 2, at
+# short chains with numbers of 16 bits.
+TALL = [GATE, *(Profile(39, 11, 195, h, 1 + h % 2) for h in range(MOST_HEIGHT + 1, GATE.h))]
+TALL += [Profile(10, 4, 15, GATE.h, 2)]
+
+
+@cache
+def beginning():
+    """Once in a run."""
+    cases = [partial(tall, p) for p in TALL]
+    cases += [partial(edge, name, shape) for shape in shapes.edges() for name in ORDERS]
+    texts = itertools.product(EDITIONS, written_sheets.TEXTS)
+    cases += [partial(written, "write_sheet", *text) for text in texts]
+    cases += [partial(counter, *wanted) for wanted in stored_keys.WANTED]
+    cases += [partial(key_slice, "write_key", *sliced) for sliced in stored_keys.SLICED]
+    return cases + [partial(stored, "read_key", kind) for kind in stored_keys.READ_KINDS]
+
+
+@cache
+def plan():
+    cases = [partial(single, operation, causes, far=far) for operation, far, causes in FAR]
+    for operation, causes in CAUSES.items():
+        granted = [[]] * (2 + 2 * len(causes))
+        alone = subsets(causes, 1)
+        cases += [partial(single, operation, c) for c in granted + 2 * alone + subsets(causes, 2)]
+        cases += [partial(several, operation)] * len(causes)
+        cases += [partial(single, operation, c, wide=w) for c, w in wide_numbers(operation)]
+    cases += [partial(edition, *tried) for tried in itertools.product(EDITED, editions.TRIED)]
+    cases += [partial(crossed, "verify", number) for number in 4 * EDITIONS]
+    cases += [partial(high_leaf, "sign", number) for number in EDITIONS]
+    cases += [partial(last, "read_sheet", *given) for given in editions.SHEETS]
+    cases += [partial(single, operation, causes) for operation, causes in MANIFOLD * 20]
+    cases += [partial(earlier, "verify", bits) for bits in EARLIER_BITS]
+    cases += [partial(window, "verify", *kind) for kind in windows.KINDS]
+    return cases + [sequence] * SEQUENCES
+
+
+@lru_cache(maxsize=2)
+def round_of(seed, number):
+    cases = list(plan())
+    random.Random(f"{seed} round {number}").shuffle(cases)
+    return cases
+
+
+def case(seed, number):
+    """The calls of a case, each drawn when the one before was made."""
+    pick = random.Random(f"{seed} case {number}")
+    if number < len(beginning()):
+        return beginning()[number](pick)
+    turn, place = divmod(number - len(beginning()), len(plan()))
+    return round_of(seed, turn)[place](pick)

@@ -1,0 +1,182 @@
+"""Measures the stack that each function of the C interface takes, and holds it to the bound that
+docs/INTERFACE.md states.
+
+    python3 tests/interface/stack.py                  proves the library and writes the archive first
+    python3 tests/interface/stack.py --archive FILE   takes this one
+
+Each function is called at the gate profile in both editions, and at the largest l, w and h with sums
+at which most is to be done, in edition 2: granted and, where a refusal comes late, refused. It runs
+on a stack of its own that was painted before; a byte may come to be as it was painted, so it runs
+with two paints. What is counted begins at the frame of the caller, and has the arguments and the
+return address in it.
+"""
+
+import ctypes
+import re
+import sys
+import tempfile
+from collections import Counter
+
+from paths import ROOT, fail, say
+
+from archived import archive_of, archive_parser, shared_object
+from calls import PROTOTYPES, parameters
+from keys import frame_length
+from sheets import right_sheet
+from signatures import GATE, GATE_2, LEAST_COUNT, Profile, count_of, signature_length
+from zarosnik import number_words, table_length
+
+PAINTS = (0xA5, 0x5A)
+ARGUMENTS = 16
+# The most steps; the most of an order, and of one with a number of 128 bits; the largest count; the
+# largest table of an order; the largest table.
+SUMS = (0, 2, 133, 300, 598, 600)
+PROFILES = [GATE, GATE_2, *(Profile(40, 16, s, 10, 2) for s in SUMS)]
+PAGE = ROOT / "docs" / "INTERFACE.md"
+
+
+def bound():
+    """As the page states it, in bytes."""
+    stated = re.findall(r"less than (\d+) KiB of stack", PAGE.read_text(encoding="utf-8"))
+    if len(stated) != 1:
+        fail("docs/INTERFACE.md must say 'less than N KiB of stack', once")
+    return 1024 * int(stated[0])
+
+
+def built(archive, folder):
+    options = ["-std=c11", "-O2", "-fPIC", "-Wall", "-Wextra", "-Wpedantic", "-Werror"]
+    library = ctypes.CDLL(shared_object(archive, folder, *options, "tests/interface/stack.c"))
+    library.stack_taken.restype = ctypes.c_size_t
+    return library
+
+
+def octets(content):
+    return (ctypes.c_uint8 * len(content))(*content)
+
+
+def words(content):
+    return (ctypes.c_uint32 * len(content))(*content)
+
+
+class Caller:
+    """Calls functions at one profile. What a call writes, the next may read."""
+
+    def __init__(self, library, p):
+        self.library = library
+        self.p = p
+        self.taken = Counter()
+        signature, text = bytes(signature_length(p)), bytes(range(200))
+        self.memory = {
+            "data": octets(bytes(65535)),
+            "table": words([0] * table_length(p.l, p.s)),
+            "number": words([0] * 5),
+            "first": words([0] * 5),
+            "second": words([0] * 5),
+            "row": octets(bytes(p.l)),
+            "values": octets(bytes(16 * p.l)),
+            "message": octets(text),
+            "signature": octets(signature),
+            "sheet": octets(right_sheet(p, signature, text)),
+            "frame": octets(bytes(frame_length(p))),
+            "profile": words([0] * 5),
+        }
+        sizes = ("message_written", "sheet_written", "frame_written")
+        self.memory |= {name: (ctypes.c_size_t * 1)() for name in sizes}
+        self.memory |= {name: words([0]) for name in ("order", "looked", "steps", "line")}
+        self.memory |= {name: octets(bytes(32)) for name in ("digest", "public_seed", "root", "r")}
+        self.memory |= {name: octets(bytes(32)) for name in ("secret_seed", "key")}
+
+    def arguments(self, operation):
+        """Every call begins with the last leaf reserved, or left to reserve, and with every leaf
+        still taken: the one mark set names no leaf, and is there to be moved."""
+        last = (1 << self.p.h) - 1
+        values = {**self.p._asdict(), "leaf": last, "next_leaf": last + 1, "mark": 1}
+        state = {"next_leaf": last, "mark": 0} if operation == "reserve" else {"mark": 1}
+        state |= {"highest_leaf": 0, "marks": 2}
+        self.memory |= {"next_leaf": words([0])}
+        self.memory |= {name: words([number]) for name, number in state.items()}
+        for name, by_value, _, has_length in parameters(operation):
+            if by_value:
+                yield values[name]
+                continue
+            yield ctypes.addressof(self.memory[name])
+            if has_length:
+                yield len(self.memory[name])
+
+    def call(self, operation, expected):
+        function = getattr(self.library, f"zarosnik_{operation}")
+        outcome = ctypes.c_uint32()
+        for paint in PAINTS:
+            given = (ctypes.c_uint64 * ARGUMENTS)(*self.arguments(operation))
+            taken = self.library.stack_taken(function, given, paint, ctypes.byref(outcome))
+            if taken == 0 or outcome.value != expected:
+                fail(
+                    f"{operation} at {self.p} must answer {expected}:"
+                    f" answered {outcome.value}, took {taken} bytes"
+                )
+            self.taken[operation] = max(self.taken[operation], taken)
+
+    def granted(self):
+        """Every function; where the count is too small, an order is refused by 19."""
+        count = count_of(self.p)
+        order = 0 if count >= LEAST_COUNT else 19
+        self.call("hash", 0)
+        self.call("count", 0)
+        self.memory["number"][:] = number_words(count // 2)
+        for operation in ("unrank", "rank", "compare", "leaf_key", "root"):
+            self.call(operation, 0)
+        for operation in ("one_time_sign", "one_time_recover"):
+            self.call(operation, 0)
+        self.call("reserve", 0)
+        for operation in ("sign", "verify"):
+            self.call(operation, order)
+        if order == 0:
+            self.memory["message"][0] ^= 1
+            self.call("verify", 15)
+        for operation in ("write_sheet", "read_sheet", "write_key", "read_key"):
+            self.call(operation, 0)
+
+    def refused(self):
+        """By the last cause of each, on what the granted calls left."""
+        self.memory["data"] = octets(bytes(65536))
+        self.memory["number"][:] = [0xFFFFFFFF] * 5
+        self.memory["sheet"][-1] = 0
+        self.memory["frame"][-1] = 0
+        self.call("hash", 18)
+        for operation in ("unrank", "one_time_sign", "one_time_recover"):
+            self.call(operation, 7)
+        for operation in ("read_sheet", "read_key"):
+            self.call(operation, 17)
+        self.memory |= {name: octets(self.memory[name][:-1]) for name in ("sheet", "frame")}
+        for operation in ("write_sheet", "write_key"):
+            self.call(operation, 6)
+        self.memory["row"][0] ^= 1
+        self.call("rank", 10)
+
+
+def measured(library, p):
+    caller = Caller(library, p)
+    caller.granted()
+    caller.refused()
+    return caller.taken
+
+
+def main():
+    archive = archive_of(archive_parser("Measures the stack of the C interface.").parse_args())
+    with tempfile.TemporaryDirectory() as folder:
+        library = built(archive, folder)
+        taken = [measured(library, p) for p in PROFILES]
+    if any(profile.keys() != PROTOTYPES.keys() for profile in taken):
+        fail("not every function was called")
+    for operation in PROTOTYPES:
+        numbers = ", ".join(f"{profile[operation]}" for profile in taken)
+        say(f"zarosnik_{operation}: {numbers} bytes")
+    shown = "; ".join("l {}, w {}, s {}, h {}, edition {}".format(*p) for p in PROFILES)
+    say(f"at {shown}")
+    most, limit = max(max(profile.values()) for profile in taken), bound()
+    say(f"at most {most} bytes; docs/INTERFACE.md: less than {limit}")
+    sys.exit(0 if most < limit else 1)
+
+
+if __name__ == "__main__":
+    main()
