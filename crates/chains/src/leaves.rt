@@ -8,6 +8,8 @@ ghost use Rattle.codewords.specs.Codeword.{stepsLeft};
 ghost use Rattle.chains.specs.Leaves.{revealed, leafKey, recovered};
 use super::steps::chain_value;
 use super::steps::walk;
+use octets::read_16;
+use octets::write_16;
 use tweak::Chain;
 use tweak::Hasher;
 use tweak::Leaf;
@@ -15,8 +17,6 @@ use tweak::absorb;
 use tweak::begin;
 use tweak::end;
 use tweak::leaf_key_address;
-use octets::read_16;
-use octets::write_16;
 
 // The leaf key. Each top goes into the hash as it is made.
 pub fn key_of_leaf(h: Hasher, leaf: Leaf, secret: &[u8; 16], width: u32, chains: u32) -> [u8; 16]

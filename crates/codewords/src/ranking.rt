@@ -13,10 +13,10 @@ ghost use Rattle.codewords.specs.Operations.{someAbove, rowCauses, Ranks
 use counts::cells::load;
 use counts::table::count_outcome;
 use counts::table::fill_past;
+use numbers::number::add;
 use profile::Shape;
 use refusal::Outcome;
 use refusal::Refusal;
-use numbers::number::add;
 
 // What Gather answers. Refused, the number is zero.
 pub struct Ranked {

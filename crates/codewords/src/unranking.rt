@@ -13,11 +13,11 @@ ghost use Rattle.codewords.specs.Placing.{Placeable, PlacesPast};
 use counts::cells::load;
 use counts::table::count_outcome;
 use counts::table::fill_past;
+use numbers::number::less;
+use numbers::number::subtract;
 use profile::Shape;
 use refusal::Outcome;
 use refusal::Refusal;
-use numbers::number::less;
-use numbers::number::subtract;
 
 // Writes the codeword of a number below the count, with the table that holds its counts. At each place the skipped counts
 // are taken off one by one, until a share holds the number; then the sum still to be spread falls by that length.

@@ -13,17 +13,17 @@ ghost use Rattle.counts.specs.Table.{rows, tableLength, withTable, count
 ghost use Rattle.counts.specs.Filling.{FillsPast};
 use super::cells::load;
 use super::cells::store;
+use numbers::limbs::Limbs;
+use numbers::limbs::add;
+use numbers::limbs::from_words;
+use numbers::limbs::subtract;
+use numbers::limbs::to_words;
 use profile::Profile;
 use profile::Shape;
 use profile::check_profile;
 use profile::check_shape;
 use refusal::Outcome;
 use refusal::Refusal;
-use numbers::limbs::Limbs;
-use numbers::limbs::add;
-use numbers::limbs::from_words;
-use numbers::limbs::subtract;
-use numbers::limbs::to_words;
 
 // What Count answers. Refused, the count is zero.
 pub struct Counted {

@@ -10,5 +10,6 @@ use Rattle.codewords.specs.Codeword.{place, codeword}
 use Rattle.listing.specs.Listing.{requestOf, requestIn, rowLine, rowLines, tableWords, listingCode, answerTo, listingOf, Example}
 
 pub example : Example
-unfolding fromBytes toBytes joinTo hexDigit hexOf lineOf digitOf behind readLine shapeCauses sumTo share D count tableLength countCauses place codeword requestOf requestIn rowLine rowLines tableWords listingCode answerTo listingOf
+unfolding fromBytes toBytes joinTo hexDigit hexOf lineOf digitOf behind readLine shapeCauses sumTo share D count tableLength countCauses place codeword
+    requestOf requestIn rowLine rowLines tableWords listingCode answerTo listingOf
 example = refl

@@ -55,7 +55,8 @@ within input e =
 same-request : (input : List ℕ) → requestIn (readLine (take 11 input)) ≡ requestIn (readLine input)
 same-request input = by (hasBytes 5 (readLine (take 11 input))) (hasBytes 5 (readLine input)) refl refl
   where
-    by : (s t : Bool) → hasBytes 5 (readLine (take 11 input)) ≡ s → hasBytes 5 (readLine input) ≡ t → requestIn (readLine (take 11 input)) ≡ requestIn (readLine input)
+    by : (s t : Bool) → hasBytes 5 (readLine (take 11 input)) ≡ s → hasBytes 5 (readLine input) ≡ t
+        → requestIn (readLine (take 11 input)) ≡ requestIn (readLine input)
     by true t p q = sym (followed (take 11 input) (drop 11 input) p) ∙ ap (λ l. requestIn (readLine l)) (take-append-drop 11 input)
     by false false p q = not-five (readLine (take 11 input)) p ∙ sym (not-five (readLine input) q)
     by false true p q = absurd (true≢false (sym (within input q) ∙ p))
@@ -92,8 +93,10 @@ front-ended (c ∷ []) (d ∷ more) e = by (eqb c lineEnd) refl e
     by false ending k = absurd (true≢false (sym k))
 front-ended (c ∷ d ∷ line) more e = by (eqb c lineEnd) (ltb (digitOf c) 16) (ltb (digitOf d) 16) refl refl refl e (front-ended line more)
   where
-    by : (ending high low : Bool) → eqb c lineEnd ≡ ending → ltb (digitOf c) 16 ≡ high → ltb (digitOf d) 16 ≡ low → (ending || (eqb d lineEnd || hasEnding line)) ≡ true
-        → (hasEnding line ≡ true → front (readLine (line ++ more)) ≡ front (readLine line)) → front (readLine (c ∷ d ∷ (line ++ more))) ≡ front (readLine (c ∷ d ∷ line))
+    by : (ending high low : Bool) → eqb c lineEnd ≡ ending → ltb (digitOf c) 16 ≡ high → ltb (digitOf d) 16 ≡ low
+        → (ending || (eqb d lineEnd || hasEnding line)) ≡ true
+        → (hasEnding line ≡ true → front (readLine (line ++ more)) ≡ front (readLine line))
+        → front (readLine (c ∷ d ∷ (line ++ more))) ≡ front (readLine (c ∷ d ∷ line))
     by true high low p q r k after = rw p
     by false false low p q r k after = rw (p, q)
     by false true false p q r k after = rw (p, q, r)
@@ -115,14 +118,16 @@ unfolding readOf
 read-of line [] few = record { rest = []; all = refl; enough = inl refl; few = few }
 read-of line (c ∷ more) few = by (ltb 0 (toRead line)) refl (read-of (line ++ (c ∷ [])) more)
   where
-    by : (b : Bool) → ltb 0 (toRead line) ≡ b → (length (line ++ (c ∷ [])) ≤ 11 → Read (readOf (line ++ (c ∷ [])) more) ((line ++ (c ∷ [])) ++ more)) → Read (cond b (readOf (line ++ (c ∷ [])) more) line) (line ++ (c ∷ more))
+    by : (b : Bool) → ltb 0 (toRead line) ≡ b → (length (line ++ (c ∷ [])) ≤ 11 → Read (readOf (line ++ (c ∷ [])) more) ((line ++ (c ∷ [])) ++ more))
+        → Read (cond b (readOf (line ++ (c ∷ [])) more) line) (line ++ (c ∷ more))
     by true e after =
         let room = still-open line (ltb-true 0 (toRead line) e) .1 in
         rw append-assoc at (after (omega (arith, room, length-append line (c ∷ []))))
     by false e after = record { rest = c ∷ more; all = refl; enough = inr (omega (arith, ltb-false 0 (toRead line) e)); few = few }
 
 same-line : {line input : List ℕ} → Read line input → requestIn (readLine line) ≡ requestIn (readLine input)
-same-line {line} {input} r = ⊎-elim (λ none. ap (λ l. requestIn (readLine l)) (sym (append-nil line) ∙ ap (λ l. line ++ l) (sym none) ∙ r .all)) stopped (r .enough)
+same-line {line} {input} r =
+    ⊎-elim (λ none. ap (λ l. requestIn (readLine l)) (sym (append-nil line) ∙ ap (λ l. line ++ l) (sym none) ∙ r .all)) stopped (r .enough)
   where
     by : (b : Bool) → hasEnding line ≡ b → toRead line ≡ 0 → requestIn (readLine line) ≡ requestIn (readLine input)
     by true e none =

@@ -73,7 +73,8 @@ fewer-to-read line c h = by (hasEnding (line ++ (c ∷ []))) refl
         omega (arith, to-read-open (line ++ (c ∷ [])) e, to-read-open line (before .0), length-append line (c ∷ []), before .1)
 
 -- each byte read leaves fewer to be read, and so does the end of the input
-pub fewer-left : (i r : Input) (found : List ℕ) → 0 < leftOf i → length found ≤ 1 → lineRead r ≡ lineRead i ++ found → r .ended ≡ eqb (length found) 0 → leftOf r < leftOf i
+pub fewer-left : (i r : Input) (found : List ℕ) → 0 < leftOf i → length found ≤ 1 → lineRead r ≡ lineRead i ++ found → r .ended ≡ eqb (length found) 0
+    → leftOf r < leftOf i
 unfolding leftOf
 fewer-left i r [] h few read ended = rw ended h
 fewer-left i r (c ∷ []) h few read ended =

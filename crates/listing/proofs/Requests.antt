@@ -31,7 +31,8 @@ module _ {l : Line} (bytes : List ℕ) {rest : List ℕ} (e : l ≡ right bytes 
   sum-bytes five =
       rw (drop-cons bytes 3 0 (omega arith), drop-cons bytes 4 0 (omega arith), drop-of-length-le bytes {i = 5} (omega arith)) (omega arith)
 
-  pub asked : (p : Shape) → getD bytes 0 0 ≡ 16 → length bytes ≡ 5 → p .chains ≡ getD bytes 1 0 → p .width ≡ getD bytes 2 0 → p .sum ≡ getD bytes 3 0 * 256 + getD bytes 4 0
+  pub asked : (p : Shape) → getD bytes 0 0 ≡ 16 → length bytes ≡ 5 → p .chains ≡ getD bytes 1 0 → p .width ≡ getD bytes 2 0
+      → p .sum ≡ getD bytes 3 0 * 256 + getD bytes 4 0
       → requestIn l ≡ Asked p
   unfolding requestIn requestOf
   asked p kind five chains width sum =

@@ -48,7 +48,8 @@ unfolding rowLine
 line-long p n h = length-lineOf (17 ∷ toBytes 2 n ++ rowOf p n) ∙ rw (bytes-long p n h)
 
 -- the row behind the kind and the number
-module _ (p : Shape) (n : ℕ) {m : ℕ} {row′ : List ℕ} (same : m ≡ n) (below : n < count p) (small : n < 256) (placed : row′ ≡ rowOf p m ++ drop (p .chains) (replicate 40 0)) where
+module _ (p : Shape) (n : ℕ) {m : ℕ} {row′ : List ℕ} (same : m ≡ n) (below : n < count p) (small : n < 256)
+    (placed : row′ ≡ rowOf p m ++ drop (p .chains) (replicate 40 0)) where
   row-bytes : take (p .chains + 3) (17 ∷ n / 256 ∷ n % 256 ∷ (row′ ++ [])) ≡ 17 ∷ toBytes 2 n ++ rowOf p n
   unfolding toBytes
   row-bytes =
@@ -94,7 +95,8 @@ module _ (p : Shape) (lines : ℕ) (o : List ℕ) (few : p .chains ≤ 40) (firs
       let past : 0 + k * n + k ≡ r = omega arith in
       (next-index k n next start long, write-next (rowLine p) k lines each 0 o fits n h refl e (rw (past, here) w))
 
-  pub printed-all : (n at : ℕ) {out : List ℕ} → n ≤ lines → lines ≤ n → at ≡ lineLength p * n → Printed p n o out → (at ≡ length (rowLines p)) × (out ≡ rowLines p ++ drop at o)
+  pub printed-all : (n at : ℕ) {out : List ℕ} → n ≤ lines → lines ≤ n → at ≡ lineLength p * n → Printed p n o out
+      → (at ≡ length (rowLines p)) × (out ≡ rowLines p ++ drop at o)
   unfolding rowLines
   printed-all n at low high end e =
       let all : lines ≡ n = omega arith in

@@ -11,7 +11,8 @@ unfoldable pub hasEnding : List ℕ → Bool
 hasEnding [] = false
 hasEnding (c ∷ more) = eqb c lineEnd || hasEnding more
 
--- how many bytes are still to be read behind these: none behind an ending, and eleven in all, which are the characters of five bytes and the ending
+-- how many bytes are still to be read behind these: none behind an ending, and eleven in all, which are the characters of five bytes and
+-- the ending
 unfoldable pub toRead : (line : List ℕ) → ℕ
 toRead line = cond (hasEnding line) 0 (11 - length line)
 

@@ -41,7 +41,8 @@ impl Input {
     // With what a read of one byte found, which is nothing at the end of the input.
     pub fn after(self, found: &[u8]) -> Input
         requires { ⌜ (self .long ≤ 11) × (0 < leftOf self) × (length (now found) ≤ 1) ⌝ }
-        ensures { λ r. ⌜ (lineRead r ≡ lineRead self ++ now (found .entry)) × (r .long ≤ 11) × (r .ended ≡ eqb (length (now (found .entry))) 0) ⌝ }
+        ensures { λ r. ⌜ (lineRead r ≡ lineRead self ++ now (found .entry)) × (r .long ≤ 11)
+            × (r .ended ≡ eqb (length (now (found .entry))) 0) ⌝ }
     {
         let mut bytes = self.bytes;
         let long = self.long;

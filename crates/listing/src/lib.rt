@@ -18,10 +18,10 @@ use counts::codeword_count;
 use hex::read_line;
 use hex::write_line;
 pub use input::Input;
+use numbers::number::less;
 use profile::Shape;
 use refusal::Outcome;
 use refusal::code;
-use numbers::number::less;
 
 // What the first line asks.
 pub enum Request {
@@ -77,7 +77,8 @@ fn line_count(count: [u32; 5]) -> usize
 // Prints the line of a number from index `at` on, and gives the index behind it.
 fn write_row(p: Shape, n: usize, table: &[u32], out: &mut [u8], at: usize) -> usize
     requires { ⌜ InLimits p × Holds p (now table) × (n < count p) × (n < 256) × (at + 87 ≤ length (now out)) ⌝ }
-    ensures { λ r. ⌜ (r ≡ at + length (rowLine p n)) × (now (out .exit) ≡ take at (now (out .entry)) ++ rowLine p n ++ drop r (now (out .entry))) ⌝ }
+    ensures { λ r. ⌜ (r ≡ at + length (rowLine p n))
+        × (now (out .exit) ≡ take at (now (out .entry)) ++ rowLine p n ++ drop r (now (out .entry))) ⌝ }
 {
     let mut row = [0u8; 43];
     row[0] = 17;
@@ -106,7 +107,8 @@ fn write_rows(p: Shape, lines: usize, table: &[u32], out: &mut [u8]) -> usize
 // Prints the lines of a shape, or its refusal.
 fn write_answer(p: Shape, table: &mut [u32], out: &mut [u8]) -> usize
     requires { ⌜ (length (now table) ≡ 16000) × (22272 ≤ length (now out)) ⌝ }
-    ensures { λ r. ⌜ (r ≡ length (answerTo (Request.Asked p))) × (now (out .exit) ≡ answerTo (Request.Asked p) ++ drop r (now (out .entry))) × (now (table .exit) ≡ workAfter (Request.Asked p) (now (table .entry))) ⌝ }
+    ensures { λ r. ⌜ (r ≡ length (answerTo (Request.Asked p))) × (now (out .exit) ≡ answerTo (Request.Asked p) ++ drop r (now (out .entry)))
+        × (now (table .exit) ≡ workAfter (Request.Asked p) (now (table .entry))) ⌝ }
 {
     let counted = codeword_count(p, table);
     let outcome = counted.outcome;

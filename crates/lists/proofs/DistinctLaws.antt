@@ -45,5 +45,6 @@ pub pigeonhole : (n d : ℕ) (l : List ℕ) → Distinct d l → ((i : ℕ) → 
 pigeonhole n d l apart below = numbers-below n (length l) (λ i. getD l i d) below apart
 
 -- a list's image has no repetition, where the function takes no two of its places to the same
-pub distinct-map : {A B : Type 0} (f : A → B) (d : A) (l : List A) → ((i j : ℕ) → i < j → j < length l → f (getD l i d) ≡ f (getD l j d) → ⊥) → Distinct (f d) (map f l)
+pub distinct-map : {A B : Type 0} (f : A → B) (d : A) (l : List A) → ((i j : ℕ) → i < j → j < length l → f (getD l i d) ≡ f (getD l j d) → ⊥)
+    → Distinct (f d) (map f l)
 distinct-map f d l injective i j less h same = injective i j less (rw (length-map l f) at h) (sym (List·getD-map f l i d) ∙ same ∙ List·getD-map f l j d)

@@ -51,7 +51,8 @@ pub length-value : (k : ℕ) (l : List ℕ) (n c : ℕ) → k * n ≤ length l �
 length-value k l n c fits h = length-part l (k * c) k (omega (arith, mul-suc k c, mul-le-mul-left {m = suc c} {n = n} k h))
 
 -- of a slice that begins with the front and goes on as o, a part behind the front is written
-pub written-behind : (front v o : List ℕ) (m k : ℕ) {out out′ : List ℕ} → length front ≡ m → out ≡ front ++ drop m o → out′ ≡ take m out ++ v ++ drop (m + k) out
+pub written-behind : (front v o : List ℕ) (m k : ℕ) {out out′ : List ℕ} → length front ≡ m → out ≡ front ++ drop m o
+    → out′ ≡ take m out ++ v ++ drop (m + k) out
     → out′ ≡ front ++ v ++ drop (m + k) o
 written-behind front v o m k long e w =
     let back : drop (m + k) (front ++ drop m o) ≡ drop (m + k) o =

@@ -1,4 +1,5 @@
--- What the crate proves for others to cite: laws of lists and their parts, of lists that are filled, of values joined, of pairs of members, of lists without repetition,
+-- What the crate proves for others to cite: laws of lists and their parts, of lists that are filled, of values joined, of pairs of members, of lists without
+-- repetition,
 -- of tests joined and of numbers compared.
 pub mod DistinctLaws
 pub mod Fill

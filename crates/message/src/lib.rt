@@ -10,13 +10,13 @@ ghost use Rattle.numbers.specs.Number.{value};
 ghost use Rattle.sha256.specs.Digest.{digest};
 ghost use Rattle.counts.specs.Counts as counts;
 ghost use Rattle.message.specs.Message.{messageDigest, numberBits, messageNumber, countTooSmall, outsideText, signatureLength};
-use profile::Profile;
-use sha256::Hash;
-use octets::word_at;
-use octets::word_bytes;
 use numbers::number::less;
 use numbers::powers::log2;
 use numbers::powers::shift_right;
+use octets::word_at;
+use octets::word_bytes;
+use profile::Profile;
+use sha256::Hash;
 
 // The digest over R, the public seed, the root, the bytes of the leaf that the edition takes, and the message.
 fn joined_digest(r: &[u8], seed: &[u8], root: &[u8], leaf: &[u8], message: &[u8]) -> [u8; 32]

@@ -132,7 +132,8 @@ refused-number o n r e q =
     ne-eqb n 0 (λ z. omega arith)
 
 -- a refused outcome's code is of no kind that its causes avoid
-pub refused-avoids : (kind : ℕ → Bool) (causes : List (Bool × ℕ)) (o : Outcome) → Avoids kind causes → outcomeCode o ≡ firstCause causes → (r : Refusal) → o ≡ Refused r
+pub refused-avoids : (kind : ℕ → Bool) (causes : List (Bool × ℕ)) (o : Outcome) → Avoids kind causes → outcomeCode o ≡ firstCause causes → (r : Refusal)
+    → o ≡ Refused r
     → kind (outcomeCode o) ≡ false
 refused-avoids kind causes o p e r q =
     let positive : 0 < code r = code-positive r in
@@ -205,7 +206,8 @@ then-means {n} {test} {meant} k means = by (eqb n 0) refl
     by false z = refl
 
 -- one cause more, whose test means what it is to mean
-pub chain-next : {first own : List (Bool × ℕ)} {n m : ℕ} {test meant : Bool} (k : ℕ) → eqb k 0 ≡ false → Chain first own n → test ≡ meant → m ≡ thenCode n test k
+pub chain-next : {first own : List (Bool × ℕ)} {n m : ℕ} {test meant : Bool} (k : ℕ) → eqb k 0 ≡ false → Chain first own n → test ≡ meant
+    → m ≡ thenCode n test k
     → Chain first (own ++ ((meant, k) ∷ [])) m
 chain-next {first} {own} {n} {m} {test} {meant} k positive chain means e =
     let last : List (Bool × ℕ) = (meant, k) ∷ [] in

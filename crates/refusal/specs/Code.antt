@@ -1,4 +1,5 @@
--- The codes of the causes of document 01, "Operations and their refusals", and of document 02; those from 23 on are of points still to come.
+-- The codes of the causes of document 01, "Operations and their refusals", and of document 02; those from 23 on are of points still to
+-- come.
 use mathlib.Core.Bool.{Bool, cond}
 use mathlib.Core.List.{List, [], _∷_}
 use Prim.Native.Nat.{ℕ}
@@ -77,7 +78,8 @@ abbrev pub outcomeCode : Outcome → ℕ
 outcomeCode Granted = 0
 outcomeCode (Refused r) = code r
 
--- "refused exactly for the causes …, the first in its order giving the number": of causes in order, each a test with its code, the code of the first that holds, or 0
+-- "refused exactly for the causes …, the first in its order giving the number": of causes in order, each a test with its code, the code of
+-- the first that holds, or 0
 abbrev pub firstCause : List (Bool × ℕ) → ℕ
 firstCause [] = 0
 firstCause (cause ∷ more) = cond (cause .0) (cause .1) (firstCause more)

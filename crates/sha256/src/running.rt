@@ -7,12 +7,12 @@ ghost use lib.Seq.{paste};
 ghost use Rattle.octets.specs.Bytes.{toBytes};
 ghost use Rattle.sha256.specs.Digest.{compressAll, wordBytes};
 ghost use Rattle.sha256.specs.Running as spec;
+use octets::copy;
 use refusal::Outcome;
 use refusal::Refusal;
 use sha256_block::HashWords;
 use sha256_block::compress;
 use sha256_block::initial;
-use octets::copy;
 
 // Of the block, total modulo 64 bytes are pending; the others count for nothing.
 pub struct Hash {

@@ -14,8 +14,8 @@ use frames::frame_size;
 use frames::head_byte;
 use hex::write_byte;
 use hex::write_line;
-use profile::Profile;
 use octets::copy;
+use profile::Profile;
 
 // Writes the first line, and gives the index behind it.
 fn write_first_line(sheet: &mut [u8]) -> usize

@@ -20,6 +20,9 @@ use message::count_too_small;
 use message::message_number;
 use message::outside_text;
 use message::signature_length;
+use octets::copy;
+use octets::word_bytes;
+use octets::write_16;
 use profile::Profile;
 use refusal::Outcome;
 use refusal::Refusal;
@@ -32,9 +35,6 @@ use tree::write_path;
 use tweak::Hasher;
 use tweak::Leaf;
 use tweak::first_hasher;
-use octets::copy;
-use octets::word_bytes;
-use octets::write_16;
 
 // The causes of Sign between 5 and 19, behind an outcome.
 fn sign_outcome(checked: Outcome, key: SigningKey, text: usize, bytes: usize) -> Outcome

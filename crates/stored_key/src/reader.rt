@@ -8,6 +8,8 @@ ghost use Rattle.stored_key.specs.KeyFrame.{keyIn, met};
 ghost use Rattle.stored_key.specs.Operations.{ReadsKey};
 ghost use Rattle.stored_key.specs.Parts.{framedTest, RefusesFrame};
 use hex::read_line;
+use octets::read_16;
+use octets::word_at;
 use profile::Profile;
 use profile::Shape;
 use profile::check_profile;
@@ -16,8 +18,6 @@ use refusal::Refusal;
 use signing_key::Counter;
 use signing_key::SigningKey;
 use signing_key::marked;
-use octets::read_16;
-use octets::word_at;
 
 // What Read key answers: refused, the line is 1 and the key is all zero.
 pub struct KeyRead {

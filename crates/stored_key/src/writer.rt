@@ -16,6 +16,7 @@ use frames::edition_bytes;
 use frames::profile_head;
 use hex::write_bytes;
 use hex::write_line;
+use octets::word_bytes;
 use profile::Profile;
 use profile::check_profile;
 use refusal::Outcome;
@@ -23,7 +24,6 @@ use refusal::Refusal;
 use signing_key::Counter;
 use signing_key::SigningKey;
 use signing_key::marked;
-use octets::word_bytes;
 
 // What Write key answers: refused, no byte is written.
 pub struct KeyWritten {

@@ -7,6 +7,8 @@ ghost use Rattle.tweak.specs.Tweak.{Seeded};
 ghost use Rattle.chains.specs.Leaves.{leafKey};
 ghost use Rattle.tree.specs.Tree.{parentOf, node as nodeAt, path, sibling as siblingOf, climbedOnce, climbed, Roots};
 use chains::leaves::key_of_leaf;
+use octets::read_16;
+use octets::write_16;
 use profile::Profile;
 use profile::check_profile;
 use refusal::Outcome;
@@ -17,8 +19,6 @@ use tweak::begin;
 use tweak::end;
 use tweak::first_hasher;
 use tweak::node_address;
-use octets::read_16;
-use octets::write_16;
 
 // What Root answers. Refused, the root is zero.
 pub struct TreeRoot {

@@ -1,8 +1,8 @@
 // What is read. Bytes that are missing count as 0.
 ghost use Prim.Native.Nat.{_≤_};
+use octets::word_at;
 use profile::Profile;
 use profile::Shape;
-use octets::word_at;
 
 pub fn word() -> u32 {
     let mut bytes = [0u8; 4];

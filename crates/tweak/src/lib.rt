@@ -5,14 +5,14 @@ ghost use lib.ListN.{take};
 ghost use Rattle.sha256.specs.Digest.{padding, wordBytes};
 ghost use Rattle.sha256.specs.Running.{addState, finished, hashed};
 ghost use Rattle.tweak.specs.Tweak.{firstDomain, address as addressOf, chainStepAddress, leafKeyAddress, nodeAddress, chainStartAddress, seedBlock, tweakedHash, Seeded};
+use octets::read_16;
+use octets::word_bytes;
+use octets::write_16;
 use sha256::Hash;
 use sha256::put;
 use sha256_block::HashWords;
 use sha256_block::compress;
 use sha256_block::initial;
-use octets::read_16;
-use octets::word_bytes;
-use octets::write_16;
 
 // What the hashes of one tree share (FIPS 205: PK.seed and the first two fields of an address).
 pub struct Domain {

@@ -22,6 +22,8 @@ use message::count_too_small;
 use message::message_number;
 use message::outside_text;
 use message::signature_length;
+use octets::front_word;
+use octets::read_16;
 use profile::Profile;
 use profile::leaf_beyond;
 use refusal::Outcome;
@@ -32,8 +34,6 @@ use tweak::first_hasher;
 use window::Window;
 use window::passed;
 use window::take;
-use octets::front_word;
-use octets::read_16;
 
 // A cabinet (document 01; document 02, point 4): its profile, the public seed, the root, and the window over the leaves that it has accepted.
 pub struct Verifier {

@@ -69,7 +69,8 @@ module _ (m up : ℕ) (higher : 0 < up) where
   unfolding moved
   bit-moved i some h =
       let behind : 1 + (i - 1) ≡ i = omega arith in
-      ap (λ x. x % 2) (subst (λ t. (moved m up + 1) / 2 ^ t ≡ moved m up / 2 ^ t) behind (odd-above (moved m up) (i - 1) moved-even)) ∙ bit-low (m * 2 ^ up) 32 i h
+      ap (λ x. x % 2) (subst (λ t. (moved m up + 1) / 2 ^ t ≡ moved m up / 2 ^ t) behind (odd-above (moved m up) (i - 1) moved-even))
+      ∙ bit-low (m * 2 ^ up) 32 i h
 
   pub marked-moved : (i : ℕ) → up ≤ i → i < 32 → marked (moved m up + 1) i ≡ marked m (i - up)
   unfolding marked
@@ -92,7 +93,8 @@ module _ (m j : ℕ) (free : marked m j ≡ false) where
   above i h =
       let split : j + (1 + (i - suc j)) ≡ i = omega arith in
       subst (λ t. (m + 2 ^ j) / 2 ^ t ≡ m / 2 ^ t) split
-      (sym (shr-shr (m + 2 ^ j) j (1 + (i - suc j))) ∙ ap (λ x. x / 2 ^ (1 + (i - suc j))) one-more ∙ odd-above (m / 2 ^ j) (i - suc j) even-there ∙ shr-shr m j (1 + (i - suc j)))
+      (sym (shr-shr (m + 2 ^ j) j (1 + (i - suc j))) ∙ ap (λ x. x / 2 ^ (1 + (i - suc j))) one-more ∙ odd-above (m / 2 ^ j) (i - suc j) even-there
+      ∙ shr-shr m j (1 + (i - suc j)))
 
   under : (i : ℕ) → i < j → (m + 2 ^ j) / 2 ^ i % 2 ≡ m / 2 ^ i % 2
   under i h = omega (arith, ap (λ x. (m + x) / 2 ^ i) (even-multiple i j h) ∙ add-mul-div-right m (2 ^ (j - suc i) * 2) (pow-pos i))

@@ -1,4 +1,5 @@
--- Document 02, point 4: "A cabinet shall keep its highest accepted leaf and 32 marks". Which leaves it still takes, and what it keeps once it has taken one.
+-- Document 02, point 4: "A cabinet shall keep its highest accepted leaf and 32 marks". Which leaves it still takes, and what it keeps once
+-- it has taken one.
 use mathlib.Core.Bool.{Bool, not, _&&_, _||_, cond}
 use Prim.Native.Nat.{ℕ, _+_, _-_, _*_, _/_, _%_, _^_}
 use lib.Dec.{ltb, leb, eqb}
@@ -21,7 +22,8 @@ passed w leaf =
 unfoldable pub moved : (marks up : ℕ) → ℕ
 moved marks up = marks * 2 ^ up % 2 ^ 32
 
--- What is kept once a leaf that is not passed was taken. "A cabinet with no mark set takes any leaf, which on acceptance is its highest, alone marked". A leaf
+-- What is kept once a leaf that is not passed was taken. "A cabinet with no mark set takes any leaf, which on acceptance is its highest,
+-- alone marked". A leaf
 -- above the highest becomes the highest, with mark 0 beside the marks moved up; for any other its own mark, which is not set, is added.
 unfoldable pub taken : Window → (leaf : ℕ) → Window
 taken w leaf =

@@ -15,6 +15,8 @@ ghost use Rattle.zarosnik.specs.Interface.{shapeOf, profileOf, counterOf
 use codewords::ranking::rank;
 use codewords::unrank;
 use counts::table::codeword_count;
+use numbers::number::compare;
+use numbers::number::order_code;
 use one_time::leaf_key;
 use one_time::one_time_recover;
 use one_time::one_time_sign;
@@ -35,8 +37,6 @@ use tree::root;
 use verifier::Verifier;
 use verifier::verify;
 use window::Window;
-use numbers::number::compare;
-use numbers::number::order_code;
 
 // The code that a call returns.
 fn returned(o: Outcome) -> u32

@@ -19,14 +19,16 @@ returns c =
 returns-2 : tie.Need-returns-2
 returns-2 c =
     let q = c .before .before .before in
-    sym (other-kind (q .read-line .last .1 .1 .0) (q .read-line .ensures .bytes (not-false _ (c .before .if1 .left))) (c .if2 .taken) (q .read-line .kept .1 .1 .0))
+    sym (other-kind (q .read-line .last .1 .1 .0) (q .read-line .ensures .bytes (not-false _ (c .before .if1 .left))) (c .if2 .taken)
+    (q .read-line .kept .1 .1 .0))
 
 returns-3 : tie.Need-returns-3
 returns-3 c =
     let last = c .before in
     let q = last .before .before .before in
     let shape = c .shape-of .ensures in
-    sym (asked (q .read-line .last .1 .1 .0) (q .read-line .ensures .bytes (not-false _ (last .before .if1 .left))) (c .shape-of .result) (last .if2 .left) (q .read-line .kept .1 .1 .0) (shape .0) (shape .1) (shape .2))
+    sym (asked (q .read-line .last .1 .1 .0) (q .read-line .ensures .bytes (not-false _ (last .before .if1 .left))) (c .shape-of .result) (last .if2 .left)
+    (q .read-line .kept .1 .1 .0) (shape .0) (shape .1) (shape .2))
 
 pub read-request-spec : {M : Type 1} → statement M
 read-request-spec =

@@ -20,8 +20,12 @@ write-rows-requires c κs =
     let q = granted .before .before .before .before .before in
     let p = start q .args .p in
     let answer = q .codeword-count .ensures in
-    let told = granted .enum-told .given .1 in
-    (granted-limits p _ _ _ answer (start q .pre .0) told, granted-table p _ _ _ answer (start q .pre .0) told, lines-are p _ _ _ answer (start q .pre .0) told _ (counted .line-count .ensures), start q .pre .1)
+    let told = granted .enum-told .given .1 in (
+      granted-limits p _ _ _ answer (start q .pre .0) told,
+      granted-table p _ _ _ answer (start q .pre .0) told,
+      lines-are p _ _ _ answer (start q .pre .0) told _ (counted .line-count .ensures),
+      start q .pre .1,
+    )
 
 returns : tie.Need-returns
 returns c =

@@ -34,7 +34,12 @@ write-codeword-requires c κs =
     (start .pre .0, (start .pre .1, (omega (arith, one-word (start .args .n), start .pre .2), start .pre .0 .few-chains)))
 
 array-share-prefix-row : tie.Need-array-share-prefix-row
-array-share-prefix-row c = let q = c .before .before .before in omega (arith, taken q, length-take (start q .args .p .chains + 3) (17 ∷ start q .args .n / 256 ∷ start q .args .n % 256 ∷ (q .write-codeword .last .1 .1 .1 .0 ++ [])))
+array-share-prefix-row c = let q = c .before .before .before in
+    omega (
+      arith,
+      taken q,
+      length-take (start q .args .p .chains + 3) (17 ∷ start q .args .n / 256 ∷ start q .args .n % 256 ∷ (q .write-codeword .last .1 .1 .1 .0 ++ [])),
+    )
 
 slice-aggregate-write-line : tie.Need-slice-aggregate-write-line
 slice-aggregate-write-line c = sym (taken (c .before .before .before .before))

@@ -30,7 +30,8 @@ loop-less c =
     let got = read .read-full .result in
     let bytes = read .read-full .last .1 .0 in
     let after = c .after .ensures in
-    fewer-left (q .before .loop .input) (c .after .result) (take got bytes) (omega (arith, q .left .ensures)) (omega (arith, length-take got bytes, read .read-full .kept .1 .0)) (after .0) (after .2)
+    fewer-left (q .before .loop .input) (c .after .result) (take got bytes) (omega (arith, q .left .ensures))
+    (omega (arith, length-take got bytes, read .read-full .kept .1 .0)) (after .0) (after .2)
 
 loop-again : tie.Need-loop-again Inv-loop μ-loop
 loop-again c = c .after .ensures .1
