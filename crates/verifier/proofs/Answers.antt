@@ -24,7 +24,7 @@ use Rattle.tweak.specs.Tweak.{firstDomain}
 use Rattle.chains.specs.Leaves.{recovered, stepsLeft}
 use Rattle.one_time.specs.Operations.{recoveredBy, stepsOf}
 use Rattle.one_time.proofs.RowLaws.{recovered-row, steps-row}
-use Rattle.tree.specs.Tree.{climbed}
+use Rattle.merkle.specs.Nodes.{climbed}
 use Rattle.message.specs.Message.{countTooSmall, outsideText, signatureLength}
 use Rattle.message.proofs.Fits.{short-text}
 use Rattle.message.proofs.NumberLaws.{number-fits}
