@@ -1,6 +1,6 @@
 -- Document 01, Chains and leaves: the values that a signature shows, and the leaf key.
-use mathlib.Core.List.{List}
-use Prim.Native.Nat.{ℕ, _-_, _*_}
+use mathlib.Core.List.{List, [], _∷_}
+use Prim.Native.Nat.{ℕ, _+_, _-_, _*_}
 use lib.ListN.{getD, take, drop}
 use Rattle.lists.specs.Joined.{joinTo}
 use Rattle.profile.specs.declared.Profile.{Profile}
@@ -28,3 +28,8 @@ leafKeyOf d p secret leaf = leafKey d secret (p .shape .width) (p .shape .chains
 unfoldable pub recovered : Domain → (w l leaf : ℕ) (row values : List ℕ) → List ℕ
 recovered d w l leaf row values =
     keyOfTops d leaf (joinTo (λ c. walked d leaf c (getD row c 0) (w - 1 - getD row c 0) (take 16 (drop (16 * c) values))) l)
+
+-- "The checker steps on to w − 1": the steps of all chains of a row
+unfoldable pub stepsLeft : ℕ → List ℕ → ℕ
+stepsLeft w [] = 0
+stepsLeft w (a ∷ row) = (w - 1 - a) + stepsLeft w row

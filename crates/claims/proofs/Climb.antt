@@ -3,7 +3,7 @@ use mathlib.Core.List.{[], append-nil}
 use Rattle.chains.specs.Leaves.{leafKeyOf}
 use Rattle.chains.proofs.LeafLaws.{length-leaf-key}
 use Rattle.tree.specs.Tree.{rootOf}
-use Rattle.tree.proofs.ClimbLaws.{climbed-root}
+use Rattle.merkle.proofs.ClimbLaws.{climbed-root}
 use Rattle.claims.specs.OneTime.{ClimbsToRoot}
 
 pub climbs : ClimbsToRoot

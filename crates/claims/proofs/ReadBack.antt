@@ -11,7 +11,7 @@ use Rattle.tweak.specs.declared.Domain.{Domain}
 use Rattle.chains.specs.Leaves.{leafKeyOf}
 use Rattle.one_time.specs.Operations.{revealedBy}
 use Rattle.one_time.proofs.RecoverLaws.{length-revealedBy}
-use Rattle.tree.specs.Tree.{path}
+use Rattle.merkle.specs.Nodes.{path}
 use Rattle.message.specs.Message.{signatureLength}
 use Rattle.signer.specs.Signing.{signatureOf}
 use Rattle.signer.proofs.SignatureLaws.{length-signature}

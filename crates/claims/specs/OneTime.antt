@@ -8,7 +8,8 @@ use Rattle.counts.specs.Counts.{count}
 use Rattle.tweak.specs.declared.Domain.{Domain}
 use Rattle.chains.specs.Leaves.{leafKeyOf}
 use Rattle.one_time.specs.Operations.{revealedBy, recoveredBy, stepsOf}
-use Rattle.tree.specs.Tree.{rootOf, path, climbed}
+use Rattle.merkle.specs.Nodes.{path, climbed}
+use Rattle.tree.specs.Tree.{rootOf}
 
 -- "The checker steps on to w − 1, l × (w − 1) − s steps in all": what Recover finds of the values that Reveal shows, for the same number and leaf
 abbrev pub RecoversRevealed : Type 0

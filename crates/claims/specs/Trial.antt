@@ -6,8 +6,9 @@ use lib.ListN.{replicate}
 use Rattle.profile.specs.declared.Shape.{Shape}
 use Rattle.counts.specs.Counts.{count}
 use Rattle.counts.specs.Table.{countCode}
-use Rattle.codewords.specs.Codeword.{codeword, rank, stepsLeft}
+use Rattle.codewords.specs.Codeword.{codeword, rank}
 use Rattle.codewords.specs.Operations.{unrankCode, rankCode}
+use Rattle.chains.specs.Leaves.{stepsLeft}
 
 -- l chains of width w with sum s
 abbrev shape : (l w s : ℕ) → Shape

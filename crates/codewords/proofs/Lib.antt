@@ -4,6 +4,5 @@ pub mod OrderLaws
 pub mod RankLaws
 pub mod RowLaws
 pub mod SearchLaws
-pub mod Steps
 pub mod TableOperation
 pub mod UnrankAnswer

@@ -54,8 +54,3 @@ abbrev pub Before : List ℕ → List ℕ → Type 0
 Before [] ys = ⊥
 Before (a ∷ xs) [] = ⊥
 Before (a ∷ xs) (b ∷ ys) = (a < b) ⊎ ((a ≡ b) × Before xs ys)
-
--- "The checker steps on to w − 1": the steps of all chains of a row
-unfoldable pub stepsLeft : ℕ → List ℕ → ℕ
-stepsLeft w [] = 0
-stepsLeft w (a ∷ row) = (w - 1 - a) + stepsLeft w row

@@ -16,9 +16,8 @@ use Rattle.refusal.proofs.Causes.{none-of-append, refused-number}
 use Rattle.profile.specs.Checks.{InLimits, profileCauses, leafBeyond}
 use Rattle.profile.specs.declared.Profile.{Profile}
 use Rattle.profile.proofs.Limits.{profile-numbered, profile-limits}
-use Rattle.codewords.specs.Codeword.{stepsLeft}
 use Rattle.tweak.specs.Tweak.{firstDomain}
-use Rattle.chains.specs.Leaves.{revealed, leafKeyOf, recovered}
+use Rattle.chains.specs.Leaves.{revealed, leafKeyOf, recovered, stepsLeft}
 use Rattle.one_time.specs.Operations.{leafKeyCode, LeafKeys, revealedBy, Reveals, recoveredBy, stepsOf, Recovers}
 use Rattle.one_time.specs.Placing.{Places}
 use Rattle.one_time.proofs.PlaceAnswer.{place-some, place-grants}

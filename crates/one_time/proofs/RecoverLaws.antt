@@ -9,7 +9,7 @@ use Rattle.profile.specs.declared.Profile.{Profile}
 use Rattle.counts.specs.Counts.{count}
 use Rattle.codewords.specs.Operations.{rowOf}
 use Rattle.codewords.proofs.RowLaws.{row-valid}
-use Rattle.codewords.proofs.Steps.{steps-codeword}
+use Rattle.one_time.proofs.StepLaws.{steps-codeword}
 use Rattle.tweak.specs.declared.Domain.{Domain}
 use Rattle.chains.specs.Leaves.{leafKeyOf}
 use Rattle.chains.proofs.LeafRecover.{length-revealed, recovered-revealed}

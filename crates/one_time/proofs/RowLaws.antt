@@ -6,12 +6,11 @@ use lib.ListN.{take, drop}
 use Rattle.lists.proofs.Joins.{joinTo-cong}
 use Rattle.profile.specs.declared.Shape.{Shape}
 use Rattle.counts.specs.Counts.{count}
-use Rattle.codewords.specs.Codeword.{stepsLeft}
 use Rattle.codewords.specs.Operations.{rowOf}
 use Rattle.codewords.proofs.RowLaws.{row-at, row-front}
 use Rattle.tweak.specs.declared.Domain.{Domain}
 use Rattle.chains.specs.Chains.{walked, chainValue}
-use Rattle.chains.specs.Leaves.{revealed, keyOfTops, recovered}
+use Rattle.chains.specs.Leaves.{revealed, keyOfTops, recovered, stepsLeft}
 
 module _ (p : Shape) (n : ℕ) (more : List ℕ) (below : n < count p) where
   pub revealed-row : (d : Domain) (secret : List ℕ) (leaf : ℕ)

@@ -12,11 +12,10 @@ use Rattle.profile.specs.declared.Shape.{Shape}
 use Rattle.profile.specs.declared.Profile.{Profile}
 use Rattle.counts.specs.Counts.{count}
 use Rattle.counts.specs.Table.{tableCauses, tableAfter}
-use Rattle.codewords.specs.Codeword.{stepsLeft}
 use Rattle.codewords.specs.Operations.{rowOf}
 use Rattle.tweak.specs.Tweak.{firstDomain}
 use Rattle.tweak.specs.declared.Domain.{Domain}
-use Rattle.chains.specs.Leaves.{revealed, leafKeyOf, recovered}
+use Rattle.chains.specs.Leaves.{revealed, leafKeyOf, recovered, stepsLeft}
 use Rattle.one_time.specs.declared.LeafKey.{LeafKey}
 use Rattle.one_time.specs.declared.Recovered.{Recovered}
 

@@ -32,7 +32,8 @@ use Rattle.tweak.specs.declared.Domain.{Domain}
 use Rattle.chains.specs.Leaves.{leafKeyOf, revealed}
 use Rattle.one_time.specs.Operations.{revealedBy}
 use Rattle.one_time.proofs.RowLaws.{revealed-row}
-use Rattle.tree.specs.Tree.{rootOf, path}
+use Rattle.merkle.specs.Nodes.{path}
+use Rattle.tree.specs.Tree.{rootOf}
 use Rattle.message.specs.Message.{messageNumber, countTooSmall, outsideText, signatureLength}
 use Rattle.message.proofs.Fits.{short-text}
 use Rattle.message.proofs.NumberLaws.{number-fits}

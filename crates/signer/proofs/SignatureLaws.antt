@@ -10,7 +10,7 @@ use Rattle.tweak.specs.declared.Domain.{Domain}
 use Rattle.chains.specs.Leaves.{leafKeyOf}
 use Rattle.chains.proofs.LeafLaws.{length-leaf-key}
 use Rattle.one_time.proofs.RecoverLaws.{length-revealedBy}
-use Rattle.tree.proofs.ClimbLaws.{length-path}
+use Rattle.merkle.proofs.ClimbLaws.{length-path}
 use Rattle.message.specs.Message.{signatureLength}
 use Rattle.signer.specs.Signing.{signatureOf}
 

@@ -8,8 +8,9 @@ use Rattle.profile.specs.declared.Profile.{Profile}
 use Rattle.tweak.specs.declared.Domain.{Domain}
 use Rattle.chains.specs.Leaves.{leafKeyOf}
 use Rattle.chains.proofs.LeafLaws.{length-leaf-key}
-use Rattle.tree.specs.Tree.{rootOf, path, climbed}
-use Rattle.tree.proofs.ClimbLaws.{length-path, climbed-root}
+use Rattle.merkle.specs.Nodes.{path, climbed}
+use Rattle.tree.specs.Tree.{rootOf}
+use Rattle.merkle.proofs.ClimbLaws.{length-path, climbed-root}
 
 module _ (d : Domain) (p : Profile) (secret : List ℕ) (leaf : ℕ) where
   abbrev leaves : ℕ → List ℕ

@@ -18,7 +18,8 @@ use Rattle.tweak.specs.Tweak.{firstDomain}
 use Rattle.tweak.specs.declared.Domain.{Domain}
 use Rattle.chains.specs.Leaves.{leafKeyOf}
 use Rattle.one_time.specs.Operations.{revealedBy}
-use Rattle.tree.specs.Tree.{rootOf, path}
+use Rattle.merkle.specs.Nodes.{path}
+use Rattle.tree.specs.Tree.{rootOf}
 use Rattle.message.specs.Message.{messageNumber, countTooSmall, outsideText, signatureLength}
 use Rattle.signer.specs.declared.Signed.{Signed}
 

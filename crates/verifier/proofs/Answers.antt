@@ -18,14 +18,13 @@ use Rattle.profile.specs.declared.Shape.{Shape}
 use Rattle.counts.specs.Counts.{count}
 use Rattle.counts.specs.Table.{withTable, tableCauses, leavesTable, tableAfter}
 use Rattle.counts.proofs.Room.{TablePassed, table-early, table-passed}
-use Rattle.codewords.specs.Codeword.{stepsLeft}
 use Rattle.codewords.specs.Operations.{rowOf}
 use Rattle.codewords.proofs.TableOperation.{early-code, none-before, table-after, refused-before, granted-before}
 use Rattle.tweak.specs.Tweak.{firstDomain}
-use Rattle.chains.specs.Leaves.{recovered}
+use Rattle.chains.specs.Leaves.{recovered, stepsLeft}
 use Rattle.one_time.specs.Operations.{recoveredBy, stepsOf}
 use Rattle.one_time.proofs.RowLaws.{recovered-row, steps-row}
-use Rattle.tree.specs.Tree.{climbed}
+use Rattle.merkle.specs.Nodes.{climbed}
 use Rattle.message.specs.Message.{countTooSmall, outsideText, signatureLength}
 use Rattle.message.proofs.Fits.{short-text}
 use Rattle.message.proofs.NumberLaws.{number-fits}

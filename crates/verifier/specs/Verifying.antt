@@ -14,7 +14,7 @@ use Rattle.counts.specs.Table.{tableCauses, tableAfter}
 use Rattle.tweak.specs.Tweak.{firstDomain}
 use Rattle.tweak.specs.declared.Domain.{Domain}
 use Rattle.one_time.specs.Operations.{recoveredBy, stepsOf}
-use Rattle.tree.specs.Tree.{climbed}
+use Rattle.merkle.specs.Nodes.{climbed}
 use Rattle.message.specs.Message.{messageNumber, countTooSmall, outsideText, signatureLength}
 use Rattle.window.specs.Window.{freshWindow, passed, taken as takenBy}
 use Rattle.verifier.specs.declared.Verifier.{Verifier}

@@ -3,8 +3,9 @@ use mathlib.Core.Path.{refl}
 use Rattle.profile.specs.Checks.{shapeCauses}
 use Rattle.counts.specs.Counts.{sumTo, share, D, count}
 use Rattle.counts.specs.Table.{tableLength, countCauses, countCode}
-use Rattle.codewords.specs.Codeword.{place, codeword, rank, total, stepsLeft}
+use Rattle.codewords.specs.Codeword.{place, codeword, rank, total}
 use Rattle.codewords.specs.Operations.{unrankCode, someAbove, rankCode}
+use Rattle.chains.specs.Leaves.{stepsLeft}
 use Rattle.claims.specs.Trial.{trials}
 use Rattle.claims.proofs.trial_values.Statement.{statement}
 use Rattle.claims.proofs.trial_values.Tie as tie

@@ -7,12 +7,12 @@ use borrow.Fn.PlainCycle.{Measures, is, falls, and}
 use denote.Ref.{now}
 use Rattle.chains.specs.Leaves.{leafKey}
 use Rattle.chains.proofs.leaves.key_of_leaf.Reads as key-of-leaf-reads
-use Rattle.tree.proofs.Indices.{index-small, child-within}
-use Rattle.tree.proofs.NodeLaws.{node-leaf, node-above}
+use Rattle.merkle.proofs.Indices.{index-small, child-within}
+use Rattle.merkle.proofs.NodeLaws.{node-leaf, node-above}
 use Rattle.tree.proofs.node.Reads as node
 use Rattle.tree.proofs.node.Kinds as node-kinds
 use Rattle.tree.proofs.+node.Lts-node as node-lts
-use Rattle.tree.proofs.parent.Reads as parent-reads
+use Rattle.merkle.proofs.parent.Reads as parent-reads
 use Rattle.tree.proofs.+node.{statement}
 use Rattle.tree.proofs.+node.Tie.{close}
 
@@ -47,7 +47,7 @@ module _ (t : ℕ) where
   returns : node-lts.Need-returns (calls t) (node-at t) node.Post
   returns c =
       let a = c .before .before .args in
-      node-leaf (a .h .domain) (leafKey (a .h .domain) (now (a .secret)) (a .width) (a .chains)) (a .height) (a .index) (c .before .if1 .taken) (c .key-of-leaf .ensures)
+      node-leaf (a .hasher .domain) (leafKey (a .hasher .domain) (now (a .secret)) (a .width) (a .chains)) (a .height) (a .index) (c .before .if1 .taken) (c .key-of-leaf .ensures)
 
   sub-below : node-lts.Need-sub-below (calls t) (node-at t) node.Post
   sub-below c = search needs
@@ -75,7 +75,7 @@ module _ (t : ℕ) where
       let right = c .before in
       let left = right .before in
       let a = left .before .before .args in
-      node-above (a .h .domain) (leafKey (a .h .domain) (now (a .secret)) (a .width) (a .chains)) (a .height) (a .index) (above (left .before)) (left .node .ensures) (right .node2 .ensures) (c .parent .ensures)
+      node-above (a .hasher .domain) (leafKey (a .hasher .domain) (now (a .secret)) (a .width) (a .chains)) (a .height) (a .index) (above (left .before)) (left .node .ensures) (right .node2 .ensures) (c .parent .ensures)
 
 pub +node-spec : {M : Type 1} → statement M
 +node-spec =

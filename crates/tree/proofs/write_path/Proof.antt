@@ -9,23 +9,23 @@ use denote.Ref.{now}
 use lib.ListN.{length, drop}
 use Rattle.chains.specs.Leaves.{leafKey}
 use Rattle.chains.proofs.LeafLaws.{length-leaf-key}
-use Rattle.tree.specs.Tree.{sibling, path}
-use Rattle.tree.proofs.Indices.{index-small, half-place, place-within, sibling-place-within}
-use Rattle.tree.proofs.PathLaws.{path-start, path-next}
+use Rattle.merkle.specs.Nodes.{sibling, path}
+use Rattle.merkle.proofs.Indices.{index-small, half-place, place-within, sibling-place-within}
+use Rattle.merkle.proofs.PathLaws.{path-start, path-next}
 use Rattle.tree.proofs.write_path.Statement.{statement}
 use Rattle.tree.proofs.write_path.Tie as tie
 
 abbrev Inv-loop : tie.InvT-loop
-Inv-loop h secret width chains height leaf out₀ index₀ k₀ out index k =
-    (k ≤ height) × (index ≡ leaf / 2 ^ k) × (length out ≡ length out₀) × (out ≡ path (h .domain) (leafKey (h .domain) secret width chains) k leaf ++ drop (16 * k) out₀)
+Inv-loop hasher secret width chains height leaf out₀ index₀ k₀ out index k =
+    (k ≤ height) × (index ≡ leaf / 2 ^ k) × (length out ≡ length out₀) × (out ≡ path (hasher .domain) (leafKey (hasher .domain) secret width chains) k leaf ++ drop (16 * k) out₀)
 
 abbrev μ-loop : tie.MeasureT-loop
-μ-loop h secret width chains height leaf out₀ index₀ k₀ out index k = height - k
+μ-loop hasher secret width chains height leaf out₀ index₀ k₀ out index k = height - k
 
 loop-holds : tie.Need-loop-holds Inv-loop μ-loop
 loop-holds c =
     let a = c .before .args in
-    (omega arith, sym (div-one (a .leaf)), refl, path-start (a .h .domain) (leafKey (a .h .domain) (now (a .secret)) (a .width) (a .chains)) (a .leaf) (now (a .out)))
+    (omega arith, sym (div-one (a .leaf)), refl, path-start (a .hasher .domain) (leafKey (a .hasher .domain) (now (a .secret)) (a .width) (a .chains)) (a .leaf) (now (a .out)))
 
 sibling-requires : tie.Need-sibling-requires Inv-loop μ-loop
 sibling-requires c κs =
@@ -51,7 +51,7 @@ loop-again c =
     let start = at-loop .before .before in
     let a = start .args in
     let place = at-loop .loop .inv .1 in
-    (omega arith, ap (λ (i : ℕ). i / 2) place ∙ half-place (a .leaf) (at-loop .loop .k), written .write-16 .kept .0 ∙ at-loop .loop .inv .2, path-next (a .h .domain) (leafKey (a .h .domain) (now (a .secret)) (a .width) (a .chains)) (a .leaf) (now (a .out)) (length-leaf-key (a .h .domain) (now (a .secret)) (a .width) (a .chains)) (a .height) (at-loop .loop .k) (at-loop .loop .index) (start .pre .1 .4) (omega arith) place (sided .sibling .ensures) (valued .node .ensures) (at-loop .loop .inv .3) (written .write-16 .ensures))
+    (omega arith, ap (λ (i : ℕ). i / 2) place ∙ half-place (a .leaf) (at-loop .loop .k), written .write-16 .kept .0 ∙ at-loop .loop .inv .2, path-next (a .hasher .domain) (leafKey (a .hasher .domain) (now (a .secret)) (a .width) (a .chains)) (a .leaf) (now (a .out)) (length-leaf-key (a .hasher .domain) (now (a .secret)) (a .width) (a .chains)) (a .height) (at-loop .loop .k) (at-loop .loop .index) (start .pre .1 .4) (omega arith) place (sided .sibling .ensures) (valued .node .ensures) (at-loop .loop .inv .3) (written .write-16 .ensures))
 
 same-length : tie.Need-same-length Inv-loop μ-loop
 same-length c = c .before .loop .inv .2

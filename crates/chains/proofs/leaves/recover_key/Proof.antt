@@ -9,10 +9,9 @@ use lib.ListN.{length, getD, take, drop}
 use Rattle.lists.proofs.Joins.{length-value}
 use Rattle.sha256.specs.Running.{hashed}
 use Rattle.tweak.specs.declared.Domain.{Domain}
-use Rattle.codewords.specs.Codeword.{stepsLeft}
-use Rattle.codewords.proofs.Steps.{steps-next}
+use Rattle.chains.proofs.StepLaws.{steps-next}
 use Rattle.chains.specs.Chains.{walked}
-use Rattle.chains.specs.Leaves.{recovered}
+use Rattle.chains.specs.Leaves.{recovered, stepsLeft}
 use Rattle.chains.proofs.ChainLaws.{length-walked}
 use Rattle.chains.proofs.LeafLaws.{taken, no-top, top-more, all-tops}
 use Rattle.chains.proofs.leaves.recover_key.Statement.{statement}

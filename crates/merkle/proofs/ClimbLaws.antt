@@ -12,9 +12,9 @@ use lib.Dec.{eqb}
 use lib.ListN.{length, take, drop}
 use Rattle.lists.proofs.Joins.{length-joinTo, part-joinTo}
 use Rattle.tweak.specs.declared.Domain.{Domain}
-use Rattle.tree.specs.Tree.{parentOf, node, isLeft, sibling, path, climbedOnce, climbed}
-use Rattle.tree.proofs.Indices.{half-place}
-use Rattle.tree.proofs.NodeLaws.{length-node}
+use Rattle.merkle.specs.Nodes.{parentOf, node, isLeft, sibling, path, climbedOnce, climbed}
+use Rattle.merkle.proofs.Indices.{half-place}
+use Rattle.merkle.proofs.NodeLaws.{length-node}
 
 -- a node and its sibling are the two children of the node above
 both-children : (d : Domain) (height : ℕ) (f : ℕ → List ℕ) (j : ℕ)

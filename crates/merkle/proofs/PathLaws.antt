@@ -8,8 +8,8 @@ use lib.ListN.{length, take, drop}
 use Rattle.lists.specs.Joined.{joinTo}
 use Rattle.lists.proofs.Joins.{write-next}
 use Rattle.tweak.specs.declared.Domain.{Domain}
-use Rattle.tree.specs.Tree.{node, sibling, path}
-use Rattle.tree.proofs.NodeLaws.{length-node}
+use Rattle.merkle.specs.Nodes.{node, sibling, path}
+use Rattle.merkle.proofs.NodeLaws.{length-node}
 
 module _ (d : Domain) (leaves : ℕ → List ℕ) (leaf : ℕ) (o : List ℕ) where
   -- before the first turn

@@ -13,8 +13,8 @@ use Rattle.sha256.proofs.Joined.{more-taken}
 use Rattle.tweak.specs.Tweak.{nodeAddress, seedBlock}
 use Rattle.tweak.specs.declared.Domain.{Domain}
 use Rattle.tweak.proofs.TweakLaws.{length-address, length-seed-block, length-tweaked, tweak-ended}
-use Rattle.tree.specs.Tree.{parentOf, node, climbedOnce, climbed}
-use Rattle.tree.proofs.Indices.{left-even, right-odd}
+use Rattle.merkle.specs.Nodes.{parentOf, node, climbedOnce, climbed}
+use Rattle.merkle.proofs.Indices.{left-even, right-odd}
 
 module _ (d : Domain) (leaves : ℕ → List ℕ) where
   pub length-node : ((i : ℕ) → length (leaves i) ≡ 16) → (height index : ℕ) → length (node d leaves height index) ≡ 16

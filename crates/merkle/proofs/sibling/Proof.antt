@@ -1,9 +1,9 @@
--- `tree::sibling` meets its contract: of an even index the next one, of an odd index the one before.
+-- `merkle::sibling` meets its contract: of an even index the next one, of an odd index the one before.
 use borrow.Author.Needs.{needs}
-use Rattle.tree.specs.Tree.{sibling}
-use Rattle.tree.proofs.Indices.{left-even, right-odd}
-use Rattle.tree.proofs.sibling.Statement.{statement}
-use Rattle.tree.proofs.sibling.Tie as tie
+use Rattle.merkle.specs.Nodes.{sibling}
+use Rattle.merkle.proofs.Indices.{left-even, right-odd}
+use Rattle.merkle.proofs.sibling.Statement.{statement}
+use Rattle.merkle.proofs.sibling.Tie as tie
 
 returns : tie.Need-returns
 unfolding sibling

@@ -6,7 +6,7 @@ use native.Mathlib.Nat.{pow-succ', lt-of-lt-of-le}
 use native.Mathlib.Omega.{arith}
 use borrow.Author.Tests.{eqb-true, eq-eqb, ne-eqb}
 use lib.Pow.{pow-mono, shr-lt, shr-shr}
-use Rattle.tree.specs.Tree.{isLeft, sibling}
+use Rattle.merkle.specs.Nodes.{isLeft, sibling}
 
 -- a node's index is below 2 ^ 31 at every height
 pub index-small : (height : ℕ) {index : ℕ} → index < 2 ^ (31 - height) → index < 2 ^ 31
@@ -39,7 +39,7 @@ sibling-within m index h = by (isLeft index) refl
 pub half-place : (leaf k : ℕ) → leaf / 2 ^ k / 2 ≡ leaf / 2 ^ (k + 1)
 half-place leaf k = shr-shr leaf k 1
 
-module _ (leaf h k : ℕ) (low : h ≤ 10) (in-tree : leaf < 2 ^ h) (below : k < h) where
+module _ (leaf h k : ℕ) (low : h ≤ 31) (in-tree : leaf < 2 ^ h) (below : k < h) where
   -- the node above a leaf
   pub place-within : leaf / 2 ^ k < 2 ^ (31 - k)
   place-within =

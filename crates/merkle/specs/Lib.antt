@@ -1,0 +1,2 @@
+-- Hash trees over any leaves.
+pub mod Nodes
