@@ -1,10 +1,9 @@
 -- Ch and Maj in forms that take fewer operations, proved digit by digit.
 use mathlib.Core.Path.{_≡_, refl, _∙_, sym}
-use Prim.Native.Nat.{ℕ, zero, suc, _-_, _/_, _%_, _^_, _<_}
+use Prim.Native.Nat.{ℕ, zero, suc, _-_, _*_, _/_, _%_, _^_, _<_}
 use native.Mathlib.Nat.{pow-suc}
 use native.Mathlib.Omega.{arith}
 use lib.Bits.{bitAnd, bitXor, and-shr, xor-shr, and-mod, xor-mod}
-use lib.Pow.{pow-pos}
 
 -- numbers with equal halves and equal last digits
 join : (a b : ℕ) → a / 2 ≡ b / 2 → a % 2 ≡ b % 2 → a ≡ b
@@ -45,6 +44,16 @@ chosen-half x n y z = xor-shr (bitAnd x y) (bitAnd n z) 1 ∙ rw (and-shr x y 1,
 chosen-last : (x n y z : ℕ) → chosen x n y z % 2 ≡ chosen (x % 2) (n % 2) (y % 2) (z % 2)
 chosen-last x n y z = xor-mod (bitAnd x y) (bitAnd n z) 1 ∙ rw (and-mod x y 1, and-mod n z 1)
 
+-- the complement of x among p pairs, in halves and last digits
+complement-half : (p x : ℕ) → x < p * 2 → (p * 2 - 1 - x) / 2 ≡ p - 1 - x / 2
+complement-half p x h = omega arith
+
+complement-last : (p x : ℕ) → x < p * 2 → (p * 2 - 1 - x) % 2 ≡ 1 - x % 2
+complement-last p x h = omega arith
+
+half-below : (p x : ℕ) → x < p * 2 → x / 2 < p
+half-below p x h = omega arith
+
 -- (4.2) on words of k digits
 pub choice : (k x y z : ℕ) → x < 2 ^ k → z < 2 ^ k → choose x y z ≡ chosen x (2 ^ k - 1 - x) y z
 choice zero x y z hx hz =
@@ -53,10 +62,12 @@ choice zero x y z hx hz =
     rw (ex, ez)
 choice (suc k) x y z hx hz =
     let n = 2 ^ suc k - 1 - x in
-    let e : n / 2 ≡ 2 ^ k - 1 - x / 2 = omega (arith, pow-suc 2 k, pow-pos k) in
-    let f : n % 2 ≡ 1 - x % 2 = omega (arith, pow-suc 2 k, pow-pos k) in
+    let lx = rw (pow-suc 2 k) at hx in
+    let lz = rw (pow-suc 2 k) at hz in
+    let e : n / 2 ≡ 2 ^ k - 1 - x / 2 = rw (pow-suc 2 k) (complement-half (2 ^ k) x lx) in
+    let f : n % 2 ≡ 1 - x % 2 = rw (pow-suc 2 k) (complement-last (2 ^ k) x lx) in
     join (choose x y z) (chosen x n y z)
-    (choose-half x y z ∙ choice k (x / 2) (y / 2) (z / 2) (omega (arith, pow-suc 2 k)) (omega (arith, pow-suc 2 k)) ∙ rw (← e) (sym (chosen-half x n y z)))
+    (choose-half x y z ∙ choice k (x / 2) (y / 2) (z / 2) (half-below (2 ^ k) x lx) (half-below (2 ^ k) z lz) ∙ rw (← e) (sym (chosen-half x n y z)))
     (choose-last x y z
     ∙ digits choose (λ a b c. chosen a (1 - a) b c) refl refl refl refl refl refl refl refl (x % 2) (y % 2) (z % 2) (omega arith) (omega arith) (omega arith)
     ∙ rw (← f) (sym (chosen-last x n y z)))
@@ -87,5 +98,5 @@ majority zero x y z hx hy =
     rw (ex, ey)
 majority (suc k) x y z hx hy =
     join (vote x y z) (most x y z)
-    (vote-half x y z ∙ majority k (x / 2) (y / 2) (z / 2) (omega (arith, pow-suc 2 k)) (omega (arith, pow-suc 2 k)) ∙ sym (most-half x y z))
+    (vote-half x y z ∙ majority k (x / 2) (y / 2) (z / 2) (half-below (2 ^ k) x (rw (pow-suc 2 k) at hx)) (half-below (2 ^ k) y (rw (pow-suc 2 k) at hy)) ∙ sym (most-half x y z))
     (vote-last x y z ∙ digits vote most refl refl refl refl refl refl refl refl (x % 2) (y % 2) (z % 2) (omega arith) (omega arith) (omega arith) ∙ sym (most-last x y z))

@@ -4,3 +4,4 @@ pub mod Constants
 mod Primes
 pub mod Schedule
 pub mod Window
+mod Words

@@ -5,8 +5,10 @@ use mathlib.Core.Logic.{⊎-elim}
 use Prim.Native.Nat.{ℕ, suc, _+_, _-_, _%_, _<_}
 use native.Mathlib.Nat.{eq-zero-or-pos}
 use native.Mathlib.Omega.{arith}
+use lib.Dec.{lit<}
 use lib.ListN.{length, getD, take, drop, set, length-drop, take-append-drop, List·getD-append}
 use lib.Seq.{drop-cons, drop-length, drop-append-le, getD-take, getD-drop, getD-append-add, take-at, drop-at, set-at}
+use Rattle.sha256_block.specs.Functions.{_⊞_, σ₀, σ₁}
 use Rattle.sha256_block.specs.Compression.{nextWord, extend}
 use Rattle.sha256_block.proofs.Schedule.{length-extend, next-of-drop, first-words}
 
@@ -30,6 +32,14 @@ module _ (ws : List ℕ) (sixteen : length ws ≡ 16) where
           let e : k ≡ length (drop i ws) + n = omega (arith, length-drop i ws) in
           let f : n ≡ (i + k) % 16 = omega arith in
           ap (λ m. getD (drop i ws ++ take i ws) m 0) e ∙ getD-append-add (drop i ws) (take i ws) n 0 ∙ getD-take i ws n 0 (omega arith) ∙ ap (λ m. getD ws m 0) f
+
+  -- the next word from the sums that the code forms one by one
+  pub next-made : {i s₁ x s₀ y r : ℕ} → i < 16 → s₁ ≡ σ₁ (getD ws ((i + 14) % 16) 0) → x ≡ s₁ ⊞ getD ws ((i + 9) % 16) 0
+      → s₀ ≡ σ₀ (getD ws ((i + 1) % 16) 0) → y ≡ x ⊞ s₀ → r ≡ y ⊞ getD ws i 0 → r ≡ nextWord 16 (drop i ws ++ take i ws)
+  unfolding nextWord
+  next-made {i} h es₁ ex es₀ ey er =
+      let oldest : (i + 0) % 16 ≡ i = omega arith in
+      rw (er, ey, ex, es₀, es₁, in-order i 14 h (lit< tt), in-order i 9 h (lit< tt), in-order i 1 h (lit< tt), in-order i 0 h (lit< tt), oldest)
 
   -- one replacement more
   pub replace-next : (i : ℕ) → i < 16 → set (replaced i ws) i (nextWord 16 (drop i (replaced i ws) ++ take i (replaced i ws))) ≡ replaced (suc i) ws

@@ -1,9 +1,10 @@
 -- The running hash on the way to a tweaked hash, and the lengths of what the definitions give.
 use mathlib.Core.Path.{_≡_, refl, sym, ap, _∙_}
-use mathlib.Core.List.{List, [], _++_, append-assoc, append-nil}
-use Prim.Native.Nat.{ℕ}
+use mathlib.Core.List.{List, [], _∷_, _++_, append-assoc, append-nil}
+use Prim.Native.Nat.{ℕ, _/_, _%_, _^_, _<_}
+use native.Mathlib.Nat.{div-one, mod-eq-of-lt}
 use native.Mathlib.Omega.{arith}
-use lib.ListN.{length, take, drop, set, replicate, length-append}
+use lib.ListN.{length, getD, take, drop, set, replicate, length-append}
 use lib.Seq.{length-take-le, paste}
 use Rattle.octets.specs.Bytes.{toBytes}
 use Rattle.octets.proofs.ByteLaws.{length-toBytes}
@@ -22,6 +23,25 @@ use Rattle.tweak.specs.declared.Domain.{Domain}
 pub length-address : (d : Domain) (kind first second third : ℕ) → length (address d kind first second third) ≡ 22
 unfolding address
 length-address d kind first second third = simp (length-append, length-toBytes)
+
+-- the bytes of an address one by one; a quotient by 256^0 is the number itself
+pub address-bytes : (d : Domain) (kind first second third : ℕ) {a b c : List ℕ} → d .layer < 256 → kind < 256
+    → a ≡ toBytes 4 first → b ≡ toBytes 4 second → c ≡ toBytes 4 third
+    → d .layer
+        ∷ d .tree / 256 ^ 7 % 256 ∷ d .tree / 256 ^ 6 % 256 ∷ d .tree / 256 ^ 5 % 256 ∷ d .tree / 256 ^ 4 % 256
+        ∷ d .tree / 256 ^ 3 % 256 ∷ d .tree / 256 ^ 2 % 256 ∷ d .tree / 256 % 256 ∷ d .tree % 256
+        ∷ kind
+        ∷ getD a 0 0 ∷ getD a 1 0 ∷ getD a 2 0 ∷ getD a 3 0
+        ∷ getD b 0 0 ∷ getD b 1 0 ∷ getD b 2 0 ∷ getD b 3 0
+        ∷ getD c 0 0 ∷ getD c 1 0 ∷ getD c 2 0 ∷ getD c 3 0
+        ∷ []
+        ≡ address d kind first second third
+unfolding address toBytes
+address-bytes d kind first second third hl hk ea eb ec =
+    let whole : d .tree / 1 ≡ d .tree = div-one (d .tree) in
+    let layer : d .layer / 1 % 256 ≡ d .layer = rw (div-one (d .layer)) (mod-eq-of-lt hl) in
+    let type′ : kind / 1 % 256 ≡ kind = rw (div-one kind) (mod-eq-of-lt hk) in
+    rw (ea, eb, ec, layer, type′, whole)
 
 pub length-seed-block : (seed : List ℕ) → length seed ≡ 16 → length (seedBlock seed) ≡ 64
 unfolding seedBlock

@@ -1,21 +1,16 @@
 -- `tweak::address` meets its contract: each byte is the one of the definition.
-use mathlib.Core.Path.{_≡_}
-use Prim.Native.Nat.{_%_}
-use native.Mathlib.Nat.{div-one}
-use native.Mathlib.Omega.{arith}
+use Prim.Native.Nat.{_<_}
 use borrow.Author.Needs.{needs}
-use Rattle.octets.specs.Bytes.{toBytes}
-use Rattle.tweak.specs.Tweak.{address}
+use Rattle.tweak.proofs.TweakLaws.{address-bytes}
 use Rattle.tweak.proofs.address.Statement.{statement}
 use Rattle.tweak.proofs.address.Tie as tie
 
 returns : tie.Need-returns
-unfolding address toBytes
 returns c =
     let a = c .before .before .before .args in
-    let layer : a .d .layer % 256 ≡ a .d .layer = omega arith in
-    let kind : a .kind % 256 ≡ a .kind = omega arith in
-    rw (c .word-bytes3 .ensures, c .before .word-bytes2 .ensures, c .before .before .word-bytes .ensures) (simp (div-one, layer, kind))
+    let small : (a .d .layer < 256) × (a .kind < 256) = search needs in
+    address-bytes (a .d) (a .kind) (a .first) (a .second) (a .third) (small .0) (small .1)
+    (c .before .before .word-bytes .ensures) (c .before .word-bytes2 .ensures) (c .word-bytes3 .ensures)
 
 pub address-spec : {M : Type 1} → statement M
 address-spec =
