@@ -23,20 +23,14 @@ import shapes
 import stored_keys
 import windows
 import written_sheets
-from calls import EDITED, ORDERS, Calls
+from answers import handed_back, key_read
+from calls import call as called
+from causes import subsets, wide_numbers
 from damage import Order, flipped, swapped
-from inputs import (
-    CAUSES,
-    CUTS,
-    FAR,
-    WIDE,
-    Inputs,
-    any_shape,
-    cheap_height,
-    signable_shape,
-)
+from inputs import FAR, Inputs, any_shape, cheap_height, signable_shape
+from keys import frame_length, right_frame
 from memory import Memory
-from keys import frame_length
+from operations import CAUSES, EDITED, ORDERS
 from sheets import sheet_length
 from signatures import (
     EDITIONS,
@@ -64,19 +58,6 @@ EARLIER_BITS = range(120, MOST_BITS + 1)
 MOST_HEIGHT = 3
 
 
-def subsets(causes, most):
-    return [laid for n in range(1, most + 1) for laid in itertools.combinations(causes, n)]
-
-
-def wide_numbers(operation):
-    """Each set of numbers of the profile, by their causes, with each way in which they are wide.
-    The edition is among them alone, with one other, and with all."""
-    causes = [cause for cause in CAUSES[operation] if cause in CUTS]
-    sets = subsets(causes, len(causes))
-    some = [laid for laid in sets if 22 not in laid or len(laid) in (1, 2, len(causes))]
-    return list(itertools.product(some, WIDE))
-
-
 class Unsound(Exception):
     """A call is not what it was drawn to be: a fault of the tests, not of the library."""
 
@@ -99,7 +80,7 @@ def single(operation, causes, pick, far=None, wide=None):
     inputs = Inputs(pick, operation, causes, far, wide)
     call = caused(operation, causes, getattr(inputs, operation)())
     if wide:
-        call.wide = tuple(causes), wide
+        call.stated = "wide", tuple(causes), wide
         call.causes = call.causes[:1]
     yield call
 
@@ -130,9 +111,7 @@ def crossed(operation, number, pick):
         order.sign_as_other_edition()
         if not order.leads_to_root():
             break
-    call = caused(operation, [15], Inputs(pick, operation, [15], profile=p).verify(order))
-    call.crossed = True
-    yield call
+    yield caused(operation, [15], Inputs(pick, operation, [15], profile=p).verify(order))
 
 
 def high_leaf(operation, number, pick):
@@ -155,7 +134,7 @@ def written(operation, number, size, pick):
     for slices in written_sheets.SLICES:
         inputs = Inputs(pick, operation, edition=number)
         given = written_sheets.drawn(pick, inputs.good, size, slices)
-        call = inputs.calls.write_sheet(inputs.good, *given)
+        call = inputs.call(inputs.good, **given)
         yield caused(operation, written_sheets.causes_of(size, slices), call)
         if call.outcome == 0:
             yield from read_back(call, pick)
@@ -164,19 +143,16 @@ def written(operation, number, size, pick):
 def read_back(call, pick):
     """Reads the sheet that a call has written, and writes what was read: this is the signature and
     the text, and these are the same bytes again."""
-    calls, given = Calls(pick), call.arguments
-    p = Profile(*(given[name] for name in Profile._fields))
-    parts = [given[name].before for name in ("signature", "message")]
-    sheet = given["sheet"].after[: sheet_length(p, len(parts[1]))]
-    slices = [Memory(pick.randbytes(len(part))) for part in parts]
-    read = calls.read_sheet(p, Memory(sheet), *slices)
-    demand(read.outcome == 0 and [memory.after for memory in slices] == parts, read)
-    read.written = True
+    p, parts = call.profile(), {name: call.given[name] for name in ("signature", "message")}
+    sheet = call.left["sheet"][: call.left["sheet_written"]]
+    slices = {name: pick.randbytes(len(part)) for name, part in parts.items()}
+    read = called(pick, "read_sheet", p, sheet=sheet, **slices)
+    demand(read.outcome == 0 and {name: read.left[name] for name in parts} == parts, read)
+    read.stated = ("written",)
     yield read
-    again = [Memory(memory.after) for memory in slices]
-    call = calls.write_sheet(p, *again, Memory(pick.randbytes(len(sheet))))
-    demand(call.arguments["sheet"].after == sheet, call)
-    yield call
+    again = called(pick, "write_sheet", p, **parts, sheet=pick.randbytes(len(sheet)))
+    demand(again.left["sheet"] == sheet, again)
+    yield again
 
 
 def counter(operation, kind, pick):
@@ -193,34 +169,28 @@ def counter(operation, kind, pick):
     if operation == "reserve":
         # the last leaf was reserved, and a mark goes first
         causes += [12] if answer == 21 and stored_keys.NEXT_LEAVES[name][2] else []
-        yield caused(operation, causes, inputs.calls.reserve(key)[0])
+        yield caused(operation, causes, inputs.call(key))
     elif operation == "sign":
         yield caused(operation, causes, inputs.sign(key[3:]))
     elif operation == "write_key":
-        call = inputs.calls.write_key(key, inputs.lent("frame", frame_length(p)))
+        call = inputs.call(key, frame=inputs.lent("frame", frame_length(p)))
         yield caused(operation, [], call)
-        yield from stored_back(call, key, answer, pick)
+        frame = call.left["frame"][: frame_length(p)]
+        yield from stored_back(frame, key._replace(mark=answer), frame, pick, "written")
     else:
-        frame = stored_keys.marked_frame(key)
-        call, found = inputs.calls.read_key(Memory(frame))
-        demand(found == key._replace(mark=answer), call)
-        yield caused(operation, [], call)
-        again = inputs.calls.write_key(found, Memory(pick.randbytes(len(frame))))
-        # the same bytes unless the mark does not count
-        demand((again.arguments["frame"].after == frame) == (mark == answer), again)
-        yield again
+        frame, found = stored_keys.marked_frame(key), key._replace(mark=answer)
+        # the same bytes are written again unless the mark does not count
+        yield from stored_back(frame, found, frame if mark == answer else right_frame(found), pick)
 
 
-def stored_back(call, key, mark, pick):
-    """Reads the stored key that a call has written, and writes what was read: this is the key, with
-    a mark that does not count as none, and these are the same bytes again."""
-    calls, frame = Calls(pick), call.arguments["frame"].after[: frame_length(key.profile)]
-    read, found = calls.read_key(Memory(frame))
-    demand(read.outcome == 0 and found == key._replace(mark=mark), read)
-    read.written = True
+def stored_back(frame, key, again, pick, *stated):
+    """Reads a stored key, which is this one, and writes what was read: these bytes."""
+    read = called(pick, "read_key", frame=frame)
+    demand(read.outcome == 0 and key_read(read.left) == key, read)
+    read.stated = stated
     yield read
-    call = calls.write_key(found, Memory(pick.randbytes(len(frame))))
-    demand(call.arguments["frame"].after == frame, call)
+    call = called(pick, "write_key", key, frame=pick.randbytes(len(frame)))
+    demand(call.left["frame"] == again, call)
     yield call
 
 
@@ -231,16 +201,16 @@ def key_slice(operation, number, longer, pick):
     size = frame_length(inputs.good) + longer
     frame = Memory(pick.randbytes(size), spare=max(0, longer))
     causes = [6] if stored_keys.SLICES[longer] else []
-    yield caused(operation, causes, inputs.calls.write_key(key, frame))
+    yield caused(operation, causes, inputs.call(key, frame=frame))
 
 
 def stored(operation, kind, pick):
     """Reads a frame of this kind."""
     inputs, answer = Inputs(pick, operation), stored_keys.READ_KINDS[kind]
     key = stored_keys.any_key(pick, inputs.good)
-    call = inputs.calls.read_key(stored_keys.drawn_frame(pick, key, kind))[0]
+    call = inputs.call(frame=stored_keys.drawn_frame(pick, key, kind))
     told = call.outcome if answer is None else answer
-    call.stored = kind
+    call.stated = "stored", kind
     yield caused(operation, [told] if told else [], call)
 
 
@@ -251,7 +221,7 @@ def earlier(operation, bits, pick):
     order, causes = Order(pick, p), [] if bits == MOST_BITS else [15]
     order.sign_as_earlier()
     call = caused(operation, causes, Inputs(pick, operation, causes, profile=p).verify(order))
-    call.earlier = True
+    call.stated = ("earlier",)
     yield call
 
 
@@ -281,7 +251,6 @@ class Sequence:
     def __init__(self, pick, p):
         self.pick = pick
         self.p = p
-        self.calls = Calls(pick)
         self.key = fresh_key(p, pick.randbytes(16), pick.randbytes(16))
         self.root = root_of(p, self.key.seed, self.key.secret)
         self.renew_verifier()
@@ -293,7 +262,8 @@ class Sequence:
 
     def reserve(self):
         """Granted, or refused where a mark stands or no leaf is left."""
-        call, self.key = self.calls.reserve(self.key)
+        call = called(self.pick, "reserve", self.key)
+        self.key = handed_back(self.key, call.left)
         return call
 
     def sign(self):
@@ -302,22 +272,24 @@ class Sequence:
         inputs = Inputs(self.pick, "sign", causes, profile=self.p)
         size = signature_length(self.p)
         message, out = inputs.message(), inputs.lent("signature", size)
-        r = self.pick.randbytes(16)
-        call, self.key = self.calls.sign(self.key, r, message, inputs.table(), out)
+        given = {"r": self.pick.randbytes(16), "message": message, "table": inputs.table()}
+        call = inputs.call(self.key, **given, signature=out)
+        self.key = handed_back(self.key, call.left)
         if call.outcome == 0:
-            self.issued.append((out.after[:size], message.before))
+            self.issued.append((call.left["signature"][:size], message.before))
         return call
 
     def store(self):
-        frame = Memory(self.pick.randbytes(frame_length(self.p) + self.pick.randrange(3)))
-        call = self.calls.write_key(self.key, frame)
-        self.frame = frame.after[: frame_length(self.p)]
+        size = frame_length(self.p)
+        frame = self.pick.randbytes(size + self.pick.randrange(3))
+        call = called(self.pick, "write_key", self.key, frame=frame)
+        self.frame = call.left["frame"][:size]
         return call
 
     def restart(self):
         """After a cut: from the stored frame, with the mark cleared."""
-        call, key = self.calls.read_key(Memory(self.frame))
-        self.key = restarted(key)
+        call = called(self.pick, "read_key", frame=self.frame)
+        self.key = restarted(key_read(call.left))
         return call
 
     def now_and_then(self):
@@ -346,10 +318,10 @@ class Sequence:
             yield self.restart()
 
     def check(self, signature, text, causes=()):
-        table = Inputs(self.pick, "verify", causes, profile=self.p).table()
-        call, self.verifier = self.calls.verify(
-            self.verifier, Memory(text), Memory(signature), table
-        )
+        inputs = Inputs(self.pick, "verify", causes, profile=self.p)
+        given = {"message": text, "signature": signature, "table": inputs.table()}
+        call = inputs.call(self.verifier, **given)
+        self.verifier = handed_back(self.verifier, call.left)
         return call
 
     def refused_check(self, taken):
@@ -391,8 +363,11 @@ class Sequence:
         checks += [pick.choice(taken) for _ in range(4) if taken]
         return self.check(*pick.choice(checks))
 
+    def root_call(self):
+        return called(self.pick, "root", self.key)
+
     def run(self):
-        yield self.calls.root(self.p, self.key.seed, self.key.secret)
+        yield self.root_call()
         yield self.store()
         while self.key.next < 1 << self.p.h:
             yield from self.order()
@@ -414,14 +389,15 @@ class Sequence:
                 yield self.refused_check(arriving[:place])
             call = self.check(*order)
             steps = self.p.l * (self.p.w - 1) - self.p.s
-            demand(call.outcome == 0 and call.arguments["steps"].after_words() == [steps], call)
+            demand(call.outcome == 0 and call.left["steps"] == steps, call)
             yield call
 
     def sheet(self):
         """Of an order issued: written, read, and written again."""
         signature, text = self.pick.choice(self.issued)
-        sheet = Memory(self.pick.randbytes(sheet_length(self.p, len(text)) + 9))
-        call = self.calls.write_sheet(self.p, Memory(signature), Memory(text), sheet)
+        sheet = self.pick.randbytes(sheet_length(self.p, len(text)) + 9)
+        given = {"signature": signature, "message": text, "sheet": sheet}
+        call = called(self.pick, "write_sheet", self.p, **given)
         demand(call.outcome == 0, call)
         yield call
         yield from read_back(call, self.pick)
@@ -436,7 +412,7 @@ def sequence(pick):
 def tall(p, pick):
     """A tree that takes long to hash, once in a run: the first leaf, any between, and the last."""
     orders = Sequence(pick, p)
-    yield orders.calls.root(p, orders.key.seed, orders.key.secret)
+    yield orders.root_call()
     last = (1 << p.h) - 1
     for leaf in (0, pick.randrange(1, last), last):
         orders.key = orders.key._replace(next=leaf)

@@ -8,70 +8,25 @@ import shapes
 import stored_keys
 import windows
 import written_sheets
-from calls import LENT, MOST_HASHED, ORDERS, TEXT_SLICE, Calls
+from calls import call
+from causes import CUT, CUTS, PAST_WORD, WIDE
 from damage import Order, flipped, wrong_sheet
 from memory import Filling, Memory
+from operations import LENT, MOST_HASHED, ORDERS, TABLE, parameters
 from keys import frame_length
 from sheets import right_sheet, sheet_length
 from signatures import EDITIONS, Profile, SigningKey, Verifier, revealed, signature_length
 from zarosnik import MOST_BITS, row_of, table_length, ways
 
-# The causes of each operation in the document's order. Compare is never refused.
-CAUSES = {
-    "hash": [18],
-    "count": [1, 2, 3, 5],
-    "unrank": [1, 2, 3, 5, 6, 7],
-    "rank": [1, 2, 3, 5, 8, 9, 10],
-    "compare": [],
-    "leaf_key": [1, 2, 3, 4, 22, 11],
-    "root": [1, 2, 3, 4, 22],
-    "one_time_sign": [1, 2, 3, 4, 22, 5, 6, 11, 7],
-    "one_time_recover": [1, 2, 3, 4, 22, 5, 13, 11, 7],
-    "reserve": [1, 2, 3, 4, 22, 21, 12],
-    "sign": [1, 2, 3, 4, 22, 5, 16, 6, 20, 19],
-    "verify": [1, 2, 3, 4, 22, 5, 16, 13, 11, 14, 19, 15],
-    "read_sheet": [1, 2, 3, 4, 22, 17, 6, TEXT_SLICE],
-    "write_sheet": [1, 2, 3, 4, 22, 16, 13, 6],
-    "read_key": [17],
-    "write_key": [1, 2, 3, 4, 22, 6],
-}
-
 # Slices whose length may pass 32 bits, and the cause of refusal where this is too long. Cut to 32
 # bits, such a length would be right; where longer is right too, it would be too short.
 FAR = [
-    ("hash", "data", [18]),
-    ("count", "table", []),
-    ("unrank", "table", []),
-    ("unrank", "row", []),
-    ("rank", "table", []),
-    ("rank", "row", [8]),
-    ("one_time_sign", "table", []),
-    ("one_time_sign", "values", []),
-    ("one_time_recover", "table", []),
-    ("one_time_recover", "values", [13]),
-    ("sign", "table", []),
-    ("sign", "signature", []),
-    ("sign", "message", [16]),
-    ("verify", "table", []),
-    ("verify", "message", [16]),
-    ("verify", "signature", [13]),
-    ("read_sheet", "sheet", [17]),
-    ("read_sheet", "signature", []),
-    ("read_sheet", "message", []),
-    ("write_sheet", "signature", [13]),
-    ("write_sheet", "message", [16]),
-    ("write_sheet", "sheet", []),
-    ("read_key", "frame", [17]),
-    ("write_key", "frame", []),
+    (operation, p.name, [p.cause] if p.read_only else [])
+    for operation in TABLE
+    for p in parameters(operation)
+    if p.has_length
 ]
 
-PAST_WORD = 1 << 32
-# For each number of the profile, the cause of refusal where it is out of its range, and the bits of
-# the narrowest parameter that holds this range. It would cut wider numbers.
-CUTS = {1: 8, 2: 8, 3: 16, 4: 8, 22: 8}
-# What wide numbers may be: good but for bits that a cut drops, or these.
-CUT = "cut to good ones"
-WIDE = [CUT, PAST_WORD // 2, PAST_WORD - 1]
 PAST_NUMBER = 1 << 160
 # So many hashes may go into one tree, so many words into the table of a profile out of its limits.
 MOST_HASHES = 6000
@@ -125,7 +80,6 @@ class Inputs:
         self.causes = set(causes)
         self.far = far
         self.wide = wide
-        self.calls = Calls(pick)
         self.good = profile or self.good_profile()
         self.p = self.given_profile()
         self.sized = cut(self.p)
@@ -197,9 +151,10 @@ class Inputs:
         size = max(0, pick.choice(sizes))
         return Memory(self.filling(unit * size), unit, spare=max(0, size - right))
 
-    def exact(self, name, content, cause):
+    def exact(self, name, content):
         """A slice to read from, which has one right length."""
         pick, right = self.pick, len(content)
+        cause = next(p.cause for p in parameters(self.operation) if p.name == name)
         if self.far == name:
             return Memory(content + pick.randbytes(1)).stretch(PAST_WORD + right)
         if cause not in self.causes:
@@ -242,6 +197,9 @@ class Inputs:
         """Content with the length that the given profile asks for."""
         return (content + self.pick.randbytes(right))[:right]
 
+    def call(self, thing=None, **given):
+        return call(self.pick, self.operation, thing, **given)
+
     def hash(self):
         pick = self.pick
         edges = [55, 56, 63, 64, 65, 119, 120, 127, 128]
@@ -250,14 +208,14 @@ class Inputs:
             over = MOST_HASHED + 1
             size = over + pick.choice([0, 0, 1, 64, over, pick.randrange(70000)])
         data = Memory(self.filling(size))
-        return self.calls.hash(data.stretch(PAST_WORD + pick.randrange(100)) if self.far else data)
+        return self.call(data=data.stretch(PAST_WORD + pick.randrange(100)) if self.far else data)
 
     def count(self):
-        return self.calls.count(self.p, self.table())
+        return self.call(self.p, table=self.table())
 
     def unrank(self):
         row = self.lent("row", self.sized.l)
-        return self.calls.unrank(self.p, self.number(), self.table(), row)
+        return self.call(self.p, number=self.number(), table=self.table(), row=row)
 
     def rank(self):
         row = row_of(*self.good[:3], self.number())
@@ -267,8 +225,8 @@ class Inputs:
             at, w = self.pick.randrange(len(row)), self.good.w
             wide = self.pick.choice([w, 255, self.pick.randrange(w, 256)])
             row = row[:at] + bytes([wide]) + row[at + 1 :]
-        row = self.exact("row", self.padded(row, self.sized.l), 8)
-        return self.calls.rank(self.p, row, self.table())
+        row = self.exact("row", self.padded(row, self.sized.l))
+        return self.call(self.p, row=row, table=self.table())
 
     def other_sum(self, row):
         """One length is more or less by 1, or the row's sum is another with the same low byte."""
@@ -279,20 +237,22 @@ class Inputs:
         return row[:at] + bytes([row[at] + by]) + row[at + 1 :]
 
     def compare(self):
-        return self.calls.compare(*comparisons.drawn(self.pick))
+        first, second = comparisons.drawn(self.pick)
+        return self.call(first=first, second=second)
+
+    def seeds(self):
+        return {"public_seed": self.seed(), "secret_seed": self.seed()}
 
     def leaf_key(self):
-        return self.calls.leaf_key(self.p, self.seed(), self.seed(), self.leaf())
+        return self.call(self.p, **self.seeds(), leaf=self.leaf())
 
     def root(self):
-        return self.calls.root(self.p, self.seed(), self.seed())
+        return self.call(self.p, **self.seeds())
 
     def one_time_sign(self):
         values = self.lent("values", 16 * self.sized.l)
-        seeds = self.seed(), self.seed()
-        return self.calls.one_time_sign(
-            self.p, *seeds, self.leaf(), self.number(), self.table(), values
-        )
+        given = {**self.seeds(), "leaf": self.leaf(), "number": self.number()}
+        return self.call(self.p, **given, table=self.table(), values=values)
 
     def one_time_recover(self):
         """Values as signed, with a bit flipped, or any."""
@@ -302,28 +262,28 @@ class Inputs:
             values = revealed(p, seed, self.seed(), leaf, number)
             if self.pick.random() < 0.5:
                 values = flipped(self.pick, values)
-        values = self.exact("values", self.padded(values, 16 * self.sized.l), 13)
-        return self.calls.one_time_recover(self.p, seed, leaf, number, values, self.table())
+        values = self.exact("values", self.padded(values, 16 * self.sized.l))
+        given = {"public_seed": seed, "leaf": leaf, "number": number, "values": values}
+        return self.call(self.p, **given, table=self.table())
 
     def key(self, counter):
         return SigningKey(self.p, self.seed(), self.seed(), *counter)
 
-    def reserve(self):
+    def reserve(self, counter=None):
+        """Here and below, with what is drawn unless it is given: a next leaf and a mark."""
         counts, spent = 21 in self.causes, 12 in self.causes
-        counter = stored_keys.drawn(self.pick, self.good.h, counts, spent)
-        return self.calls.reserve(self.key(counter))[0]
+        drawn = stored_keys.drawn(self.pick, self.good.h, counts, spent)
+        return self.call(self.key(drawn if counter is None else counter))
 
     def sign(self, counter=None):
-        """With the next leaf and the mark that are drawn, unless they are given."""
         drawn = stored_keys.drawn(self.pick, self.good.h, 20 not in self.causes)
         key = self.key(drawn if counter is None else counter)
         signature = self.lent("signature", signature_length(self.sized))
-        r = self.pick.randbytes(16)
-        return self.calls.sign(key, r, self.message(), self.table(), signature)[0]
+        given = {"r": self.pick.randbytes(16), "message": self.message(), "table": self.table()}
+        return self.call(key, **given, signature=signature)
 
     def verify(self, order=None, window=None):
-        """Of an order and by a window, the highest leaf and the marks, that are drawn unless they
-        are given as they are to be."""
+        """An order, as it is to be, and the highest leaf and the marks."""
         if order is None:
             order = Order(self.pick, self.good)
             if 15 in self.causes:
@@ -334,12 +294,12 @@ class Inputs:
             window = windows.drawn(self.pick, order.leaf, 14 if 14 in self.causes else 0)
         verifier = Verifier(self.p, order.seed, order.root, *window)
         signature = self.padded(order.signature(), signature_length(self.sized))
-        signature = self.exact("signature", signature, 13)
+        signature = self.exact("signature", signature)
         message = self.message() if 16 in self.causes else Memory(order.text)
-        return self.calls.verify(verifier, message, signature, self.table())[0]
+        return self.call(verifier, message=message, signature=signature, table=self.table())
 
     def read_sheet(self, last=None):
-        """Of a right sheet or a wrong one, unless it is given what stands behind s in frame 01."""
+        """What stands behind s in frame 01."""
         pick, p = self.pick, self.good
         text = pick.randbytes(pick.choice([1, 200, pick.randrange(1, 201)]))
         sheet = right_sheet(p, pick.randbytes(signature_length(p)), text)
@@ -347,33 +307,32 @@ class Inputs:
         if last is not None:
             given = Memory(editions.with_last(p, sheet, last))
         elif self.far == "sheet":
-            given = self.exact("sheet", sheet, 17)
+            given = self.exact("sheet", sheet)
         elif 17 in self.causes:
             given = wrong_sheet(pick, p, sheet)
         signature = self.lent("signature", signature_length(self.sized))
         message = self.lent("message", len(text))
-        return self.calls.read_sheet(self.p, given, signature, message)
+        return self.call(self.p, sheet=given, signature=signature, message=message)
 
     def write_sheet(self):
         leaf = written_sheets.any_leaf(self.pick, self.good.h).to_bytes(4, "big")
         signature = self.padded(leaf, signature_length(self.sized))
-        signature, message = self.exact("signature", signature, 13), self.message()
+        signature, message = self.exact("signature", signature), self.message()
         sheet = self.lent("sheet", sheet_length(self.sized, len(message.before)))
-        return self.calls.write_sheet(self.p, signature, message, sheet)
+        return self.call(self.p, signature=signature, message=message, sheet=sheet)
 
     def read_key(self):
         """Of a right frame, in which a mark may stand that does not count, or of a wrong one."""
         pick, key = self.pick, stored_keys.any_key(self.pick, self.good)
         line = stored_keys.marked_frame(key)
         if self.far == "frame":
-            return self.calls.read_key(self.exact("frame", line, 17))[0]
+            return self.call(frame=self.exact("frame", line))
         if 17 not in self.causes:
-            return self.calls.read_key(Memory(line))[0]
+            return self.call(frame=line)
         wrong = [kind for kind, answer in stored_keys.READ_KINDS.items() if answer == 17]
-        frame = stored_keys.drawn_frame(pick, key, pick.choice(wrong))
-        return self.calls.read_key(frame)[0]
+        return self.call(frame=stored_keys.drawn_frame(pick, key, pick.choice(wrong)))
 
     def write_key(self, counter=None):
         drawn = stored_keys.drawn(self.pick, self.good.h)
         key = self.key(drawn if counter is None else counter)
-        return self.calls.write_key(key, self.lent("frame", frame_length(self.sized)))
+        return self.call(key, frame=self.lent("frame", frame_length(self.sized)))

@@ -58,15 +58,13 @@ class Memory:
         self.stretched = True
         return self
 
-    def words(self):
-        return list(array("I", self.before))
-
-    def after_words(self):
-        return list(array("I", self.after))
+    def value(self):
+        """What a call is given: words or bytes."""
+        return list(array("I", self.before)) if self.unit == 4 else self.before
 
     def leave(self, after):
-        """Sets what must stand here at exit, in bytes or in words."""
-        self.after = array("I", after).tobytes() if isinstance(after, list) else after
+        """Sets what must stand here at exit."""
+        self.after = after
         return self
 
     def __str__(self):
@@ -74,10 +72,6 @@ class Memory:
         behind = f", behind the slice {told(self.behind)}" if self.behind else ""
         more = ", then any others" if self.stretched else ""
         return f"{self.length} {kind}: {told(self.before)}{more}{behind}"
-
-
-def words_memory(words):
-    return Memory(array("I", words).tobytes(), unit=4)
 
 
 @cache

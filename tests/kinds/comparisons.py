@@ -12,6 +12,9 @@ HIGHEST = 0xFFFFFFFF
 EDGES = [0, 1, 0x7FFFFFFF, 0x80000000, HIGHEST - 1, HIGHEST]
 
 
+OPERATIONS = ["compare"]
+
+
 def kind(first, second):
     """The order, the pairs looked at, and the order that the words below these have."""
     _, order, looked = compare(first, second)
@@ -23,11 +26,16 @@ KINDS = [(order, WORDS, EQUAL) for order in (LESS, EQUAL, GREATER)]
 KINDS += itertools.product((LESS, GREATER), range(1, WORDS), (LESS, EQUAL, GREATER))
 
 
-def missing_kinds(met):
-    """In words, for each kind that is not among these."""
-    for order, looked, below in KINDS:
-        if (order, looked, below) not in met:
-            yield f"order {order} after {looked} pairs, with order {below} in the words below"
+def kinds_of(call):
+    yield kind(call.given["first"], call.given["second"])
+
+
+def wanted():
+    return KINDS
+
+
+def told(kind):
+    return "compare comes to order {} after {} pairs, with order {} in the words below".format(*kind)
 
 
 def number_of_words(words):

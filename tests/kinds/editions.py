@@ -1,12 +1,16 @@
 """Editions of a profile: the numbers that must come up as one, each with its answer where nothing
-else may refuse the call; and what may stand behind s in frame 01 of a sheet.
+else may refuse the call; orders that were signed in the other edition; and what may stand behind s in
+frame 01 of a sheet.
 """
 
 import itertools
 
+from operations import EDITED
 from sheets import FIRST, hex_line, profile_frame
-from signatures import EDITIONS
+from signatures import EDITIONS, Verifier, check
+from zarosnik import table_length
 
+OPERATIONS = EDITED
 MOST_WORD = 2**32 - 1
 # Both editions, their neighbours, and the end of what a number can be.
 TRIED = [0, *EDITIONS, 3, MOST_WORD]
@@ -48,19 +52,37 @@ def line_to(edition, last):
     return 0 if last == RIGHT_LAST[edition] else 2
 
 
-def told(edition, last):
+def last_told(edition, last):
     return f"{last or 'nothing'} behind s in frame 01 where edition {edition} is expected"
 
 
-def missing_answers(met):
-    """In words, for each edition that is not among those met with its answer."""
-    for edition in TRIED:
-        if (edition, answer_to(edition)) not in met:
-            yield f"{answer_to(edition)} at edition {edition}"
+def taken_by_other(call):
+    """Whether a fresh verifier of the other edition takes the order of a check."""
+    p, given = call.profile(), call.given
+    verifier = Verifier(p._replace(edition=other(p.edition)), given["public_seed"], given["root"], 0, 0)
+    work = [0] * table_length(p.l, p.s)
+    return check(verifier, given["message"], given["signature"], work)[0] == 0
 
 
-def missing_lines(met):
-    """The same of sheets: the edition expected, the digits behind s, and the wrong line."""
+def kinds_of(call):
+    operation, outcome, p = call.operation, call.outcome, call.profile()
+    yield operation, outcome, f"edition {p.edition}"
+    if operation == "read_sheet" and outcome in (0, 17):
+        last = last_of(p, call.given["sheet"])
+        if last is not None:
+            yield operation, f"line {call.left['line']}", last_told(p.edition, last)
+    if (operation, outcome) == ("verify", 15) and taken_by_other(call):
+        yield operation, outcome, f"the order of the other than edition {p.edition}"
+
+
+def wanted():
+    for operation, edition in itertools.product(EDITED, TRIED):
+        yield operation, answer_to(edition), f"edition {edition}"
     for edition, last in SHEETS:
-        if (edition, last, line_to(edition, last)) not in met:
-            yield f"line {line_to(edition, last)} to {told(edition, last)}"
+        yield "read_sheet", f"line {line_to(edition, last)}", last_told(edition, last)
+    for edition in EDITIONS:
+        yield "verify", 15, f"the order of the other than edition {edition}"
+
+
+def told(kind):
+    return "{} answers {}: {}".format(*kind)

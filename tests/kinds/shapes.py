@@ -1,5 +1,7 @@
 """Shapes (l, w, s) within the limits by their counts: what orders are drawn from, by the bits of an
-order's number, and the shapes at which orders must be signed and checked.
+order's number, and the shapes at which orders must be signed and checked. Besides, leaves are
+reserved, sign and are taken under trees of each height, and orders of earlier days are taken where
+numbers have 128 bits as then, and refused where they have fewer.
 
 From 2^8 on no count is a power of two, and none but 255 is next to one. So what must come up on
 both sides of each power is the nearest count there is: the nearest above 2^b gives b bits, the
@@ -11,10 +13,13 @@ from bisect import bisect_left
 from collections import defaultdict
 from functools import cache
 
+from operations import ORDERS, WITH_STATE
 from signatures import LEAST_COUNT
 from zarosnik import MOST_BITS, number_bits, ways
 
 LEAST_BITS = number_bits(LEAST_COUNT)
+HEIGHTS = range(11)
+OPERATIONS = WITH_STATE
 
 
 @cache
@@ -76,9 +81,27 @@ def answer_at(shape):
     return 0 if ways(w, l, s) >= LEAST_COUNT else 19
 
 
-def missing_answers(wanted, met):
-    """In words, for each of these shapes that is not among those met with its answer."""
-    for shape in wanted:
-        if (shape, answer_at(shape)) not in met:
-            l, w, s = shape
-            yield f"{answer_at(shape)} at l = {l}, w = {w}, s = {s}, count {ways(w, l, s)}"
+def kinds_of(call):
+    operation, outcome, p = call.operation, call.outcome, call.profile()
+    if operation in ORDERS:
+        yield operation, "shape", p[:3], outcome
+    if outcome == 0:
+        yield operation, "height", p.h, 0
+    if call.stated == ("earlier",):
+        yield operation, "an order of earlier days", None, outcome
+
+
+def wanted_at(shapes):
+    for operation, shape in itertools.product(ORDERS, shapes):
+        yield operation, "shape", shape, answer_at(shape)
+
+
+def wanted():
+    yield from wanted_at(edges())
+    yield from ((operation, "height", h, 0) for operation in WITH_STATE for h in HEIGHTS)
+    yield from (("verify", "an order of earlier days", None, answer) for answer in (0, 15))
+
+
+def told(kind):
+    operation, what, at, answer = kind
+    return f"{operation} answers {answer}: {what}" + ("" if at is None else f" {at}")

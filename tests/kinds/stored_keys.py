@@ -9,9 +9,9 @@ import itertools
 
 import editions
 from memory import Memory
-from keys import frame_bytes, right_frame
+from keys import frame_bytes, frame_length, right_frame
 from sheets import FIRST, hex_line
-from signatures import EDITIONS, SigningKey
+from signatures import EDITIONS, Profile, SigningKey
 
 MOST_WORD = 2**32 - 1
 # A mark, and numbers that are none. One of them would be a mark if it were cut.
@@ -60,29 +60,13 @@ def counters_of(operation):
     return [kind for kind in COUNTERS if operation != "read_key" or kind[3] in (0, 1)]
 
 
-def told(kind):
+def counter_told(kind):
     edition, tree, name, mark = kind
     return f"next leaf {name}, mark {mark} in edition {edition}, {tree}"
 
 
-COUNTING = ["reserve", "sign", "write_key", "read_key"]
-WANTED = [(name, kind) for name in COUNTING for kind in counters_of(name)]
-
-
-def missing_counters(met):
-    """In words, for each operation and kind that is not among those met with its answer."""
-    for operation, kind in WANTED:
-        answer = answer_to(operation, kind)
-        if (operation, kind, answer) not in met:
-            what = "mark" if operation.endswith("key") else "answer"
-            yield f"{operation} comes to {what} {answer} with {told(kind)}"
-
-
-def missing_back(met):
-    """For each kind that a written key can have, whose mark is none or counts."""
-    for kind in counters_of("read_key"):
-        if answer_to("read_key", kind) == kind[3] and kind not in met:
-            yield f"a written key is read with {told(kind)}"
+OPERATIONS = ["reserve", "sign", "write_key", "read_key"]
+WANTED = [(name, kind) for name in OPERATIONS for kind in counters_of(name)]
 
 
 def drawn_height(pick, tree, most=10):
@@ -124,13 +108,6 @@ def drawn(pick, h, counts=None, spent=None):
 # 1's length is two bytes too few for edition 2.
 SLICES = {-2: 6, -1: 6, 0: 0, 1: 0, 2: 0, 40: 0}
 SLICED = list(itertools.product(EDITIONS, SLICES))
-
-
-def missing_slices(met):
-    for edition, longer in SLICED:
-        if (edition, longer, SLICES[longer]) not in met:
-            at = f"{longer} bytes more than edition {edition} asks for"
-            yield f"write_key answers {SLICES[longer]} with a slice of {at}"
 
 
 # Stored keys to read. A kind is an edition, what is changed, and a place or what it is changed to;
@@ -222,12 +199,65 @@ def other_kinds():
 READ_KINDS = dict([*placed_kinds(), *other_kinds()])
 
 
-def missing_read(met):
-    for kind, answer in READ_KINDS.items():
-        answers = (0, 17) if answer is None else (answer,)
-        if not any((kind, answered) in met for answered in answers):
-            shown = " or ".join(map(str, answers))
-            yield f"read_key answers {shown} to a frame: {told_frame(kind)}"
+def mark_in(frame):
+    """The mark that stands in a frame that is right."""
+    return int(frame[MARK_DIGITS[0] : MARK_DIGITS[-1] + 1])
+
+
+# The outcomes with which the next leaf and the mark have been looked at.
+LOOKED_AT = {"reserve": (0, 21, 12), "sign": (0, 20), "write_key": (0,), "read_key": (0,)}
+
+
+def counter_in(call):
+    """The profile, the next leaf and the mark of a call, and its answer: of Write key and Read key
+    the mark that is written, or read."""
+    operation, given, left = call.operation, call.given, call.left
+    if operation == "read_key":
+        counter = left["next_leaf"], mark_in(given["frame"])
+        return Profile(*left["profile"]), *counter, left["mark"]
+    answer = mark_in(left["frame"]) if operation == "write_key" else call.outcome
+    return call.profile(), given["next_leaf"], given["mark"], answer
+
+
+def kinds_of(call):
+    operation, outcome = call.operation, call.outcome
+    if outcome in LOOKED_AT[operation]:
+        *counter, answer = counter_in(call)
+        for kind in counter_kinds(*counter):
+            yield operation, counter_told(kind), answer
+            if call.stated == ("written",):
+                yield "a written key is read", counter_told(kind), 0
+    if operation == "write_key" and outcome in (0, 6):
+        p, size = call.profile(), call.memory["frame"].length
+        yield operation, f"edition {p.edition}, bytes more {size - frame_length(p)}", outcome
+    if call.stated and call.stated[0] == "stored":
+        kind = call.stated[1]
+        yield operation, told_frame(kind), None if READ_KINDS[kind] is None else outcome
+
+
+def read_wanted(kinds):
+    return (("read_key", told_frame(kind), READ_KINDS[kind]) for kind in kinds)
+
+
+def wanted_but_read():
+    """All but the kinds of frames, and what is read again."""
+    for operation, kind in WANTED:
+        yield operation, counter_told(kind), answer_to(operation, kind)
+    for edition, longer in SLICED:
+        yield "write_key", f"edition {edition}, bytes more {longer}", SLICES[longer]
+
+
+def wanted():
+    yield from wanted_but_read()
+    for kind in counters_of("read_key"):
+        # a written key has a mark that counts, or none
+        if answer_to("read_key", kind) == kind[3]:
+            yield "a written key is read", counter_told(kind), 0
+    yield from read_wanted(READ_KINDS)
+
+
+def told(kind):
+    return "{}: {}, answer {}".format(*kind)
 
 
 def told_frame(kind):

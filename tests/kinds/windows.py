@@ -41,6 +41,7 @@ ODD = {
     "the highest is 2^32 - 1, a mark set": [14],
 }
 CUTS = {f"the highest would take it if cut to {bits} bits": bits for bits in (8, 16, 31)}
+OPERATIONS = ["verify"]
 # Pairs: a kind and an answer.
 KINDS = [((name, span), answer) for name, (answer, spans) in STANDS.items() for span in spans]
 KINDS += [((name, None), answer) for name, answers in ODD.items() for answer in answers]
@@ -87,20 +88,21 @@ def kinds(highest, marks, leaf):
     return {stand(highest, marks, leaf)} | {(name, None) for name in names}
 
 
+def kinds_of(call):
+    if call.outcome in (0, 14):
+        leaf = int.from_bytes(call.given["signature"][:4], "big")
+        window = call.given["highest_leaf"], call.given["marks"]
+        yield from ((kind, call.outcome) for kind in kinds(*window, leaf))
+
+
+def wanted():
+    return KINDS
+
+
 def told(kind):
-    name, span = kind
-    if span is None:
-        return name
-    low, high = span[0], span[-1]
-    more = "" if low == high else f" to {high}" if high < FAR else " or more"
-    return f"{name}, distance {low}{more}"
-
-
-def missing_kinds(met, wanted=KINDS):
-    """In words, for each kind that is not among those met with its answer."""
-    for kind, answer in wanted:
-        if (kind, answer) not in met:
-            yield f"{answer} to a leaf and a cabinet: {told(kind)}"
+    (name, span), answer = kind
+    distance = f", distance {span[0]} to {span[-1]}" if span else ""
+    return f"verify answers {answer} to a leaf and a cabinet: {name}{distance}"
 
 
 def answer_to(highest, marks, leaf):

@@ -1,6 +1,7 @@
 """Sheets to write: the kinds of calls that must come up, each with its answer, and a draw of each:
 every length of a text from 0 to 201 bytes, in both editions, with slices of each length that
-decides; and leaves at both ends of a tree and past it, of which none is refused.
+decides; leaves at both ends of a tree and past it, of which none is refused; and sheets that were
+written, for every length read again.
 """
 
 import itertools
@@ -10,6 +11,7 @@ from memory import Memory
 from sheets import sheet_length
 from signatures import EDITIONS, signature_length
 
+OPERATIONS = ["write_sheet", "read_sheet"]
 TEXTS = range(202)
 RIGHT_TEXTS = TEXTS[1:-1]
 # By how many bytes the signature and the sheet's slice are longer than they must be, and the causes
@@ -21,7 +23,6 @@ SLICES = {
     "a signature with a byte less": (-1, 0, [13]),
     "a signature with a byte more": (1, 0, [13]),
 }
-KINDS = list(itertools.product(EDITIONS, TEXTS, SLICES))
 # By the height of the tree.
 LEAVES = {
     "the first leaf": lambda h: 0,
@@ -53,22 +54,33 @@ def leaf_kinds(p, leaf):
     return {(p.edition, name) for name, number in LEAVES.items() if number(p.h) == leaf}
 
 
-def told(edition, size, slices):
-    return f"text length {size} in edition {edition}, {slices}"
+def kinds_of(call):
+    p, given = call.profile(), call.given
+    if call.stated == ("written",):
+        yield "a written sheet is read", (p.edition, len(given["message"])), 0
+    if call.operation == "write_sheet" and call.outcome in (0, 16, 13, 6):
+        sizes = (call.memory[name].length for name in ("signature", "message", "sheet"))
+        yield "write_sheet", kind(p, *sizes), call.outcome
+        if call.outcome == 0:
+            leaf = int.from_bytes(given["signature"][:4], "big")
+            yield from (("write_sheet", found, 0) for found in leaf_kinds(p, leaf))
 
 
-def missing_kinds(met, wanted=KINDS):
-    """In words, for each kind that is not among those met with its answer."""
-    for edition, size, slices in wanted:
-        if ((edition, size, slices), answer_to(size, slices)) not in met:
-            yield f"{answer_to(size, slices)} to {told(edition, size, slices)}"
+def wanted_with(texts):
+    for found in itertools.product(EDITIONS, texts, SLICES):
+        yield "write_sheet", found, answer_to(*found[1:])
+    yield from (("write_sheet", found, 0) for found in itertools.product(EDITIONS, LEAVES))
 
 
-def missing_leaves(met):
-    """The same of leaves, all of which are written."""
-    for edition, name in itertools.product(EDITIONS, LEAVES):
-        if (edition, name) not in met:
-            yield f"{name} in edition {edition}"
+def wanted():
+    yield from wanted_with(TEXTS)
+    read = itertools.product(EDITIONS, RIGHT_TEXTS)
+    yield from (("a written sheet is read", found, 0) for found in read)
+
+
+def told(kind):
+    what, found, answer = kind
+    return f"{what}, answer {answer}: edition, text length, slices or leaf {found}"
 
 
 def any_leaf(pick, h):
@@ -83,4 +95,5 @@ def drawn(pick, p, size, slices):
     signature = any_leaf(pick, p.h).to_bytes(4, "big") + pick.randbytes(length - 3)
     end = length + more
     sheet = Memory(pick.randbytes(sheet_length(p, size) + room), spare=max(0, room))
-    return Memory(signature[:end], behind=signature[end:]), Memory(pick.randbytes(size)), sheet
+    signature = Memory(signature[:end], behind=signature[end:])
+    return {"signature": signature, "message": pick.randbytes(size), "sheet": sheet}

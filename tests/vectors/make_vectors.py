@@ -15,24 +15,19 @@ from paths import ROOT, fail, say
 import signatures
 import zarosnik
 from comparisons import number_of_words
+from operations import MOST_HASHED
 from signatures import GATE, GATE_2, Profile
 from vector_calls import (
     GATE_SHAPE,
-    MOST_HASHED,
     SECRET,
     SEED,
+    SEEDS,
     SMALL,
-    compare_vector,
-    count_vector,
     derived,
     flipped,
     hash_vector,
-    leaf_key_vector,
-    rank_vector,
-    recover_vector,
-    reveal_vector,
-    root_vector,
-    unrank_vector,
+    seeds,
+    vector,
 )
 from vector_keys import keys_family
 from vector_orders import orders_family
@@ -75,15 +70,15 @@ def numbers_of(p):
 
 
 def rows_family():
-    for p in SMALL_SHAPES + LARGE_SHAPES:
-        words = table_length(p[0], p[2])
-        yield count_vector("a work slice just long enough", p, words)
-        yield count_vector("a longer work slice", p, words + 7)
-        for number in numbers_of(p):
-            row = row_of(*p, number)
-            yield unrank_vector("number to row", p, number, words, p[0])
-            yield rank_vector("row to number", p, row, words)
-        yield unrank_vector("both slices longer", p, 0, words + 1, p[0] + 3)
+    for shape in SMALL_SHAPES + LARGE_SHAPES:
+        p, words, size = Profile(*shape, 0, 1), table_length(shape[0], shape[2]), shape[0]
+        yield vector("count", "a work slice just long enough", p, table=words)
+        yield vector("count", "a longer work slice", p, table=words + 7)
+        for number in numbers_of(shape):
+            yield vector("unrank", "number to row", p, number=number, table=words, row=size)
+            yield vector("rank", "row to number", p, row=row_of(*shape, number), table=words)
+        longer = {"table": words + 1, "row": size + 3}
+        yield vector("unrank", "both slices longer", p, number=0, **longer)
 
 
 # Words of a number, least first, all below 2^31: the highest bit makes each of them greater.
@@ -118,7 +113,7 @@ def differing_at(place):
 def compare_family():
     number = number_of_words(COMPARED_WORDS)
     for note, alike in [("zero", 0), ("a number", number), ("the largest number", LARGEST)]:
-        yield compare_vector(f"{note} and itself", alike, alike)
+        yield vector("compare", f"{note} and itself", first=alike, second=alike)
     pairs = [
         (f"word {place} differs: {note}", *numbers)
         for place in reversed(range(WORDS))
@@ -130,41 +125,44 @@ def compare_family():
     count = ways(GATE.w, GATE.l, GATE.s)
     pairs.append(("a message number and the gate's count", messages[0], count))
     for note, less, greater in pairs:
-        yield compare_vector(note, less, greater)
-        yield compare_vector(f"{note}; the other way round", greater, less)
+        yield vector("compare", note, first=less, second=greater)
+        yield vector("compare", f"{note}; the other way round", first=greater, second=less)
 
 
-SEED_PAIRS = [(SEED, SECRET), (bytes(16), b"\xff" * 16), (derived("public"), derived("secret"))]
-
-
+SEED_PAIRS = [
+    SEEDS,
+    seeds(bytes(16), b"\xff" * 16),
+    seeds(derived("public"), derived("secret")),
+]
 SAME = "edition 2, the same as edition 1"
 
 
 def leaf_keys_family():
     for p in (Profile(1, 2, 0, 0, 1), SMALL, Profile(40, 16, 300, 4, 1), GATE):
-        for seed, secret in SEED_PAIRS:
+        for pair in SEED_PAIRS:
             for leaf in sorted({0, 2**p.h // 3, 2**p.h - 1}):
-                yield leaf_key_vector("a leaf", p, seed, secret, leaf)
+                yield vector("leaf_key", "a leaf", p, **pair, leaf=leaf)
     note = "the WOTS+ public key of SLH-DSA-SHA2-128 at layer 0 and tree 0"
     for leaf in (0, 5, 511):
-        yield leaf_key_vector(note, Profile(35, 16, 262, 9, 1), SEED, SECRET, leaf)
+        yield vector("leaf_key", note, Profile(35, 16, 262, 9, 1), **SEEDS, leaf=leaf)
     for p, leaf in [(SMALL._replace(edition=2), 1), (GATE_2, 341)]:
-        yield leaf_key_vector(SAME, p, SEED, SECRET, leaf)
+        yield vector("leaf_key", SAME, p, **SEEDS, leaf=leaf)
 
 
 def roots_family():
     for h in range(5):
-        for seed, secret in SEED_PAIRS:
-            yield root_vector(f"height {h}", Profile(3, 3, 3, h, 1), seed, secret)
-    yield root_vector("the sum has no part in a root", Profile(3, 3, 4, 1, 1), SEED, SECRET)
-    yield root_vector("one chain, the highest tree", Profile(1, 2, 1, 10, 1), SEED, SECRET)
-    longest = Profile(40, 16, 300, 1, 1)
-    yield root_vector("the most chains of the largest width", longest, SEED, SECRET)
-    for h in range(4):
-        yield root_vector(f"the gate's shape, height {h}", GATE._replace(h=h), SEED, SECRET)
-    yield root_vector("the gate profile", GATE, SEED, SECRET)
-    for p in (Profile(3, 3, 3, 2, 2), GATE_2):
-        yield root_vector(SAME, p, SEED, SECRET)
+        for pair in SEED_PAIRS:
+            yield vector("root", f"height {h}", Profile(3, 3, 3, h, 1), **pair)
+    for note, p in [
+        ("the sum has no part in a root", Profile(3, 3, 4, 1, 1)),
+        ("one chain, the highest tree", Profile(1, 2, 1, 10, 1)),
+        ("the most chains of the largest width", Profile(40, 16, 300, 1, 1)),
+        *((f"the gate's shape, height {h}", GATE._replace(h=h)) for h in range(4)),
+        ("the gate profile", GATE),
+        (SAME, Profile(3, 3, 3, 2, 2)),
+        (SAME, GATE_2),
+    ]:
+        yield vector("root", note, p, **SEEDS)
 
 
 def one_time_family():
@@ -178,25 +176,36 @@ def one_time_family():
         (Profile(40, 16, 300, 2, 1), 2),
         (GATE, 700),
     ]:
-        words, size = table_length(p.l, p.s), 16 * p.l
-        count = ways(p.w, p.l, p.s)
+        count, size = ways(p.w, p.l, p.s), 16 * p.l
         for number in sorted({0, count // 3, count - 1}):
-            values = signatures.revealed(p, SEED, SECRET, leaf, number)
-            given = p, SEED, SECRET, leaf, number
-            yield reveal_vector("the values of a number", *given, words, size)
-            yield recover_vector("leads to the leaf key", p, SEED, leaf, number, values, words)
-        yield reveal_vector("both slices longer", *given, words + 3, size + 5)
+            signed, recovered, values = both_of("the values of a number", p, leaf, number)
+            yield signed
+            yield {**recovered, "note": "leads to the leaf key"}
+        given = {"leaf": leaf, "number": number}
+        longer = {"table": table_length(p.l, p.s) + 3, "values": size + 5}
+        yield vector("one_time_sign", "both slices longer", p, **SEEDS, **given, **longer)
         for note, other in [
             ("the first value changed", flipped(values, 0)),
             ("the last value changed", flipped(values, -1)),
             ("any values", derived("values", size)),
         ]:
-            yield recover_vector(note, p, SEED, leaf, number, other, words)
+            yield recover_vector(note, p, **given, values=other)
     for p, leaf in [(SMALL._replace(edition=2), 1), (GATE_2, 700)]:
-        words, number = table_length(p.l, p.s), ways(p.w, p.l, p.s) // 3
-        values = signatures.revealed(p, SEED, SECRET, leaf, number)
-        yield reveal_vector(SAME, p, SEED, SECRET, leaf, number, words, 16 * p.l)
-        yield recover_vector(SAME, p, SEED, leaf, number, values, words)
+        yield from both_of(SAME, p, leaf, ways(p.w, p.l, p.s) // 3)[:2]
+
+
+def recover_vector(note, p, **given):
+    words = table_length(p.l, p.s)
+    return vector("one_time_recover", note, p, public_seed=SEED, **given, table=words)
+
+
+def both_of(note, p, leaf, number):
+    """A number is revealed and recovered; and the values."""
+    values = signatures.revealed(p, SEED, SECRET, leaf, number)
+    given, lent = {"leaf": leaf, "number": number}, {"table": table_length(p.l, p.s)}
+    lent["values"] = 16 * p.l
+    signed = vector("one_time_sign", note, p, **SEEDS, **given, **lent)
+    return signed, recover_vector(note, p, **given, values=values), values
 
 
 FAMILIES = {

@@ -5,6 +5,7 @@ Each call is said to have an outcome, to which what the implementation answers i
 """
 
 import stored_keys
+from answers import key_read
 from keys import frame_length
 from signatures import (
     EDITIONS,
@@ -17,17 +18,7 @@ from signatures import (
     signature_length,
 )
 from stored_keys import HEAD, MARK_DIGITS, NEXT, NEXT_LEAVES, READ_KINDS, SEEDS, SLICES
-from vector_calls import (
-    ORDER,
-    SECRET,
-    SEED,
-    R,
-    derived,
-    read_key_vector,
-    reserve_vector,
-    sign_vector,
-    write_key_vector,
-)
+from vector_calls import ORDER, SECRET, SEED, R, derived, held, vector, vector_and_left
 from vector_orders import Story
 from zarosnik import table_length
 
@@ -48,12 +39,6 @@ class Fixed:
         return choices[0]
 
 
-def held(outcome, made):
-    if made["out"]["outcome"] != outcome:
-        raise ValueError(f"not answered by {outcome}: {made}")
-    return made
-
-
 def key_of(kind):
     """Under the example's seeds, of this kind."""
     edition, tree, name, mark = kind
@@ -63,17 +48,18 @@ def key_of(kind):
 
 def counter_vector(operation, kind):
     key, answer = key_of(kind), stored_keys.answer_to(operation, kind)
-    p, note = key.profile, stored_keys.told(kind)
+    p, note = key.profile, stored_keys.counter_told(kind)
     if operation == "reserve":
-        return held(answer, reserve_vector(f"{answer}: {note}", key)[0])
+        return held(answer, vector(operation, f"{answer}: {note}", key))
     if operation == "sign":
-        sizes = table_length(p.l, p.s), signature_length(p)
-        return held(answer, sign_vector(f"{answer}: {note}", key, R, ORDER, *sizes)[0])
+        lent = {"table": table_length(p.l, p.s), "signature": signature_length(p)}
+        made = vector(operation, f"{answer}: {note}", key, r=R, message=ORDER, **lent)
+        return held(answer, made)
     if operation == "write_key":
-        made = write_key_vector(f"mark {answer:02}: {note}", key, frame_length(p) + 3)[0]
-        return held(0, made)
-    made, found = read_key_vector(f"mark {answer}: {note}", stored_keys.marked_frame(key))
-    if found.mark != answer:
+        note = f"mark {answer:02}: {note}"
+        return held(0, vector(operation, note, key, frame=frame_length(p) + 3))
+    made = vector(operation, f"mark {answer}: {note}", frame=stored_keys.marked_frame(key))
+    if made["out"]["mark"] != answer:
         raise ValueError(f"mark {answer} is not read: {made}")
     return held(0, made)
 
@@ -83,8 +69,8 @@ def slices_written():
         p = Profile(*SHAPE, 2, edition)
         key, size = reserved_key(p, SEED, SECRET, 1), frame_length(p) + longer
         note = f"edition {edition}, a slice of {size} bytes"
-        yield held(SLICES[longer], write_key_vector(note, key, size)[0])
-    yield held(6, write_key_vector("edition 1, no slice", key._replace(profile=GATE), 0)[0])
+        yield held(SLICES[longer], vector("write_key", note, key, frame=size))
+    yield held(6, vector("write_key", "edition 1, no slice", key._replace(profile=GATE), frame=0))
 
 
 def is_told(kind):
@@ -103,7 +89,7 @@ def frames_read():
     for kind in READ:
         key = reserved_key(GATE, SEED, SECRET, 0x0102)
         frame = stored_keys.drawn_frame(Fixed(), key, kind).before
-        made, _ = read_key_vector(stored_keys.told_frame(kind), frame)
+        made = vector("read_key", stored_keys.told_frame(kind), frame=frame)
         answer = READ_KINDS[kind]
         yield made if answer is None else held(answer, made)
 
@@ -116,13 +102,11 @@ class Desk(Story):
         self.name, self.frame, self.orders = name, None, []
 
     def store(self, note):
-        made, self.frame = write_key_vector(note, self.key, frame_length(self.p))
-        self.add(made, 0)
+        left = self.add("write_key", note, self.key, 0, frame=frame_length(self.p))
+        self.frame = left["frame"]
 
     def restart(self, note):
-        made, key = read_key_vector(note, self.frame)
-        self.add(made, 0)
-        self.key = restarted(key)
+        self.key = restarted(key_read(self.add("read_key", note, None, 0, frame=self.frame)))
 
     def issue(self, note):
         leaf = self.key.next - 1
@@ -168,9 +152,9 @@ def gate_keys():
             ("its first leaf is reserved", reserved_key(p, SEED, SECRET, 0)),
             ("its last leaf is reserved", reserved_key(p, SEED, SECRET, 1023)),
         ]:
-            made, frame = write_key_vector(note, key, frame_length(p))
+            made, left = vector_and_left("write_key", note, key, frame=frame_length(p))
             yield held(0, made)
-            yield held(0, read_key_vector(note, frame)[0])
+            yield held(0, vector("read_key", note, frame=left["frame"]))
 
 
 def keys_family():

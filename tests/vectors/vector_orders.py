@@ -13,6 +13,7 @@ import itertools
 import shapes
 import signatures
 import windows
+from answers import handed_back
 from sheets import right_sheet
 from signatures import (
     GATE,
@@ -37,11 +38,9 @@ from vector_calls import (
     R,
     derived,
     flipped,
-    reserve_vector,
-    root_vector,
-    sheet_vector,
-    sign_vector,
-    verify_vector,
+    held,
+    vector,
+    vector_and_left,
 )
 from worked_order import LEAF, WORKED
 from zarosnik import MOST_BITS, first_bits, number_bits, row_of, table_length
@@ -66,23 +65,23 @@ class Story:
         self.root = root_of(p, SEED, secret)
         self.cabinet = Verifier(p, SEED, self.root, 0, 0)
         self.words = table_length(p.l, p.s)
-        self.vectors = [root_vector("the root that the cabinet holds", p, SEED, secret)]
+        self.vectors = [vector("root", "the root that the cabinet holds", self.key)]
 
-    def add(self, made, outcome):
-        if made["out"]["outcome"] != outcome:
-            raise ValueError(f"not answered by {outcome}: {made}")
-        self.vectors.append(made)
+    def add(self, operation, note, thing, outcome, **given):
+        """What the call leaves."""
+        made, left = vector_and_left(operation, note, thing, **given)
+        self.vectors.append(held(outcome, made))
+        return left
 
     def reserve(self, note, outcome=0):
-        made, self.key = reserve_vector(note, self.key)
-        self.add(made, outcome)
+        self.key = handed_back(self.key, self.add("reserve", note, self.key, outcome))
 
     def sign(self, note, text, r, outcome=0):
         """The text and its signature."""
-        size = signature_length(self.p)
-        made, self.key, written = sign_vector(note, self.key, r, text, self.words, size)
-        self.add(made, outcome)
-        return text, written
+        lent = {"table": self.words, "signature": signature_length(self.p)}
+        left = self.add("sign", note, self.key, outcome, r=r, message=text, **lent)
+        self.key = handed_back(self.key, left)
+        return text, left["signature"]
 
     def order(self, note, text, r):
         """A leaf is reserved and signs; the same."""
@@ -94,13 +93,16 @@ class Story:
         self.sign("the key is spent, and no leaf is reserved", text, r, 20)
 
     def verify(self, note, order, outcome=0):
-        made, self.cabinet = verify_vector(note, self.cabinet, *order, self.words)
-        self.add(made, outcome)
+        self.cabinet = handed_back(self.cabinet, self.check(note, self.cabinet, order, outcome))
+
+    def check(self, note, cabinet, order, outcome):
+        given = {"message": order[0], "signature": order[1], "table": self.words}
+        return self.add("verify", note, cabinet, outcome, **given)
 
     def judge(self, note, order, outcome=15, **other):
         """A check by a cabinet that is fresh but for what is named. The story's cabinet stays."""
         cabinet = self.cabinet._replace(**{"highest": 0, "marks": 0, **other})
-        self.add(verify_vector(note, cabinet, *order, self.words)[0], outcome)
+        self.check(note, cabinet, order, outcome)
 
     def damage(self, order):
         """One thing is other than it was signed."""
@@ -251,9 +253,9 @@ def earlier_story(p):
     story = Story(p)
     text, signature = earlier_order(story)
     r, bits = signature[4:20], number_bits(count_of(p))
-    sheet = right_sheet(p, signature, text)
+    given = {"sheet": right_sheet(p, signature, text), "message": len(text)}
     note = "the sheet of an order of earlier days"
-    story.add(sheet_vector(note, p, sheet, signature_length(p), len(text)), 0)
+    story.add("read_sheet", note, p, 0, **given, signature=signature_length(p))
     note = f"the order of earlier days: its number has {bits} bits today"
     story.verify(note, (text, signature), 0 if bits == MOST_BITS else 15)
     if bits == MOST_BITS:

@@ -5,9 +5,8 @@ A call is asked for with some causes, and all else in it is right. What the impl
 answers is held to the first of them.
 """
 
-from calls import ORDERS
-from inputs import CAUSES as DRAWN
 from keys import frame_length, right_frame
+from operations import MOST_HASHED, ORDERS, TABLE, numbers_told
 from sheets import right_sheet, sheet_length
 from signatures import (
     GATE,
@@ -21,29 +20,17 @@ from signatures import (
     signature_of,
 )
 from vector_calls import (
-    MOST_HASHED,
     ORDER,
     SECRET,
     SEED,
+    SEEDS,
     SMALL,
     R,
-    count_vector,
     derived,
     flipped,
     hash_vector,
-    leaf_key_vector,
-    rank_vector,
-    read_key_vector,
-    recover_vector,
-    reserve_vector,
-    reveal_vector,
-    root_vector,
-    sheet_vector,
-    sign_vector,
-    unrank_vector,
-    verify_vector,
-    write_key_vector,
-    write_vector,
+    held,
+    vector,
 )
 from zarosnik import row_of, table_length, ways
 
@@ -51,10 +38,6 @@ PAST_WORD = 1 << 32
 PAST_NUMBER = 1 << 160
 # The gate's shape under a low tree: it signs, which the small profile does not.
 LOW_GATE = GATE._replace(h=1)
-
-# The causes of each operation in the order tested. In the list drawn from, the two slices for which
-# Read sheet refuses by 6 are told apart.
-CAUSES = {name: list(dict.fromkeys(map(abs, causes))) for name, causes in DRAWN.items()}
 
 # Numbers of a profile that would be the gate's if they were cut to 8 bits, or s to 16.
 CUT = {"l": 290, "w": 272, "s": 65791, "h": 266, "edition": 257}
@@ -110,14 +93,7 @@ class Refused:
     def text(self):
         return b"" if 16 in self.causes else ORDER
 
-    def count(self):
-        return count_vector(self.note, self.p, self.words)
-
-    def unrank(self):
-        size = self.chains - (6 in self.causes)
-        return unrank_vector(self.note, self.p, self.number(), self.words, size)
-
-    def rank(self):
+    def row(self):
         good = self.good
         row = row_of(*good[:3], ways(good.w, good.l, good.s) - 1)
         if 9 in self.causes:
@@ -125,40 +101,54 @@ class Refused:
             row = bytes([good.w, good.s - good.w]) + bytes(good.l - 2)
         if 10 in self.causes:
             row = row[:-1] + bytes([row[-1] + 1])
-        row = (row + bytes(self.chains))[: self.chains + (8 in self.causes)]
-        return rank_vector(self.note, self.p, row, self.words)
-
-    def leaf_key(self):
-        return leaf_key_vector(self.note, self.p, SEED, SECRET, self.leaf())
-
-    def root(self):
-        return root_vector(self.note, self.p, SEED, SECRET)
-
-    def one_time_sign(self):
-        given = self.p, SEED, SECRET, self.leaf(), self.number()
-        return reveal_vector(self.note, *given, self.words, 16 * self.chains - (6 in self.causes))
-
-    def one_time_recover(self):
-        values = derived("values", 16 * self.chains + (13 in self.causes))
-        given = self.p, SEED, self.leaf(), self.number()
-        return recover_vector(self.note, *given, values, self.words)
+        return (row + bytes(self.chains))[: self.chains + (8 in self.causes)]
 
     def key(self, next_leaf, mark):
         return SigningKey(self.p, SEED, SECRET, next_leaf, int(mark))
 
+    def vector(self, operation):
+        """The method of an operation gives what it is given besides the table. Where an operation
+        takes none of this, it is left out."""
+        thing, given = getattr(self, operation)()
+        given |= {"table": self.words} if "table" in TABLE[operation][0] else {}
+        return vector(operation, self.note, thing, **given)
+
+    def count(self):
+        return self.p, {}
+
+    def unrank(self):
+        return self.p, {"number": self.number(), "row": self.chains - (6 in self.causes)}
+
+    def rank(self):
+        return self.p, {"row": self.row()}
+
+    def leaf_key(self):
+        return self.p, {**SEEDS, "leaf": self.leaf()}
+
+    def root(self):
+        return self.p, {**SEEDS}
+
+    def one_time_sign(self):
+        given = {**SEEDS, "leaf": self.leaf(), "number": self.number()}
+        return self.p, {**given, "values": 16 * self.chains - (6 in self.causes)}
+
+    def one_time_recover(self):
+        values = derived("values", 16 * self.chains + (13 in self.causes))
+        given = {"public_seed": SEED, "leaf": self.leaf(), "number": self.number()}
+        return self.p, {**given, "values": values}
+
     def reserve(self):
         """Where no leaf is left, the last one was the one before the next leaf."""
-        next_leaf = 2**self.good.h - (12 not in self.causes)
-        return reserve_vector(self.note, self.key(next_leaf, 21 in self.causes))[0]
+        return self.key(2**self.good.h - (12 not in self.causes), 21 in self.causes), {}
 
     def sign(self):
         """With the last leaf. Not reserved, it has no mark or, where 20 is not alone, a mark that
         counts with no height."""
         idle = 20 in self.causes and len(self.causes) > 1
         next_leaf = PAST_WORD - 1 if idle else 2**self.good.h
-        key = self.key(next_leaf, idle or 20 not in self.causes)
         size = self.signature_size - (6 in self.causes)
-        return sign_vector(self.note, key, R, self.text(), self.words, size)[0]
+        given = {"r": R, "message": self.text(), "signature": size}
+        return self.key(next_leaf, idle or 20 not in self.causes), given
 
     def verify(self):
         p, leaf, root = self.good, self.leaf(), root_of(self.good, SEED, SECRET)
@@ -171,26 +161,25 @@ class Refused:
             signature = flipped(signature, -1)
         # the leaf below it was accepted; where the leaf is passed, it itself too
         cabinet = Verifier(self.p, SEED, root, leaf, 2 + (14 in self.causes))
-        return verify_vector(self.note, cabinet, self.text(), signature, self.words)[0]
+        return cabinet, {"message": self.text(), "signature": signature}
 
     def read_sheet(self):
         sheet = right_sheet(self.good, derived("signature", signature_length(self.good)), ORDER)
-        sheet = sheet[:-1] if 17 in self.causes else sheet
         size = self.signature_size - (6 in self.causes)
-        return sheet_vector(self.note, self.p, sheet, size, len(ORDER))
+        given = {"signature": size, "message": len(ORDER)}
+        return self.p, {"sheet": sheet[:-1] if 17 in self.causes else sheet, **given}
 
     def write_sheet(self):
         signature = derived("signature", self.signature_size - (13 in self.causes))
         size = self.sheet_size - (6 in self.causes)
-        return write_vector(self.note, self.p, signature, self.text(), size)
+        return self.p, {"signature": signature, "message": self.text(), "sheet": size}
 
     def read_key(self):
         line = right_frame(SigningKey(self.good, SEED, SECRET, 1, 1))
-        return read_key_vector(self.note, line[:-1] if 17 in self.causes else line)[0]
+        return None, {"frame": line[:-1] if 17 in self.causes else line}
 
     def write_key(self):
-        size = self.frame_size - (6 in self.causes)
-        return write_key_vector(self.note, self.key(1, 1), size)[0]
+        return self.key(1, 1), {"frame": self.frame_size - (6 in self.causes)}
 
 
 def right_profile(operation, causes):
@@ -201,13 +190,13 @@ def right_profile(operation, causes):
 
 def refused(operation, note, causes, good=None, **wrong):
     good = good or right_profile(operation, causes)
-    return getattr(Refused(note, good, causes, **wrong), operation)()
+    return Refused(note, good, causes, **wrong).vector(operation)
 
 
 def refusals_by_edition(operation):
     """Pairs as below: further numbers that are no edition, with 4, and with all that is tested
     after 22; and each other cause in edition 2."""
-    causes = CAUSES[operation]
+    causes = numbers_told(operation)
     for number in NO_EDITIONS:
         note = f"4, and edition {number}"
         yield 4, refused(operation, note, [4, 22], no_edition=number)
@@ -223,7 +212,7 @@ def refusals_by_edition(operation):
 
 def refusals_of(operation):
     """Pairs: the cause that must be told, and the vector."""
-    causes = CAUSES[operation]
+    causes = numbers_told(operation)
     for at, cause in enumerate(causes):
         yield cause, refused(operation, f"{cause} alone", [cause])
         if causes[at + 1 :]:
@@ -244,38 +233,36 @@ def long_inputs():
     yield 18, hash_vector("18: three bytes, if the length were cut", b"abc", 1 + (1 << 16))
     p, text = LOW_GATE, derived("text", 201)
     words, size = table_length(p.l, p.s), signature_length(p)
+
+    def sign_vector(note, key, text):
+        return vector("sign", note, key, r=R, message=text, table=words, signature=size)
+
     key = reserved_key(p, SEED, SECRET, 0)
-    yield 16, sign_vector("16: a text of 201 bytes", key, R, text, words, size)[0]
+    yield 16, sign_vector("16: a text of 201 bytes", key, text)
     key = key._replace(next=PAST_WORD - 1, mark=0)
-    yield 12, reserve_vector("12: the highest next leaf", key)[0]
+    yield 12, vector("reserve", "12: the highest next leaf", key)
     key = key._replace(mark=1)
-    yield 12, reserve_vector("12: the highest next leaf, with a mark", key)[0]
-    yield 20, sign_vector("20: the highest next leaf, with a mark", key, R, ORDER, words, size)[0]
-    key = key._replace(next=0)
-    yield 20, sign_vector("20: next leaf 0, with a mark", key, R, ORDER, words, size)[0]
-    cabinet = Verifier(p, SEED, root_of(p, SEED, SECRET), PAST_WORD - 1, PAST_WORD - 1)
-    signature = bytes(4) + derived("signature", size - 3)
-    for cause, note, order in [
-        (16, "16: a text of 201 bytes", (text, signature[:-1])),
-        (13, "13: a byte too many", (ORDER, signature)),
-        (13, "13: no signature", (ORDER, b"")),
-        (14, "14: the largest highest leaf, all marks", (ORDER, signature[:-1])),
+    yield 12, vector("reserve", "12: the highest next leaf, with a mark", key)
+    yield 20, sign_vector("20: the highest next leaf, with a mark", key, ORDER)
+    yield 20, sign_vector("20: next leaf 0, with a mark", key._replace(next=0), ORDER)
+    root, signature = root_of(p, SEED, SECRET), bytes(4) + derived("signature", size - 3)
+    most = PAST_WORD - 1, PAST_WORD - 1
+    for cause, note, window, text, shown in [
+        (16, "16: a text of 201 bytes", most, text, signature[:-1]),
+        (13, "13: a byte too many", most, ORDER, signature),
+        (13, "13: no signature", most, ORDER, b""),
+        (14, "14: the largest highest leaf, all marks", most, ORDER, signature[:-1]),
+        (14, "14: 32 below the highest", (32, 1), ORDER, signature[:-1]),
+        (14, "14: 31 below the highest and marked", (31, PAST_WORD // 2), ORDER, signature[:-1]),
     ]:
-        yield cause, verify_vector(note, cabinet, *order, words)[0]
-    for note, window in [
-        ("14: 32 below the highest", (32, 1)),
-        ("14: 31 below the highest and marked", (31, PAST_WORD // 2)),
-    ]:
-        cabinet = Verifier(p, SEED, cabinet.root, *window)
-        yield 14, verify_vector(note, cabinet, ORDER, signature[:-1], words)[0]
+        cabinet = Verifier(p, SEED, root, *window)
+        given = {"message": text, "signature": shown, "table": words}
+        yield cause, vector("verify", note, cabinet, **given)
 
 
 def refusals_family():
     pairs = list(long_inputs())
-    for operation in CAUSES:
+    for operation in TABLE:
         if operation != "hash":
             pairs += refusals_of(operation)
-    for cause, made in pairs:
-        if made["out"]["outcome"] != cause:
-            raise ValueError(f"not refused by {cause}: {made}")
-        yield made
+    yield from (held(*pair) for pair in pairs)

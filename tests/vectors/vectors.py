@@ -5,15 +5,10 @@ programs link, and compares the answer, the states and all memory lent.
     python3 tests/vectors/vectors.py --archive PATH   takes this archive
 
 Fails where a call differs, and where something has no vector: a family, an operation granted, a
-refusal that docs/INTERFACE.md lists for an operation, a kind of numbers compared, a count at which
-orders must be signed and checked, a way in which a leaf can stand to a cabinet's highest leaf and
-marks, an operation granted in either edition, an order or a sheet of one edition where the other is
-expected, a number that is no edition, a sheet written for the shortest or the longest text with
-slices of each length that decides, or for a leaf that a tree has not, a kind of next leaf and mark
-with which leaves are reserved and sign and keys are written and read, a slice for a stored key, a
-kind of stored keys, or a number of a profile that would be the gate's if it were cut.
-The vectors themselves are held to the independent implementation by tests/vectors/make_vectors.py, the
-page's worked values by tests/pages/worked_order.py.
+refusal that docs/INTERFACE.md lists for an operation, a number of a profile that would be the gate's
+if it were cut, or a kind of calls of the modules of tests/kinds/, of which the vectors have all but
+some: `wanted` says which. The vectors themselves are held to the independent implementation by
+tests/vectors/make_vectors.py, the page's worked values by tests/pages/worked_order.py.
 """
 
 import json
@@ -22,7 +17,7 @@ import sys
 import tempfile
 from collections import Counter
 
-from paths import fail, say
+from paths import ROOT, fail, say
 
 import comparisons
 import editions
@@ -31,86 +26,65 @@ import stored_keys
 import windows
 import written_sheets
 from archived import archive_of, archive_parser, shared_object
+from calls import Call, laid_out, load
 from header import NO_REFUSALS
-from calls import EDITED, ORDERS, PROTOTYPES, Call, load, parameters
-from memory import Memory, words_memory
-from keys import frame_length
 from make_vectors import FAMILIES, FOLDER
-from signatures import EDITIONS, Profile, Verifier, check
-from vector_calls import FILL, FILL_WORD
+from met import Met
+from operations import LENT, NUMBERS, TABLE, parameters
+from vector_calls import FILL, filled
 from vector_keys import READ
 from vector_orders import WINDOW_KINDS, order_shapes
 from vector_refusals import CUT
-from vector_sheets import WRITTEN_KINDS
-from zarosnik import filled, number_words, table_length
+from vector_sheets import EDGE_TEXTS
+from zarosnik import filled as with_counts
 
-PAGE = FOLDER.parent / "docs" / "INTERFACE.md"
-WORDS = ("next_leaf", "mark", "highest_leaf", "marks", "steps", "line", "order", "looked")
-NUMBERS = ("number", "first", "second")
-COUNTS = ("message_written", "sheet_written", "frame_written")
+PAGE = ROOT / "docs" / "INTERFACE.md"
+FRAMES = {stored_keys.told_frame(kind): kind for kind in READ}
 
 
-def memory_of(name, value):
-    """An argument or an answer, as the call finds or leaves it."""
-    if name in NUMBERS:
-        return words_memory(number_words(int(value, 16)))
-    if name in WORDS:
-        return words_memory([value])
-    if name == "profile":
-        return words_memory(value)
-    if name in COUNTS:
-        return Memory(value.to_bytes(8, "little"), unit=8)
-    return Memory(bytes.fromhex(value))
+def wanted():
+    return {
+        comparisons: comparisons.wanted(),
+        shapes: shapes.wanted_at(order_shapes() + shapes.nearly_signing()),
+        windows: WINDOW_KINDS,
+        editions: editions.wanted(),
+        written_sheets: written_sheets.wanted_with(map(len, EDGE_TEXTS)),
+        stored_keys: [*stored_keys.wanted_but_read(), *stored_keys.read_wanted(READ)],
+    }
 
 
-def table_after(given, left):
-    before = [FILL_WORD] * given["table_len"]
-    if left == "counts":
-        return filled(given["l"], given["w"], given["s"], before)
-    return before if left == "untouched" else left
+def value_of(name, told):
+    if isinstance(told, str):
+        return int(told, 16) if name in NUMBERS else bytes.fromhex(told)
+    return told
 
 
-def lent(name, given, left):
-    """A slice that the call may write."""
-    if name == "table":
-        before = [FILL_WORD] * given["table_len"]
-        return words_memory(before).leave(table_after(given, left))
-    before = bytes([FILL]) * given[f"{name}_len"]
-    return Memory(before).leave(before if left == "untouched" else bytes.fromhex(left))
-
-
-def written_over(memory):
-    """An answer: every call writes it, over anything."""
-    answer = Memory(bytes([FILL]) * len(memory.before), memory.unit)
-    return answer.leave(memory.before)
-
-
-def argument(parameter, given, left):
-    """What stands for one parameter of the call. Takes its fields from both."""
-    name = parameter.name
-    if parameter.by_value:
-        return given.pop(name)
-    if name == "data":
-        return Memory(bytes.fromhex(given.pop(name)) * given.pop("times"))
-    if f"{name}_len" in given:
-        memory = lent(name, given, left.pop(name))
-        del given[f"{name}_len"]
-        return memory
-    if name not in given:
-        return written_over(memory_of(name, left.pop(name)))
-    memory = memory_of(name, given.pop(name))
-    return memory.leave(memory_of(name, left.pop(name)).before) if name in left else memory
+def slice_after(name, before, told, given):
+    """What a slice that the call may write has at exit."""
+    if told == "untouched":
+        return before
+    return with_counts(*(given[n] for n in "lws"), before) if told == "counts" else value_of(name, told)
 
 
 def call_of(vector, shift):
-    operation, given, left = vector["operation"], dict(vector["in"]), dict(vector["out"])
-    # the table's contents are told by l, w and s: these go last
-    ordered = sorted(parameters(operation), key=lambda parameter: parameter.by_value)
+    operation, told, left = vector["operation"], dict(vector["in"]), dict(vector["out"])
     outcome = left.pop("outcome")
-    arguments = {parameter.name: argument(parameter, given, left) for parameter in ordered}
-    if given or left:
-        raise ValueError(f"fields that no parameter has: {sorted(given | left)}")
-    return Call(operation, outcome, shift % 16, arguments)
+    if operation == "hash":
+        told["data"] *= told.pop("times")
+    slices = {name: filled(name, told.pop(f"{name}_len")) for name in LENT[operation]}
+    given = {name: value_of(name, value) for name, value in told.items()} | slices
+    after = {
+        name: slice_after(name, slices[name], value, given) if name in slices else value_of(name, value)
+        for name, value in left.items()
+    }
+    names = {parameter.name for parameter in parameters(operation)}
+    if given.keys() | after.keys() != names:
+        raise ValueError(f"fields that are no parameters: {sorted(names ^ given.keys() ^ after.keys())}")
+    memory = laid_out(operation, given, after, lambda size: bytes([FILL]) * size)
+    call = Call(operation, given, outcome, after, memory, shift % 16)
+    if operation == "read_key" and vector["note"] in FRAMES:
+        call.stated = "stored", FRAMES[vector["note"]]
+    return call
 
 
 def families():
@@ -125,15 +99,6 @@ def families():
         yield family, content["vectors"]
 
 
-def failures(library, vectors):
-    """For each vector whose call differs its place in the file, from 1, and what differs."""
-    for place, vector in enumerate(vectors, 1):
-        call = call_of(vector, place)
-        wrong = call.make(library)
-        if wrong:
-            yield place, vector["note"], [str(call), *wrong]
-
-
 def listed_refusals():
     """By operation, the refusals that the page lists in its table of operations."""
     text = PAGE.read_text(encoding="utf-8")
@@ -141,161 +106,55 @@ def listed_refusals():
     return {operation: list(map(int, re.findall(r"\d+", listed))) for operation, listed in rows}
 
 
-def window_kinds(vectors):
-    """How leaves stand to cabinets by which they are taken or passed."""
-    for vector in vectors:
-        given, outcome = vector["in"], vector["out"]["outcome"]
-        if vector["operation"] == "verify" and outcome in (0, 14):
-            leaf = int(given["signature"][:8], 16)
-            for kind in windows.kinds(given["highest_leaf"], given["marks"], leaf):
-                yield kind, outcome
+class Run(Met):
+    """What has a vector, and how many differ."""
 
+    def __init__(self, library):
+        super().__init__()
+        self.library, self.made, self.failed = library, Counter(), 0
+        self.outcomes, self.cut = set(), set()
 
-def profile_of(given):
-    return Profile(*(given[name] for name in Profile._fields))
+    def make(self, family, place, vector):
+        call = call_of(vector, place)
+        wrong = call.make(self.library)
+        if wrong:
+            say(f"vectors/{family}.json, vector {place}, {vector['note']}: differs")
+            print("\n".join(f"  {line}" for line in [str(call), *wrong]))
+        self.failed += bool(wrong)
+        self.made[family, call.operation] += 1
+        self.outcomes.add((call.operation, call.outcome))
+        self.cut |= {(call.operation, n) for n in CUT if call.given.get(n) == CUT[n]}
+        self.add(call)
 
-
-def taken_by_other(given):
-    """Whether the other edition takes the order of a check."""
-    p = profile_of(given)
-    p = p._replace(edition=editions.other(p.edition))
-    names = ("public_seed", "root", "message", "signature")
-    seed, root, text, signature = (bytes.fromhex(given[name]) for name in names)
-    verifier, work = Verifier(p, seed, root, 0, 0), [0] * table_length(p.l, p.s)
-    return check(verifier, text, signature, work)[0] == 0
-
-
-def missing_editions(vectors):
-    for operation in EDITED:
-        calls = [vector for vector in vectors if vector["operation"] == operation]
-        met = {(call["in"]["edition"], call["out"]["outcome"]) for call in calls}
-        for answer in editions.missing_answers(met):
-            yield f"no vector: {operation} answers {answer}"
-    refused = [
-        vector["in"]
-        for vector in vectors
-        if (vector["operation"], vector["out"]["outcome"]) == ("verify", 15)
-    ]
-    for edition in EDITIONS:
-        if not any(given["edition"] == edition and taken_by_other(given) for given in refused):
-            yield f"no vector: verify answers 15 in edition {edition} to the other's order"
-    read = [vector for vector in vectors if vector["operation"] == "read_sheet"]
-    lasts = [
-        (editions.last_of(profile_of(call["in"]), bytes.fromhex(call["in"]["sheet"])), call)
-        for call in read
-        if call["out"]["outcome"] in (0, 17)
-    ]
-    met = {(call["in"]["edition"], last, call["out"]["line"]) for last, call in lasts}
-    for line in editions.missing_lines(met):
-        yield f"no vector: read_sheet tells {line}"
-
-
-def missing_written(vectors):
-    kinds, leaves = set(), set()
-    for vector in vectors:
-        given, outcome = vector["in"], vector["out"]["outcome"]
-        if vector["operation"] == "write_sheet" and outcome in (0, 16, 13, 6):
-            p, signature = profile_of(given), bytes.fromhex(given["signature"])
-            sizes = len(signature), len(given["message"]) // 2, given["sheet_len"]
-            kinds.add((written_sheets.kind(p, *sizes), outcome))
-            if outcome == 0:
-                leaves |= written_sheets.leaf_kinds(p, int.from_bytes(signature[:4], "big"))
-    for kind in written_sheets.missing_kinds(kinds, WRITTEN_KINDS):
-        yield f"no vector: write_sheet answers {kind}"
-    for leaf in written_sheets.missing_leaves(leaves):
-        yield f"no vector: write_sheet writes {leaf}"
-
-
-def counters(vectors):
-    """The operation, the kind of next leaf and mark, and the answer, of Write key and Read key the
-    mark written or read."""
-    for vector in vectors:
-        operation, given, left = vector["operation"], vector["in"], vector["out"]
-        outcome = left["outcome"]
-        if operation == "read_key" and outcome == 0:
-            p, next_leaf = Profile(*left["profile"]), left["next_leaf"]
-            mark, answer = int(bytes.fromhex(given["frame"])[84:86]), left["mark"]
-        elif operation in ("reserve", "sign") and outcome in (0, 20, 21, 12):
-            p, next_leaf, mark = profile_of(given), given["next_leaf"], given["mark"]
-            answer = outcome
-        elif operation == "write_key" and outcome == 0:
-            p, next_leaf, mark = profile_of(given), given["next_leaf"], given["mark"]
-            answer = int(bytes.fromhex(left["frame"])[84:86])
-        else:
-            continue
-        for kind in stored_keys.counter_kinds(p, next_leaf, mark):
-            yield operation, kind, answer
-
-
-def missing_keys(vectors):
-    """Of the frames that are read, the note says the kind."""
-    for line in stored_keys.missing_counters(set(counters(vectors))):
-        yield f"no vector: {line}"
-    written = [vector for vector in vectors if vector["operation"] == "write_key"]
-    slices = set()
-    for given, outcome in ((vector["in"], vector["out"]["outcome"]) for vector in written):
-        if outcome in (0, 6):
-            p = profile_of(given)
-            slices.add((p.edition, given["frame_len"] - frame_length(p), outcome))
-    for line in stored_keys.missing_slices(slices):
-        yield f"no vector: {line}"
-    read = {vector["note"] for vector in vectors if vector["operation"] == "read_key"}
-    for kind in READ:
-        if stored_keys.told_frame(kind) not in read:
-            yield f"no vector: read_key is given a frame: {stored_keys.told_frame(kind)}"
-
-
-def missing(vectors):
-    """In lines: what has no vector."""
-    outcomes = {(vector["operation"], vector["out"]["outcome"]) for vector in vectors}
-    listed = listed_refusals()
-    if listed.keys() != PROTOTYPES.keys():
-        yield f"the page lists the operations {sorted(listed)}"
-    expected = {(name, number) for name in listed for number in [0, *listed[name]]}
-    for operation, outcome in sorted(expected - outcomes):
-        yield f"no vector: {operation} answers {outcome}"
-    for operation, outcome in sorted(outcomes - expected):
-        yield f"not in the page: {operation} answers {outcome}"
-    for operation, told in PROTOTYPES.items():
-        calls = [vector["in"] for vector in vectors if vector["operation"] == operation]
-        for name, number in CUT.items():
-            if name in told.split() and all(given[name] != number for given in calls):
-                yield f"no vector: {operation} with {name} = {number}"
-    yield from missing_editions(vectors)
-    yield from missing_written(vectors)
-    yield from missing_keys(vectors)
-    for operation in ORDERS:
-        calls = [vector for vector in vectors if vector["operation"] == operation]
-        met = {
-            (tuple(call["in"][name] for name in "lws"), call["out"]["outcome"]) for call in calls
-        }
-        for answer in shapes.missing_answers(order_shapes() + shapes.nearly_signing(), met):
-            yield f"no vector: {operation} answers {answer}"
-    for kind in windows.missing_kinds(set(window_kinds(vectors)), WINDOW_KINDS):
-        yield f"no vector: verify answers {kind}"
-    compared = [vector["in"] for vector in vectors if vector["operation"] == "compare"]
-    numbers = [(int(given["first"], 16), int(given["second"], 16)) for given in compared]
-    for kind in comparisons.missing_kinds({comparisons.kind(*pair) for pair in numbers}):
-        yield f"no vector: compare comes to {kind}"
+    def lacking(self):
+        """In lines: what has no vector."""
+        listed = listed_refusals()
+        if listed.keys() != TABLE.keys():
+            yield f"the page lists the operations {sorted(listed)}"
+        expected = {(name, number) for name in listed for number in [0, *listed[name]]}
+        for operation, outcome in sorted(expected - self.outcomes):
+            yield f"no vector: {operation} answers {outcome}"
+        for operation, outcome in sorted(self.outcomes - expected):
+            yield f"not in the page: {operation} answers {outcome}"
+        taken = {(operation, p.name) for operation in TABLE for p in parameters(operation)}
+        for operation, name in sorted(taken - self.cut):
+            if name in CUT:
+                yield f"no vector: {operation} with {name} = {CUT[name]}"
+        yield from (f"no vector: {line}" for line in self.missing(wanted()))
 
 
 def run(library):
-    everything, failed = [], 0
+    made = Run(library)
     for family, vectors in families():
-        wrong = list(failures(library, vectors))
-        for place, note, lines in wrong:
-            say(f"vectors/{family}.json, vector {place}, {note}: differs")
-            print("\n".join(f"  {line}" for line in lines))
-        told = Counter(vector["operation"] for vector in vectors)
-        counts = ", ".join(f"{number} {operation}" for operation, number in told.items())
-        say(f"{family}: {counts}; {len(wrong)} differ")
-        failed += len(wrong)
-        everything += vectors
-    lacking = list(missing(everything))
+        for place, vector in enumerate(vectors, 1):
+            made.make(family, place, vector)
+        told = [f"{n} {name}" for (of, name), n in made.made.items() if of == family]
+        say(f"{family}: {', '.join(told)}")
+    lacking = list(made.lacking())
     for line in lacking:
         say(line)
-    say(f"{len(everything)} vectors, {failed} differ, {len(lacking)} things missing")
-    return failed == 0 and not lacking
+    say(f"{made.made.total()} vectors, {made.failed} differ, {len(lacking)} things missing")
+    return made.failed == 0 and not lacking
 
 
 def main():
