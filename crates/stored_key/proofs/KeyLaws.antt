@@ -16,7 +16,7 @@ use Rattle.profile.specs.Checks.{outside, profileCauses}
 use Rattle.profile.proofs.Limits.{profile-passed, profile-limits, sum-small}
 use Rattle.frames.specs.Frames.{editionByte}
 use Rattle.frames.proofs.FrameNumbers.{edition-byte}
-use Rattle.signing_key.specs.Counter.{marked}
+use Rattle.signing_key.specs.Counter.{markCounts}
 use Rattle.signing_key.specs.declared.SigningKey.{SigningKey}
 use Rattle.stored_key.specs.KeyFrame.{keyBytes, keyIn, met}
 use Rattle.stored_key.specs.Parts.{frontBytes, lastBytes}
@@ -29,7 +29,7 @@ and-again false b = refl
 
 -- a mark that counts still counts once it is met
 pub met-met : (key : SigningKey) → met (met key) ≡ met key
-unfolding met marked
+unfolding met markCounts
 met-met key = rw (and-again (key .counter .mark) (not (outside 1 (2 ^ key .profile .height) (key .counter .next))))
 
 pub met-profile : (key : SigningKey) → met key .profile ≡ key .profile

@@ -18,7 +18,7 @@ use Rattle.hex.specs.Digits.{hasBytes, ReadsLine}
 use Rattle.hex.proofs.HexLaws.{line-of-read}
 use Rattle.profile.specs.Checks.{profileCauses}
 use Rattle.profile.specs.declared.Profile.{Profile}
-use Rattle.signing_key.specs.Counter.{marked}
+use Rattle.signing_key.specs.Counter.{markCounts}
 use Rattle.signing_key.specs.declared.SigningKey.{SigningKey}
 use Rattle.stored_key.specs.KeyFrame.{keyIn, met}
 use Rattle.stored_key.specs.Operations.{readCode, lineIn, keyOf, ReadsKey}
@@ -42,11 +42,11 @@ module _ (bytes : List ℕ) (long : 43 ≤ length bytes) where
 
   -- the key behind the kind
   pub key-behind : {p : Profile} {seed secret : List ℕ} {next : ℕ} {mark : Bool} → p ≡ keyIn (drop 1 bytes) .profile → seed ≡ take 16 (drop 6 bytes) → secret ≡ take 16 (drop 22 bytes)
-      → next ≡ fromBytes (take 4 (drop 38 bytes)) → mark ≡ marked p (record { next = next; mark = eqb (getD bytes 42 0) 1 })
+      → next ≡ fromBytes (take 4 (drop 38 bytes)) → mark ≡ markCounts (2 ^ p .height) (record { next = next; mark = eqb (getD bytes 42 0) 1 })
       → _≡_ {A = SigningKey} (record { profile = p; seed = seed; secret = secret; counter = record { next = next; mark = mark } }) (met (keyIn (drop 1 bytes)))
   unfolding keyIn met
   key-behind e seed secret next mark =
-      rw (drop-drop 5 1 bytes, drop-drop 21 1 bytes, drop-drop 37 1 bytes, getD-drop 1 bytes 41 0, ← e, mark, seed, secret, next)
+      rw (mark, seed, secret, next, e, drop-drop 5 1 bytes, drop-drop 21 1 bytes, drop-drop 37 1 bytes, getD-drop 1 bytes 41 0)
 
 module _ (frame : List ℕ) where
   -- a frame that is refused

@@ -2,7 +2,7 @@
 use mathlib.Core.Path.{_≡_, refl, sym, ap, _∙_}
 use mathlib.Core.Bool.{Bool, cond}
 use mathlib.Core.List.{List, [], _∷_, _++_, append-assoc}
-use Prim.Native.Nat.{ℕ, _+_, _*_, _≤_, _<_}
+use Prim.Native.Nat.{ℕ, _+_, _*_, _^_, _≤_, _<_}
 use native.Mathlib.Omega.{arith}
 use borrow.Author.Tests.{lt-ltb, le-ltb}
 use lib.Dec.{ltb}
@@ -24,7 +24,7 @@ use Rattle.profile.proofs.Limits.{profile-numbered}
 use Rattle.frames.specs.Frames.{editionByte}
 use Rattle.frames.proofs.FrameLaws.{line-long}
 use Rattle.frames.proofs.FrameNumbers.{edition-byte}
-use Rattle.signing_key.specs.Counter.{marked}
+use Rattle.signing_key.specs.Counter.{markCounts}
 use Rattle.signing_key.specs.declared.SigningKey.{SigningKey}
 use Rattle.stored_key.specs.KeyFrame.{keyBytes, met, storedKey}
 use Rattle.stored_key.specs.Operations.{writeCode, bytesWritten, frameAfter, WritesKey}
@@ -81,13 +81,13 @@ module _ (key : SigningKey) (seed-long : length (key .seed) ≡ 16) (secret-long
 
   -- the whole frame
   pub frame-written : (o : List ℕ) {o₁ o₂ last : List ℕ} {end : ℕ} → o₁ ≡ hexOf (frontBytes (key .profile) ++ key .seed ++ key .secret) ++ drop 76 o
-      → last ≡ lastBytes (key .counter .next) (marked (key .profile) (key .counter)) (key .profile .edition)
+      → last ≡ lastBytes (key .counter .next) (markCounts (2 ^ key .profile .height) (key .counter)) (key .profile .edition)
       → end ≡ 76 + length (lineOf last) → o₂ ≡ take 76 o₁ ++ lineOf last ++ drop end o₁ → (end ≡ length (storedKey key)) × (o₂ ≡ storedKey key ++ drop end o)
   unfolding storedKey met toBytes
   frame-written o {end} e₁ l q e₂ =
       let front : List ℕ = frontBytes (key .profile) in
       let seeds : List ℕ = front ++ key .seed ++ key .secret in
-      let last : List ℕ = lastBytes (key .counter .next) (marked (key .profile) (key .counter)) (key .profile .edition) in
+      let last : List ℕ = lastBytes (key .counter .next) (markCounts (2 ^ key .profile .height) (key .counter)) (key .profile .edition) in
       let long : 2 * length seeds ≡ 76 = omega (arith, length-append (front ++ key .seed) (key .secret), length-append front (key .seed)) in
       (omega (arith, stored-long, length-lineOf last, ap (λ l. length (lineOf l)) l), line-behind seeds last o 76 long e₁ (q ∙ rw l) (e₂ ∙ rw l) ∙ ap (λ l. lineOf l ++ drop end o) (sym (key-parts (met key))))
 

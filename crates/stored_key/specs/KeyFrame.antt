@@ -1,7 +1,7 @@
 -- Document 02, point 5: "The stored key is one frame as in the sheet, kind 07". It stands alone, without the sheet's first line.
 use mathlib.Core.Bool.{Bool, _&&_, cond}
 use mathlib.Core.List.{List, [], _∷_, _++_}
-use Prim.Native.Nat.{ℕ}
+use Prim.Native.Nat.{ℕ, _^_}
 use lib.Dec.{ltb, eqb}
 use lib.ListN.{length, getD, take, drop}
 use Rattle.refusal.specs.Code.{firstCause}
@@ -10,7 +10,7 @@ use Rattle.hex.specs.Hex.{Line, wrong, right}
 use Rattle.profile.specs.Checks.{profileCauses}
 use Rattle.frames.specs.Frames.{Frame, framed, editionByte}
 use Rattle.frames.specs.Lines.{frameLine, readFrame}
-use Rattle.signing_key.specs.Counter.{marked}
+use Rattle.signing_key.specs.Counter.{markCounts}
 use Rattle.signing_key.specs.Key.{recounted}
 use Rattle.signing_key.specs.declared.SigningKey.{SigningKey}
 
@@ -27,7 +27,7 @@ keyBytes key =
 
 -- a mark that does not count is "read, written and met as none"
 unfoldable pub met : SigningKey → SigningKey
-met key = recounted key (record { next = key .counter .next; mark = marked (key .profile) (key .counter) })
+met key = recounted key (record { next = key .counter .next; mark = markCounts (2 ^ key .profile .height) (key .counter) })
 
 -- the frame of a key, as a line
 unfoldable pub storedKey : SigningKey → List ℕ

@@ -15,7 +15,7 @@ use refusal::Outcome;
 use refusal::Refusal;
 use signing_key::Counter;
 use signing_key::SigningKey;
-use signing_key::marked;
+use signing_key::mark_stands;
 use octets::read_16;
 use octets::word_at;
 
@@ -108,7 +108,7 @@ fn key_in(bytes: &[u8]) -> SigningKey
         next: next,
         mark: bytes[42] == 1,
     };
-    let mark = marked(p, counter);
+    let mark = mark_stands(p, counter);
     SigningKey {
         profile: p,
         seed: seed,

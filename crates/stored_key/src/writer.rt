@@ -2,7 +2,7 @@
 ghost use mathlib.Core.Path.{_≡_};
 ghost use mathlib.Core.Bool.{cond};
 ghost use mathlib.Core.List.{_++_};
-ghost use Prim.Native.Nat.{_+_, _*_, _≤_};
+ghost use Prim.Native.Nat.{_+_, _*_, _^_, _≤_};
 ghost use lib.ListN.{length, drop};
 ghost use Rattle.refusal.specs.Code.{firstCause};
 ghost use Rattle.hex.specs.Hex.{hexOf};
@@ -22,7 +22,7 @@ use refusal::Outcome;
 use refusal::Refusal;
 use signing_key::Counter;
 use signing_key::SigningKey;
-use signing_key::marked;
+use signing_key::mark_stands;
 use octets::word_bytes;
 
 // What Write key answers: refused, no byte is written.
@@ -40,10 +40,10 @@ fn mark_byte(mark: bool) -> u8
 
 // The bytes behind the seeds, as in edition 2: in edition 1 the last is left out. A mark that does not count is written as none.
 fn last_bytes(p: Profile, counter: Counter) -> [u8; 6]
-    ensures { λ r. ⌜ r ≡ lastBytes (counter .next) (counting.marked p counter) 2 ⌝ }
+    ensures { λ r. ⌜ r ≡ lastBytes (counter .next) (counting.markCounts (2 ^ p .height) counter) 2 ⌝ }
 {
     let next = word_bytes(counter.next);
-    let mark = mark_byte(marked(p, counter));
+    let mark = mark_byte(mark_stands(p, counter));
     [next[0], next[1], next[2], next[3], mark, 2]
 }
 
