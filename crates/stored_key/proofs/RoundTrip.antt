@@ -14,6 +14,7 @@ use Rattle.profile.specs.declared.Profile.{Profile}
 use Rattle.signing_key.specs.Counter.{markCounts}
 use Rattle.signing_key.specs.declared.Counter.{Counter}
 use Rattle.signing_key.specs.declared.SigningKey.{SigningKey}
+use Rattle.stored_key.specs.KeyFields.{markField, byteIn}
 use Rattle.stored_key.specs.KeyFrame.{keyIn, met, storedKey, Stored, wrongFrame, stored, readStored}
 use Rattle.stored_key.specs.Operations.{readCode, lineIn, keyOf, ReadsKey}
 use Rattle.stored_key.specs.RoundTrip.{WrittenIsRead, IdleIn, ReadIsWritten}
@@ -52,7 +53,7 @@ marked-mark p c e = both (c .mark) (not (outside 1 (2 ^ p .height) (c .next))) e
 module _ {frame bytes : List ℕ} (r : RightFrame frame bytes) (counts : IdleIn frame → ⊥) where
   idle : markCounts (2 ^ keyIn bytes .profile .height) (keyIn bytes .counter) ≡ false → keyIn bytes .counter .mark ≡ true → IdleIn frame
   unfolding IdleIn keyIn
-  idle e m = (bytes, [], right-frame r, eqb-true (getD bytes 41 0) 1 m, e)
+  idle e m = (bytes, [], right-frame r, eqb-true (byteIn markField bytes) 1 m, e)
 
   same-mark : markCounts (2 ^ keyIn bytes .profile .height) (keyIn bytes .counter) ≡ keyIn bytes .counter .mark
   same-mark = by (markCounts (2 ^ keyIn bytes .profile .height) (keyIn bytes .counter)) (keyIn bytes .counter .mark) refl refl
