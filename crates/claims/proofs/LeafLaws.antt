@@ -1,5 +1,5 @@
 -- What the list theorems know of the leaves of a tree, of those that a cabinet still takes and of the leaf that a key has marked: no other law of theirs opens
--- `leafBeyond`, `taken` or `counterAfter`, of `passed` they know the laws of `window` alone, and of `marked` those of `signing_key`.
+-- `leafBeyond`, `taken` or `counterAfter`, of `passed` they know the laws of `window` alone, and of `markCounts` those of `signing_key`.
 use mathlib.Core.Path.{_≡_, refl, sym, _∙_}
 use mathlib.Core.Bool.{Bool, true, false, _||_, true≢false}
 use mathlib.Core.List.{List}
@@ -11,7 +11,8 @@ use lib.Dec.{eqb}
 use Rattle.lists.proofs.Tests.{neither}
 use Rattle.profile.specs.Checks.{leafBeyond}
 use Rattle.profile.specs.declared.Profile.{Profile}
-use Rattle.signing_key.specs.Counter.{freshCounter, marked, reserved, cleared, reserveCode, counterAfter}
+use Rattle.signing_key.specs.Counter.{freshCounter, markCounts, reserved, cleared, counterAfter}
+use Rattle.signing_key.specs.Operations.{reserveCode}
 use Rattle.signing_key.specs.Key.{freshKey, recounted, reservedKey}
 use Rattle.signing_key.specs.declared.Counter.{Counter}
 use Rattle.signing_key.specs.declared.SigningKey.{SigningKey}
@@ -75,7 +76,7 @@ module _ (p : Profile) (seed secret : List ℕ) where
   pub record KeyFrom (key : SigningKey) (n : ℕ) : Type 0 where
     pub of : KeyOf key
     pub reached : n ≤ key .counter .next
-    pub unsigned : marked p (key .counter) ≡ true → n < key .counter .next
+    pub unsigned : markCounts (2 ^ p .height) (key .counter) ≡ true → n < key .counter .next
 
   pub fresh-of : KeyOf (freshKey p seed secret)
   fresh-of = record { same-profile = refl; same-seed = refl; same-secret = refl }
@@ -84,7 +85,7 @@ module _ (p : Profile) (seed secret : List ℕ) where
   recounted-of key c of = record { same-profile = of .same-profile; same-seed = of .same-seed; same-secret = of .same-secret }
 
   pub fresh-from : KeyFrom (freshKey p seed secret) 0
-  fresh-from = record { of = fresh-of; reached = le-refl 0; unsigned = λ e. absurd (true≢false (sym e ∙ cleared-unmarked p freshCounter)) }
+  fresh-from = record { of = fresh-of; reached = le-refl 0; unsigned = λ e. absurd (true≢false (sym e ∙ cleared-unmarked (2 ^ p .height) freshCounter)) }
 
   module _ (key : SigningKey) (n : ℕ) where
     -- Reserve, granted, marks the next leaf; refused, it changes nothing
@@ -102,5 +103,5 @@ module _ (p : Profile) (seed secret : List ℕ) where
         record {
           of = recounted-of key (cleared (key .counter)) of;
           reached = le-refl (key .counter .next);
-          unsigned = λ e. absurd (true≢false (sym e ∙ cleared-unmarked p (key .counter)));
+          unsigned = λ e. absurd (true≢false (sym e ∙ cleared-unmarked (2 ^ p .height) (key .counter)));
         }

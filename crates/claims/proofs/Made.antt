@@ -14,9 +14,9 @@ use Rattle.refusal.proofs.Causes.{none-here, none-of-append}
 use Rattle.profile.specs.Checks.{profileCauses}
 use Rattle.profile.specs.declared.Profile.{Profile}
 use Rattle.profile.proofs.Limits.{profile-numbered, profile-passed, next-fits}
-use Rattle.signing_key.specs.Counter.{marked}
+use Rattle.signing_key.specs.Counter.{markCounts}
 use Rattle.signing_key.specs.declared.SigningKey.{SigningKey}
-use Rattle.signing_key.proofs.CounterLaws.{marked-within}
+use Rattle.signing_key.proofs.CounterLaws.{mark-within}
 use Rattle.counts.specs.Counts.{count}
 use Rattle.counts.specs.Table.{tableLength, tableCauses}
 use Rattle.counts.proofs.Room.{table-numbered}
@@ -75,12 +75,12 @@ module _ (key : SigningKey) (c : SigningCall) where
   granted = eqb (signCode key (c .r) (c .message) (c .work) (c .out)) 0
 
   -- a leaf is marked, and the signature is made with it
-  pub sign-made : granted ≡ true → (marked (key .profile) (key .counter) ≡ true) × Made (key .profile) (key .seed) (key .secret) (leafToSign key) (signedBy key c)
+  pub sign-made : granted ≡ true → (markCounts (2 ^ key .profile .height) (key .counter) ≡ true) × Made (key .profile) (key .seed) (key .secret) (leafToSign key) (signedBy key c)
   unfolding signCode tableCauses signedBy outputAfter keyNumber
   sign-made e =
       let p = key .profile in
       let n = keyNumber key (c .r) (c .message) in
-      let unmarked : Bool = not (marked p (key .counter)) in
+      let unmarked : Bool = not (markCounts (2 ^ p .height) (key .counter)) in
       let counted : List (Bool × ℕ) = (countTooSmall (count (p .shape)), 19) ∷ [] in
       let leaf : List (Bool × ℕ) = (unmarked, 20) ∷ counted in
       let output : List (Bool × ℕ) = (ltb (length (c .out)) (signatureLength p), 6) ∷ leaf in
@@ -88,8 +88,8 @@ module _ (key : SigningKey) (c : SigningCall) where
       let text = none-here (outsideText (length (c .message))) 16 output refl (table .1) in
       let room = none-here (ltb (length (c .out)) (signatureLength p)) 6 leaf refl (text .1) in
       let found = none-here unmarked 20 counted refl (room .1) in
-      let mark = not-false (marked p (key .counter)) (found .0) in
-      let within = marked-within p (key .counter) mark in (
+      let mark = not-false (markCounts (2 ^ p .height) (key .counter)) (found .0) in
+      let within = mark-within (2 ^ p .height) (key .counter) mark in (
         mark,
         record {
           r = c .r;
@@ -113,7 +113,7 @@ module _ (key : SigningKey) (c : SigningCall) where
         let one = signedBy key c in
         let of = from .of in
         let known = sign-made e in
-        let mark : marked p (key .counter) ≡ true = rw (← of .same-profile) (known .0) in
+        let mark : markCounts (2 ^ p .height) (key .counter) ≡ true = rw (← of .same-profile) (known .0) in
         let made : Made p seed secret (leafToSign key) one = rw (← of .same-profile, ← of .same-seed, ← of .same-secret) (known .1) in
         let own = made-read p seed secret (leafToSign key) one made .own-leaf in
         let above = from .unsigned mark in

@@ -13,7 +13,8 @@ use Rattle.refusal.specs.Code.{firstCause}
 use Rattle.profile.specs.Checks.{profileCauses}
 use Rattle.profile.specs.declared.Profile.{Profile}
 use Rattle.profile.proofs.Limits.{profile-passed, leaves-few}
-use Rattle.signing_key.specs.Counter.{reserved, cleared, reserveCode, counterAfter}
+use Rattle.signing_key.specs.Counter.{reserved, cleared, counterAfter}
+use Rattle.signing_key.specs.Operations.{reserveCode}
 use Rattle.signing_key.specs.Key.{freshKey, reservedKey}
 use Rattle.signing_key.specs.declared.Counter.{Counter}
 use Rattle.signing_key.specs.declared.SigningKey.{SigningKey}
@@ -123,7 +124,7 @@ module _ (p : Profile) (seed secret : List ℕ) (seed-bytes : SeedBytes seed) (s
 
         by : (granted : Bool) → eqb (reserveCode (d .key .profile) counter) 0 ≡ granted → DeskFrom (afterReserve d) n
         by true e =
-            let left : counter .next < 2 ^ p .height = rw (at .from .of .same-profile) at (can-reserve (d .key .profile) counter (eqb-true _ 0 e) .left) in
+            let left : counter .next < 2 ^ p .height = rw (at .from .of .same-profile) at (can-reserve (d .key .profile) counter (eqb-true _ 0 e) .1 .left) in
             rw e
             (record {
               from = rw e at from;
@@ -233,7 +234,7 @@ module _ (p : Profile) (seed secret : List ℕ) (seed-bytes : SeedBytes seed) (s
           from = record {
             of = recounted-of p seed secret (left .key) (cleared (left .key .counter)) (left .of);
             reached = omega (arith, left .at);
-            unsigned = λ e. absurd (true≢false (sym e ∙ cleared-unmarked p (left .key .counter)));
+            unsigned = λ e. absurd (true≢false (sym e ∙ cleared-unmarked (2 ^ p .height) (left .key .counter)));
           };
           in-tree = omega (arith, left .at);
           old = m;

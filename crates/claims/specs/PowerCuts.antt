@@ -11,7 +11,7 @@ use Rattle.profile.specs.Checks.{profileCauses}
 use Rattle.profile.specs.declared.Profile.{Profile}
 use Rattle.tweak.specs.Tweak.{firstDomain}
 use Rattle.tree.specs.Tree.{rootOf}
-use Rattle.signing_key.specs.Counter.{reserveCode}
+use Rattle.signing_key.specs.Operations.{reserveCode}
 use Rattle.signing_key.specs.Key.{freshKey, reservedKey, restartedKey}
 use Rattle.signing_key.specs.declared.SigningKey.{SigningKey}
 use Rattle.stored_key.specs.KeyFrame.{storedKey, readStored}

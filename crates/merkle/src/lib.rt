@@ -4,12 +4,12 @@ ghost use Prim.Native.Nat.{_+_, _*_, _^_, _≤_, _<_};
 ghost use lib.ListN.{length, drop};
 ghost use Rattle.tweak.specs.Tweak.{Seeded};
 ghost use Rattle.merkle.specs.Nodes.{parentOf, sibling as siblingOf, climbedOnce, climbed};
+use octets::read_16;
 use tweak::Hasher;
 use tweak::absorb;
 use tweak::begin;
 use tweak::end;
 use tweak::node_address;
-use octets::read_16;
 
 // The hash of two children, by the height and index of the node made.
 pub fn parent(hasher: Hasher, height: u32, index: u32, left: [u8; 16], right: [u8; 16]) -> [u8; 16]

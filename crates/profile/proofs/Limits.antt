@@ -1,15 +1,15 @@
 -- What the checks of a profile tell: a shape that passes is within its limits, and so are the height and the edition of a profile. The number of leaves, and a leaf's, fit a word.
-use mathlib.Core.Path.{_≡_, refl}
+use mathlib.Core.Path.{_≡_, refl, sym, _∙_}
 use mathlib.Core.Bool.{Bool, true, false, _||_, true≢false}
 use mathlib.Core.List.{List, [], _∷_}
 use Prim.Native.Nat.{ℕ, _+_, _-_, _*_, _^_, _<_, _≤_}
 use native.Mathlib.Nat.{le-trans, mul-le-mul, pow-le-pow-right}
 use native.Mathlib.Omega.{arith}
-use borrow.Author.Tests.{lt-ltb, le-ltb, ltb-false, leb-false, ne-eqb}
-use lib.Dec.{ltb, lit<}
+use borrow.Author.Tests.{lt-ltb, le-ltb, lt-leb, ltb-true, ltb-false, leb-false, ne-eqb}
+use lib.Dec.{ltb, leb, lit<}
 use Rattle.refusal.specs.Code.{firstCause}
 use Rattle.refusal.proofs.Causes.{Without, Numbered, without-append, smaller-number, none-here, none-of-append}
-use Rattle.profile.specs.Checks.{outside, shapeCauses, InLimits, profileCauses, leafBeyond}
+use Rattle.profile.specs.Checks.{outside, shapeCauses, InLimits, profileCauses, leafBeyond, countedLeaves}
 use Rattle.profile.specs.declared.Shape.{Shape}
 use Rattle.profile.specs.declared.Profile.{Profile}
 
@@ -90,6 +90,26 @@ sum-small p h = le-trans (h .reached) (mul-le-mul {n₂ = 40} {m₂ = 15} (h .fe
 pub leaf-within : (h leaf : ℕ) → leafBeyond h leaf ≡ false → leaf < 2 ^ h
 unfolding leafBeyond
 leaf-within h leaf e = leb-false (2 ^ h) leaf e
+
+-- the leaves counted: they are 2^h for a height below 32, and past every 32-bit leaf otherwise, as 2^h is
+pub counted-few : (h : ℕ) → h < 32 → countedLeaves h ≡ 2 ^ h
+unfolding countedLeaves
+counted-few h low = rw (lt-ltb h 32 low)
+
+pub counted-most : (h : ℕ) → 32 ≤ h → countedLeaves h ≡ 2 ^ 32
+unfolding countedLeaves
+counted-most h high = rw (le-ltb h 32 high)
+
+pub counted-leaves : (h leaf : ℕ) → leaf < 2 ^ 32 → (leb (countedLeaves h) leaf ≡ leb (2 ^ h) leaf) × (ltb (countedLeaves h) leaf ≡ ltb (2 ^ h) leaf)
+counted-leaves h leaf word = by (ltb h 32) refl
+  where
+    by : (low : Bool) → ltb h 32 ≡ low → (leb (countedLeaves h) leaf ≡ leb (2 ^ h) leaf) × (ltb (countedLeaves h) leaf ≡ ltb (2 ^ h) leaf)
+    by true e = rw (counted-few h (ltb-true h 32 e)) (refl, refl)
+    by false e =
+        let high = ltb-false h 32 e in
+        let large : 2 ^ 32 ≤ 2 ^ h = pow-le-pow-right {n = 2} (lit< tt) high in
+        rw (counted-most h high)
+        (lt-leb (2 ^ 32) leaf word ∙ sym (lt-leb (2 ^ h) leaf (omega arith)), le-ltb (2 ^ 32) leaf (omega arith) ∙ sym (le-ltb (2 ^ h) leaf (omega arith)))
 
 -- a tree has at most 1,024 leaves, so the number behind a leaf's fits a word
 pub leaves-few : (h : ℕ) → h ≤ 10 → 2 ^ h ≤ 1024

@@ -1,11 +1,12 @@
 -- Document 01, Profile, and "Profile checks: 1 l, 2 w, 3 s, 4 h outside its range"; document 02, point 6: the edition.
-use mathlib.Core.Bool.{Bool, _||_}
+use mathlib.Core.Bool.{Bool, _||_, cond}
 use mathlib.Core.List.{List, [], _∷_, _++_}
 use Prim.Native.Nat.{ℕ, _-_, _*_, _^_, _≤_}
 use lib.Dec.{ltb, leb}
 use Rattle.profile.specs.declared.Shape.{Shape}
 use Rattle.profile.specs.declared.Profile.{Profile}
 
+-- below the low limit or above the high one
 abbrev pub outside : ℕ → ℕ → ℕ → Bool
 outside low high x = ltb x low || ltb high x
 
@@ -26,6 +27,10 @@ pub record InLimits (p : Shape) : Type 0 where
 unfoldable pub profileCauses : Profile → List (Bool × ℕ)
 profileCauses p = shapeCauses (p .shape) ++ ((outside 0 10 (p .height), 4) ∷ (outside 1 2 (p .edition), 22) ∷ [])
 
--- 11 and 12: "leaf not below 2^h"
+-- 2^h, as far as a 32-bit leaf tells: the code counts leaves in 64 bits
+unfoldable pub countedLeaves : (h : ℕ) → ℕ
+countedLeaves h = cond (ltb h 32) (2 ^ h) (2 ^ 32)
+
+-- 11: "leaf not below 2^h"
 unfoldable pub leafBeyond : (h leaf : ℕ) → Bool
 leafBeyond h leaf = leb (2 ^ h) leaf

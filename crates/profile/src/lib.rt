@@ -1,8 +1,8 @@
 // A profile and its checks.
 ghost use mathlib.Core.Path.{_≡_};
-ghost use Prim.Native.Nat.{_-_, _*_, _^_, _≤_};
+ghost use Prim.Native.Nat.{_-_, _*_};
 ghost use Rattle.refusal.specs.Code.{outcomeCode, firstCause};
-ghost use Rattle.profile.specs.Checks.{outside as outsideOf, shapeCauses, profileCauses, leafBeyond};
+ghost use Rattle.profile.specs.Checks.{outside as outsideOf, shapeCauses, profileCauses, leafBeyond, countedLeaves};
 use refusal::Outcome;
 use refusal::Refusal;
 
@@ -64,21 +64,16 @@ pub fn check_profile(p: Profile) -> Outcome
         .then(outside(1, 2, edition), Refusal::Edition)
 }
 
-// How many leaves a tree has: 2^h.
-fn capacity(height: u32) -> u32
-    requires { ⌜ height ≤ 31 ⌝ }
-    ensures { λ r. ⌜ r ≡ 2 ^ height ⌝ }
+// How many leaves a tree has, as far as a 32-bit leaf tells: 2^h, and from a height of 32 on room for every one.
+pub fn leaf_count(height: u32) -> u64
+    ensures { λ r. ⌜ r ≡ countedLeaves height ⌝ }
 {
-    1 << height
+    if height < 32 { 1 << height } else { 1 << 32 }
 }
 
-// Whether a leaf is not below 2^h. A height of 32 or more has room for every 32-bit leaf.
+// Whether a leaf is not below 2^h.
 pub fn leaf_beyond(height: u32, leaf: u32) -> bool
     ensures { λ r. ⌜ r ≡ leafBeyond height leaf ⌝ }
 {
-    if height < 32 {
-        capacity(height) <= leaf
-    } else {
-        false
-    }
+    leaf_count(height) <= leaf as u64
 }

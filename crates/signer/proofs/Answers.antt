@@ -18,10 +18,10 @@ use Rattle.refusal.proofs.Causes.{Avoids, none-here, refused-number, code-kept}
 use Rattle.octets.specs.Bytes.{toBytes}
 use Rattle.profile.specs.Checks.{InLimits}
 use Rattle.profile.specs.declared.Shape.{Shape}
-use Rattle.signing_key.specs.Counter.{marked, cleared}
+use Rattle.signing_key.specs.Counter.{markCounts, cleared}
 use Rattle.signing_key.specs.Key.{recounted}
 use Rattle.signing_key.specs.declared.SigningKey.{SigningKey}
-use Rattle.signing_key.proofs.CounterLaws.{marked-within}
+use Rattle.signing_key.proofs.CounterLaws.{mark-within}
 use Rattle.counts.specs.Counts.{count}
 use Rattle.counts.specs.Table.{withTable, tableCauses, leavesTable, tableAfter}
 use Rattle.counts.proofs.Room.{TablePassed, table-early, table-passed}
@@ -94,12 +94,12 @@ module _ (key : SigningKey) (r message work out : List ℕ) {n m : ℕ} (checked
   sign-fits q =
       let none = none-before first own early between before q in
       let passed = table-passed (key .profile) (length work) (none .0) in
-      let unmarked : Bool = not (marked (key .profile) (key .counter)) in
+      let unmarked : Bool = not (markCounts (2 ^ key .profile .height) (key .counter)) in
       let last : List (Bool × ℕ) = (unmarked, 20) ∷ [] in
       let size = ltb (length out) (signatureLength (key .profile)) in
       let text = none-here (outsideText (length message)) 16 ((size, 6) ∷ last) refl (none .1) in
       let room = none-here size 6 last refl (text .1) in
-      let leaf = marked-within (key .profile) (key .counter) (not-false _ (none-here unmarked 20 [] refl (room .1) .0)) in
+      let leaf = mark-within (2 ^ key .profile .height) (key .counter) (not-false _ (none-here unmarked 20 [] refl (room .1) .0)) in
       record {
         limits = passed .limits;
         low = passed .low;

@@ -3,13 +3,13 @@
 use mathlib.Core.Path.{_≡_}
 use mathlib.Core.Bool.{Bool, not, cond}
 use mathlib.Core.List.{List, [], _∷_, _++_}
-use Prim.Native.Nat.{ℕ}
+use Prim.Native.Nat.{ℕ, _^_}
 use lib.Dec.{ltb, eqb}
 use lib.ListN.{length, drop}
 use Rattle.refusal.specs.Code.{outcomeCode, firstCause}
 use Rattle.octets.specs.Bytes.{toBytes}
 use Rattle.profile.specs.declared.Profile.{Profile}
-use Rattle.signing_key.specs.Counter.{marked, markedLeaf, cleared}
+use Rattle.signing_key.specs.Counter.{markCounts, markedLeaf, cleared}
 use Rattle.signing_key.specs.Key.{recounted}
 use Rattle.signing_key.specs.declared.SigningKey.{SigningKey}
 use Rattle.counts.specs.Counts.{count}
@@ -40,7 +40,7 @@ signatureOf d p secret leaf n r =
 -- "16 order text empty or over 200 bytes; 6 (20 + 16 × l + 16 × h)", and "20 when sign finds no mark, in 12's place"
 abbrev pub orderCauses : SigningKey → (text bytes : ℕ) → List (Bool × ℕ)
 orderCauses key text bytes =
-    (outsideText text, 16) ∷ (ltb bytes (signatureLength (key .profile)), 6) ∷ (not (marked (key .profile) (key .counter)), 20) ∷ []
+    (outsideText text, 16) ∷ (ltb bytes (signatureLength (key .profile)), 6) ∷ (not (markCounts (2 ^ key .profile .height) (key .counter)), 20) ∷ []
 
 -- "profile checks, 5; 16 …; 6 …; 12 …; 7", with 20 "in 12's place" and 19 "in 7's place"
 unfoldable pub signCode : SigningKey → (r message work out : List ℕ) → ℕ

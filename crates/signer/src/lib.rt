@@ -30,7 +30,7 @@ use refusal::Outcome;
 use refusal::Refusal;
 use signing_key::SigningKey;
 use signing_key::clear;
-use signing_key::marked;
+use signing_key::mark_stands;
 use signing_key::with_counter;
 use tree::write_path;
 use tweak::Hasher;
@@ -45,7 +45,7 @@ fn sign_outcome(checked: Outcome, key: SigningKey, text: usize, bytes: usize) ->
     let outside = outside_text(text);
     let short = bytes < signature_length(p);
     let counter = key.counter;
-    let unmarked = !marked(p, counter);
+    let unmarked = !mark_stands(p, counter);
     checked
         .then(outside, Refusal::MessageLength)
         .then(short, Refusal::OutputTooShort)

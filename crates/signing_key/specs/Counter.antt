@@ -1,12 +1,11 @@
--- Document 02, point 5: "Reserve marks the next leaf and advances the key". What of a key counts its leaves, and what Reserve does to it.
+-- Document 02, point 5: "Reserve marks the next leaf and advances the key". What of a key counts its leaves, and what Reserve does to it, over any number of leaves.
 use mathlib.Core.Path.{_≡_}
 use mathlib.Core.Bool.{Bool, true, false, not, _&&_, cond}
-use mathlib.Core.List.{List, [], _∷_, _++_}
-use Prim.Native.Nat.{ℕ, _+_, _-_, _^_}
-use lib.Dec.{eqb}
-use Rattle.refusal.specs.Code.{outcomeCode, firstCause}
-use Rattle.profile.specs.Checks.{outside, profileCauses, leafBeyond}
-use Rattle.profile.specs.declared.Profile.{Profile}
+use mathlib.Core.List.{List, [], _∷_}
+use Prim.Native.Nat.{ℕ, _+_, _-_}
+use lib.Dec.{eqb, leb}
+use Rattle.refusal.specs.Code.{outcomeCode}
+use Rattle.profile.specs.Checks.{outside}
 use Rattle.signing_key.specs.declared.Counter.{Counter}
 use Rattle.signing_key.specs.declared.Reserved.{Reserved}
 
@@ -14,17 +13,17 @@ use Rattle.signing_key.specs.declared.Reserved.{Reserved}
 abbrev pub freshCounter : Counter
 freshCounter = record { next = 0; mark = false }
 
--- "A mark counts only with a next leaf of 1 to 2^h", and otherwise is "met as none"
-unfoldable pub marked : Profile → Counter → Bool
-marked p c = c .mark && not (outside 1 (2 ^ p .height) (c .next))
+-- "A mark counts only with a next leaf of 1 to 2^h", and otherwise is "met as none": of so many leaves
+unfoldable pub markCounts : (leaves : ℕ) → Counter → Bool
+markCounts leaves c = c .mark && not (outside 1 leaves (c .next))
 
 -- the marked leaf: Reserve has advanced the key past it
 abbrev pub markedLeaf : Counter → ℕ
 markedLeaf c = c .next - 1
 
 -- "12 next leaf not below 2^h"
-unfoldable pub spent : Profile → Counter → Bool
-spent p c = leafBeyond (p .height) (c .next)
+unfoldable pub spent : (leaves : ℕ) → Counter → Bool
+spent leaves c = leb leaves (c .next)
 
 -- "Reserve marks the next leaf and advances the key"
 abbrev pub reserved : Counter → Counter
@@ -34,18 +33,15 @@ reserved c = record { next = c .next + 1; mark = true }
 abbrev pub cleared : Counter → Counter
 cleared c = record { next = c .next; mark = false }
 
--- "Reserve gives the profile checks and 12"; "21 when reserve finds a mark, before 12"
-abbrev pub reserveCauses : Profile → Counter → List (Bool × ℕ)
-reserveCauses p c = profileCauses p ++ ((marked p c, 21) ∷ (spent p c, 12) ∷ [])
+-- "21 when reserve finds a mark, before 12"
+abbrev pub counterCauses : (leaves : ℕ) → Counter → List (Bool × ℕ)
+counterCauses leaves c = (markCounts leaves c, 21) ∷ (spent leaves c, 12) ∷ []
 
-unfoldable pub reserveCode : Profile → Counter → ℕ
-reserveCode p c = firstCause (reserveCauses p c)
+-- the counter that comes back with the number of a cause, or 0: refused, as it came, an idle mark included
+unfoldable pub counterAfter : (number : ℕ) → Counter → Counter
+counterAfter number c = cond (eqb number 0) (reserved c) c
 
--- what comes back: refused, the counter as it came, an idle mark included
-unfoldable pub counterAfter : Profile → Counter → Counter
-counterAfter p c = cond (eqb (reserveCode p c) 0) (reserved c) c
-
--- what Reserve answers
-pub record Reserves (p : Profile) (c : Counter) (answer : Reserved) : Type 0 where
-  pub code : outcomeCode (answer .outcome) ≡ reserveCode p c
-  pub counter : answer .counter ≡ counterAfter p c
+-- the answer with that number, and the counter that comes back with it
+pub record AnswersWith (number : ℕ) (c : Counter) (answer : Reserved) : Type 0 where
+  pub code : outcomeCode (answer .outcome) ≡ number
+  pub counter : answer .counter ≡ counterAfter number c

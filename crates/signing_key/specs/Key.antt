@@ -3,6 +3,7 @@ use mathlib.Core.List.{List}
 use Prim.Native.Nat.{ℕ}
 use Rattle.profile.specs.declared.Profile.{Profile}
 use Rattle.signing_key.specs.Counter.{freshCounter, counterAfter, cleared}
+use Rattle.signing_key.specs.Operations.{reserveCode}
 use Rattle.signing_key.specs.declared.Counter.{Counter}
 use Rattle.signing_key.specs.declared.SigningKey.{SigningKey}
 
@@ -20,7 +21,7 @@ recounted key c = keyWith (key .profile) (key .seed) (key .secret) c
 
 -- the key that comes back from Reserve
 abbrev pub reservedKey : SigningKey → SigningKey
-reservedKey key = recounted key (counterAfter (key .profile) (key .counter))
+reservedKey key = recounted key (counterAfter (reserveCode (key .profile) (key .counter)) (key .counter))
 
 -- "a restart … with the mark cleared"
 abbrev pub restartedKey : SigningKey → SigningKey

@@ -1,12 +1,13 @@
 // A key, the counter of its leaves, and Reserve.
 ghost use mathlib.Core.Path.{_≡_};
 ghost use Prim.Native.Nat.{_+_, _^_, _<_};
-ghost use Rattle.refusal.specs.Code.{outcomeCode, firstCause};
+ghost use Rattle.refusal.specs.Code.{outcomeCode, thenFirst};
 ghost use Rattle.signing_key.specs.Counter as spec;
 ghost use Rattle.signing_key.specs.Key.{recounted, restartedKey};
+ghost use Rattle.signing_key.specs.Operations.{Reserves};
 use profile::Profile;
 use profile::check_profile;
-use profile::leaf_beyond;
+use profile::leaf_count;
 use refusal::Outcome;
 use refusal::Refusal;
 
@@ -25,38 +26,39 @@ pub struct SigningKey {
 }
 
 // Whether a leaf is reserved: there is a mark, and it counts.
-pub fn marked(p: Profile, c: Counter) -> bool
-    ensures { λ r. ⌜ r ≡ spec.marked p c ⌝ }
+fn mark_counts(leaves: u64, c: Counter) -> bool
+    ensures { λ r. ⌜ r ≡ spec.markCounts leaves c ⌝ }
 {
-    let height = p.height;
-    let next = c.next;
+    let next = c.next as u64;
     if c.mark {
-        if next == 0 {
-            false
-        } else {
-            !leaf_beyond(height, next - 1)
-        }
+        if next == 0 { false } else { next <= leaves }
     } else {
         false
     }
 }
 
-// Whether no leaf is left.
-fn spent(p: Profile, c: Counter) -> bool
-    ensures { λ r. ⌜ r ≡ spec.spent p c ⌝ }
+// Whether a leaf of a profile's tree is reserved.
+pub fn mark_stands(p: Profile, c: Counter) -> bool
+    ensures { λ r. ⌜ r ≡ spec.markCounts (2 ^ p .height) c ⌝ }
 {
     let height = p.height;
-    let next = c.next;
-    leaf_beyond(height, next)
+    mark_counts(leaf_count(height), c)
 }
 
-// The causes of Reserve.
-fn reserve_outcome(p: Profile, c: Counter) -> Outcome
-    ensures { λ r. ⌜ outcomeCode r ≡ firstCause (spec.reserveCauses p c) ⌝ }
+// Whether no leaf is left.
+fn spent(leaves: u64, c: Counter) -> bool
+    ensures { λ r. ⌜ r ≡ spec.spent leaves c ⌝ }
 {
-    let standing = marked(p, c);
-    let used = spent(p, c);
-    check_profile(p)
+    leaves <= c.next as u64
+}
+
+// The causes of Reserve behind the outcome of the checks: 21, then 12.
+fn reserve_outcome(checked: Outcome, leaves: u64, c: Counter) -> Outcome
+    ensures { λ r. ⌜ outcomeCode r ≡ thenFirst (outcomeCode checked) (spec.counterCauses leaves c) ⌝ }
+{
+    let standing = mark_counts(leaves, c);
+    let used = spent(leaves, c);
+    checked
         .then(standing, Refusal::MarkStands)
         .then(used, Refusal::KeySpent)
 }
@@ -78,11 +80,12 @@ pub struct Reserved {
     pub counter: Counter,
 }
 
-// Reserve: marks the next leaf. The key's seeds have no part in it. The desk stores the key before it signs.
-pub fn reserve(p: Profile, c: Counter) -> Reserved
-    ensures { λ answer. ⌜ spec.Reserves p c answer ⌝ }
+// Reserve over a number of leaves, behind the outcome of a key's checks.
+pub fn reserve_leaf(checked: Outcome, leaves: u64, c: Counter) -> Reserved
+    requires { ⌜ (outcomeCode checked ≡ 0 → leaves < 2 ^ 32) ⌝ }
+    ensures { λ answer. ⌜ spec.AnswersWith (thenFirst (outcomeCode checked) (spec.counterCauses leaves c)) c answer ⌝ }
 {
-    let outcome = reserve_outcome(p, c);
+    let outcome = reserve_outcome(checked, leaves, c);
     match outcome {
         Outcome::Refused(_) => Reserved {
             outcome: outcome,
@@ -96,6 +99,14 @@ pub fn reserve(p: Profile, c: Counter) -> Reserved
             }
         }
     }
+}
+
+// Reserve: marks the next leaf. The key's seeds have no part in it. The desk stores the key before it signs.
+pub fn reserve(p: Profile, c: Counter) -> Reserved
+    ensures { λ answer. ⌜ Reserves p c answer ⌝ }
+{
+    let height = p.height;
+    reserve_leaf(check_profile(p), leaf_count(height), c)
 }
 
 // The counter without a mark.

@@ -1,5 +1,5 @@
 -- The bytes of the key that stands in some bytes are those bytes.
-use mathlib.Core.Path.{_≡_, refl, sym, _∙_}
+use mathlib.Core.Path.{_≡_, refl, sym, ap, _∙_}
 use mathlib.Core.Bool.{Bool, true, false, cond}
 use mathlib.Core.List.{List, [], _∷_, _++_, append-assoc}
 use Prim.Native.Nat.{ℕ, zero, suc, _+_, _*_, _/_, _%_, _^_, _≤_, _<_}
@@ -11,6 +11,7 @@ use lib.Seq.{drop-cons, drop-drop}
 use Rattle.octets.specs.Bytes.{fromBytes, toBytes}
 use Rattle.lists.proofs.Lists.{Below, drop-two, part-4}
 use Rattle.frames.specs.Frames.{editionByte}
+use Rattle.stored_key.specs.KeyFields.{chainsField, widthField, heightField, sumField, seedField, secretField, nextField, markField, offset, keyLength, fieldIn, byteIn}
 use Rattle.stored_key.specs.KeyFrame.{keyBytes, keyIn}
 
 -- a number's bytes are those that it was made of
@@ -38,29 +39,51 @@ mark-again zero h = refl
 mark-again (suc zero) h = refl
 mark-again (suc (suc m)) h = absurd (omega arith)
 
+five-apart : (a b c d e : List ℕ) → a ++ b ++ c ++ d ++ e ≡ a ++ (b ++ (c ++ (d ++ e)))
+five-apart a b c d e = append-assoc (a ++ b ++ c) d e ∙ append-assoc (a ++ b) c (d ++ e) ∙ append-assoc a b (c ++ (d ++ e))
+
 module _ (bytes : List ℕ) where
   -- a part in front of what stands behind it
   part-behind : (at n : ℕ) → take n (drop at bytes) ++ drop (at + n) bytes ≡ drop at bytes
   part-behind at n = rw (← drop-drop n at bytes) (take-append-drop n (drop at bytes))
 
-  module _ (below : Below 256 bytes) (some : 42 ≤ length bytes) (few : length bytes ≤ 43) where
-    sum-again : toBytes 2 (fromBytes (take 2 (drop 3 bytes))) ≡ take 2 (drop 3 bytes)
-    sum-again = rw (drop-two 0 bytes 3 (omega arith)) (two-again (getD bytes 3 0) (getD bytes 4 0) (below 3) (below 4))
+  module _ (below : Below 256 bytes) (some : keyLength ≤ length bytes) (few : length bytes ≤ keyLength + 1) where
+    sum-again : toBytes 2 (fromBytes (fieldIn sumField bytes)) ≡ fieldIn sumField bytes
+    sum-again = rw (drop-two 0 bytes (offset sumField) (omega arith)) (two-again _ _ (below (offset sumField)) (below (offset sumField + 1)))
 
-    next-again : toBytes 4 (fromBytes (take 4 (drop 37 bytes))) ≡ take 4 (drop 37 bytes)
-    next-again = rw (part-4 0 bytes 37 (omega arith)) (four-again (getD bytes 37 0) (getD bytes 38 0) (getD bytes 39 0) (getD bytes 40 0) (below 37) (below 38) (below 39) (below 40))
+    next-again : toBytes 4 (fromBytes (fieldIn nextField bytes)) ≡ fieldIn nextField bytes
+    next-again = let at : ℕ = offset nextField in rw (part-4 0 bytes (offset nextField) (omega arith)) (four-again _ _ _ _ (below at) (below (at + 1)) (below (at + 2)) (below (at + 3)))
 
     -- the edition's byte
-    edition-again : getD bytes 42 2 ≡ 2 → editionByte (cond (eqb (length bytes) 43) 2 1) ≡ drop 42 bytes
+    edition-again : getD bytes keyLength 2 ≡ 2 → editionByte (cond (eqb (length bytes) (keyLength + 1)) 2 1) ≡ drop keyLength bytes
     unfolding editionByte
-    edition-again last = by (eqb (length bytes) 43) refl
+    edition-again last = by (eqb (length bytes) (keyLength + 1)) refl
       where
-        by : (second : Bool) → eqb (length bytes) 43 ≡ second → editionByte (cond second 2 1) ≡ drop 42 bytes
-        by true e = let long = eqb-true (length bytes) 43 e in sym (drop-cons bytes 42 2 (omega arith) ∙ rw (last, drop-of-length-le bytes {i = 43} (omega arith)))
-        by false e = let other = eqb-false (length bytes) 43 e in sym (drop-of-length-le bytes {i = 42} (omega arith))
+        by : (second : Bool) → eqb (length bytes) (keyLength + 1) ≡ second → editionByte (cond second 2 1) ≡ drop keyLength bytes
+        by true e = let long = eqb-true (length bytes) (keyLength + 1) e in sym (drop-cons bytes keyLength 2 (omega arith) ∙ rw (last, drop-of-length-le bytes {i = keyLength + 1} (omega arith)))
+        by false e = let other = eqb-false (length bytes) (keyLength + 1) e in sym (drop-of-length-le bytes {i = keyLength} (omega arith))
 
-    pub bytes-again : getD bytes 41 0 < 2 → getD bytes 42 2 ≡ 2 → keyBytes (keyIn bytes) ≡ bytes
+    -- what stands from where each field begins
+    from-mark : byteIn markField bytes < 2 → getD bytes keyLength 2 ≡ 2
+        → cond (eqb (byteIn markField bytes) 1) 1 0 ∷ editionByte (cond (eqb (length bytes) (keyLength + 1)) 2 1) ≡ drop (offset markField) bytes
+    from-mark mark last =
+        rw (mark-again (byteIn markField bytes) mark, edition-again last) (sym (drop-cons bytes (offset markField) 0 (omega arith)))
+
+    from-next : toBytes 4 (fromBytes (fieldIn nextField bytes)) ++ drop (offset markField) bytes ≡ drop (offset nextField) bytes
+    from-next = ap (λ l. l ++ drop (offset markField) bytes) next-again ∙ part-behind (offset nextField) 4
+
+    from-sum : toBytes 2 (fromBytes (fieldIn sumField bytes)) ++ drop (offset seedField) bytes ≡ drop (offset sumField) bytes
+    from-sum = ap (λ l. l ++ drop (offset seedField) bytes) sum-again ∙ part-behind (offset sumField) 2
+
+    pub bytes-again : byteIn markField bytes < 2 → getD bytes keyLength 2 ≡ 2 → keyBytes (keyIn bytes) ≡ bytes
     unfolding keyBytes keyIn
     bytes-again mark last =
-        rw
-        (sum-again, next-again, edition-again last, mark-again (getD bytes 41 0) mark, ← drop-cons bytes 41 0 (omega arith), append-assoc, part-behind 37 4, append-assoc, part-behind 21 16, append-assoc, part-behind 5 16, part-behind 3 2, ← drop-cons bytes 2 0 (omega arith), ← drop-cons bytes 1 0 (omega arith), ← drop-cons bytes 0 0 (omega arith))
+        let sum : List ℕ = toBytes 2 (fromBytes (fieldIn sumField bytes)) in
+        let seed : List ℕ = fieldIn seedField bytes in
+        let secret : List ℕ = fieldIn secretField bytes in
+        let next : List ℕ = toBytes 4 (fromBytes (fieldIn nextField bytes)) in
+        let behind =
+        five-apart sum seed secret next _ ∙ ap (λ l. sum ++ (seed ++ (secret ++ (next ++ l)))) (from-mark mark last) ∙ ap (λ l. sum ++ (seed ++ (secret ++ l))) from-next
+        ∙ ap (λ l. sum ++ (seed ++ l)) (part-behind (offset secretField) 16) ∙ ap (λ l. sum ++ l) (part-behind (offset seedField) 16) ∙ from-sum in
+        ap (λ l. byteIn chainsField bytes ∷ byteIn widthField bytes ∷ byteIn heightField bytes ∷ l) behind
+        ∙ rw (← drop-cons bytes (offset heightField) 0 (omega arith), ← drop-cons bytes (offset widthField) 0 (omega arith), ← drop-cons bytes (offset chainsField) 0 (omega arith))

@@ -16,10 +16,11 @@ use Rattle.profile.specs.Checks.{outside, profileCauses}
 use Rattle.profile.proofs.Limits.{profile-passed, profile-limits, sum-small}
 use Rattle.frames.specs.Frames.{editionByte}
 use Rattle.frames.proofs.FrameNumbers.{edition-byte}
-use Rattle.signing_key.specs.Counter.{marked}
+use Rattle.signing_key.specs.Counter.{markCounts}
 use Rattle.signing_key.specs.declared.SigningKey.{SigningKey}
+use Rattle.stored_key.specs.KeyFields.{chainsField, widthField, heightField, sumField, seedField, secretField, nextField, markField, offset, keyLength, fieldIn, byteIn}
 use Rattle.stored_key.specs.KeyFrame.{keyBytes, keyIn, met}
-use Rattle.stored_key.specs.Parts.{frontBytes, lastBytes}
+use Rattle.stored_key.specs.inner.Parts.{place, lastLength, frontBytes, lastBytes}
 use Rattle.stored_key.specs.RoundTrip.{Held}
 
 and-again : (a b : Bool) → (a && b && b) ≡ (a && b)
@@ -29,7 +30,7 @@ and-again false b = refl
 
 -- a mark that counts still counts once it is met
 pub met-met : (key : SigningKey) → met (met key) ≡ met key
-unfolding met marked
+unfolding met markCounts
 met-met key = rw (and-again (key .counter .mark) (not (outside 1 (2 ^ key .profile .height) (key .counter .next))))
 
 pub met-profile : (key : SigningKey) → met key .profile ≡ key .profile
@@ -41,11 +42,11 @@ unfolding met
 met-held key held = record { seed-long = held .seed-long; seed-bytes = held .seed-bytes; secret-long = held .secret-long; secret-bytes = held .secret-bytes; next-fits = held .next-fits }
 
 -- the edition is told by the number of bytes
-edition-told : (edition : ℕ) → 1 ≤ edition → edition ≤ 2 → cond (eqb (42 + length (editionByte edition)) 43) 2 1 ≡ edition
+edition-told : (edition : ℕ) → 1 ≤ edition → edition ≤ 2 → cond (eqb (keyLength + length (editionByte edition)) (keyLength + 1)) 2 1 ≡ edition
 unfolding editionByte
 edition-told edition low high = by (eqb edition 2) refl
   where
-    by : (second : Bool) → eqb edition 2 ≡ second → cond (eqb (42 + length (cond {A = List ℕ} second (2 ∷ []) [])) 43) 2 1 ≡ edition
+    by : (second : Bool) → eqb edition 2 ≡ second → cond (eqb (keyLength + length (cond {A = List ℕ} second (2 ∷ []) [])) (keyLength + 1)) 2 1 ≡ edition
     by true e = sym (eqb-true edition 2 e)
     by false e = let other = eqb-false edition 2 e in omega arith
 
@@ -71,17 +72,17 @@ module _ (key : SigningKey) where
   unfolding keyBytes
   key-parts = append-assoc (front ++ key .seed ++ key .secret) (toBytes 4 (key .counter .next)) (cond (key .counter .mark) 1 0 ∷ editionByte (key .profile .edition))
 
-  pub key-bytes-long : length (key .seed) ≡ 16 → length (key .secret) ≡ 16 → length (keyBytes key) ≡ 42 + length (editionByte (key .profile .edition))
+  pub key-bytes-long : length (key .seed) ≡ 16 → length (key .secret) ≡ 16 → length (keyBytes key) ≡ keyLength + length (editionByte (key .profile .edition))
   unfolding toBytes
   key-bytes-long seed secret =
       omega (arith, ap length key-parts, length-append (front ++ key .seed ++ key .secret) last, length-append (front ++ key .seed) (key .secret), length-append front (key .seed))
 
   -- the profile's bytes
-  profile-bytes : (getD (keyBytes key) 0 0 ≡ key .profile .shape .chains) × (getD (keyBytes key) 1 0 ≡ key .profile .shape .width) × (getD (keyBytes key) 2 0 ≡ key .profile .height)
+  profile-bytes : (byteIn chainsField (keyBytes key) ≡ key .profile .shape .chains) × (byteIn widthField (keyBytes key) ≡ key .profile .shape .width) × (byteIn heightField (keyBytes key) ≡ key .profile .height)
   unfolding keyBytes
   profile-bytes = (refl, refl, refl)
 
-  sum-bytes : take 2 (drop 3 (keyBytes key)) ≡ toBytes 2 (key .profile .shape .sum)
+  sum-bytes : fieldIn sumField (keyBytes key) ≡ toBytes 2 (key .profile .shape .sum)
   unfolding keyBytes toBytes
   sum-bytes = refl
 
@@ -91,24 +92,24 @@ module _ (key : SigningKey) where
 
   module _ (held : Held key) where
     -- what stands from where each part begins
-    from-seed : drop 5 (keyBytes key) ≡ key .seed ++ (key .secret ++ last)
+    from-seed : drop (offset seedField) (keyBytes key) ≡ key .seed ++ (key .secret ++ last)
     unfolding toBytes
-    from-seed = ap (drop 6) key-parts ∙ append-assoc (key .seed) (key .secret) last
+    from-seed = ap (drop (place seedField)) key-parts ∙ append-assoc (key .seed) (key .secret) last
 
-    from-secret : drop 21 (keyBytes key) ≡ key .secret ++ last
-    from-secret = sym (drop-drop 16 5 (keyBytes key)) ∙ rw from-seed (drop-at (key .seed) (key .secret ++ last) 16 (held .seed-long))
+    from-secret : drop (offset secretField) (keyBytes key) ≡ key .secret ++ last
+    from-secret = sym (drop-drop 16 (offset seedField) (keyBytes key)) ∙ rw from-seed (drop-at (key .seed) (key .secret ++ last) 16 (held .seed-long))
 
-    from-last : drop 37 (keyBytes key) ≡ last
-    from-last = sym (drop-drop 16 21 (keyBytes key)) ∙ rw from-secret (drop-at (key .secret) last 16 (held .secret-long))
+    from-last : drop (offset nextField) (keyBytes key) ≡ last
+    from-last = sym (drop-drop 16 (offset secretField) (keyBytes key)) ∙ rw from-secret (drop-at (key .secret) last 16 (held .secret-long))
 
     -- the mark, and the edition's byte
-    pub mark-byte : getD (keyBytes key) 41 0 ≡ cond (key .counter .mark) 1 0
+    pub mark-byte : byteIn markField (keyBytes key) ≡ cond (key .counter .mark) 1 0
     unfolding toBytes
-    mark-byte = sym (getD-drop 37 (keyBytes key) 4 0) ∙ rw from-last
+    mark-byte = sym (getD-drop (offset nextField) (keyBytes key) 4 0) ∙ rw from-last
 
-    pub last-byte : getD (keyBytes key) 42 2 ≡ 2
+    pub last-byte : getD (keyBytes key) keyLength 2 ≡ 2
     unfolding toBytes
-    last-byte = sym (getD-drop 37 (keyBytes key) 5 2) ∙ rw from-last (edition-byte (λ l. getD l 0 2 ≡ 2) (key .profile .edition) refl refl)
+    last-byte = sym (getD-drop (offset nextField) (keyBytes key) lastLength 2) ∙ rw from-last (edition-byte (λ l. getD l 0 2 ≡ 2) (key .profile .edition) refl refl)
 
     module _ (passed : firstCause (profileCauses (key .profile)) ≡ 0) where
       pub key-bytes-below : Below 256 (keyBytes key)

@@ -18,11 +18,12 @@ use Rattle.hex.specs.Digits.{hasBytes, ReadsLine}
 use Rattle.hex.proofs.HexLaws.{line-of-read}
 use Rattle.profile.specs.Checks.{profileCauses}
 use Rattle.profile.specs.declared.Profile.{Profile}
-use Rattle.signing_key.specs.Counter.{marked}
+use Rattle.signing_key.specs.Counter.{markCounts}
 use Rattle.signing_key.specs.declared.SigningKey.{SigningKey}
+use Rattle.stored_key.specs.KeyFields.{chainsField, widthField, heightField, sumField, seedField, secretField, nextField, markField, offset, keyLength, byteIn}
 use Rattle.stored_key.specs.KeyFrame.{keyIn, met}
 use Rattle.stored_key.specs.Operations.{readCode, lineIn, keyOf, ReadsKey}
-use Rattle.stored_key.specs.Parts.{framedTest, RefusesFrame}
+use Rattle.stored_key.specs.inner.Parts.{place, frameLength, framedTest, RefusesFrame}
 use Rattle.stored_key.specs.declared.reader.KeyRead.{KeyRead}
 use Rattle.stored_key.proofs.KeyLaws.{met-profile}
 use Rattle.stored_key.proofs.StoredLaws.{RightFrame, right-line, right-read, right-long, wrong-read}
@@ -31,22 +32,25 @@ use Rattle.stored_key.proofs.StoredLaws.{RightFrame, right-line, right-
 pub any-default : (l : List ℕ) (i d e : ℕ) → i < length l → getD l i d ≡ getD l i e
 any-default l i d e h = cc (drop-cons l i d h, drop-cons l i e h)
 
-module _ (bytes : List ℕ) (long : 43 ≤ length bytes) where
+module _ (bytes : List ℕ) (long : frameLength ≤ length bytes) where
   -- the profile behind the kind
-  pub profile-behind : {edition : ℕ} → edition ≡ cond (eqb (length bytes - 1) 43) 2 1
-      → _≡_ {A = Profile} (record { shape = record { chains = getD bytes 1 0; width = getD bytes 2 0; sum = 256 * getD bytes 4 0 + getD bytes 5 0 }; height = getD bytes 3 0; edition = edition }) (keyIn (drop 1 bytes) .profile)
+  pub profile-behind : {edition : ℕ} → edition ≡ cond (eqb (length bytes - 1) (keyLength + 1)) 2 1
+      → _≡_ {A = Profile} (record { shape = record { chains = getD bytes (place chainsField) 0; width = getD bytes (place widthField) 0; sum = 256 * getD bytes (place sumField) 0 + getD bytes (place sumField + 1) 0 }; height = getD bytes (place heightField) 0; edition = edition }) (keyIn (drop 1 bytes) .profile)
   unfolding keyIn fromBytes
   profile-behind e =
-      let sum : getD bytes 4 0 * 256 ^ 1 + (getD bytes 5 0 * 256 ^ 0 + 0) ≡ 256 * getD bytes 4 0 + getD bytes 5 0 = omega arith in
-      rw (getD-drop 1 bytes 0 0, getD-drop 1 bytes 1 0, getD-drop 1 bytes 2 0, length-drop 1 bytes, drop-drop 3 1 bytes, drop-two 0 bytes 4 (omega arith), sum, e)
+      let high : ℕ = getD bytes (place sumField) 0 in
+      let low : ℕ = getD bytes (place sumField + 1) 0 in
+      let sum : high * 256 ^ 1 + (low * 256 ^ 0 + 0) ≡ 256 * high + low = omega arith in
+      rw
+      (getD-drop 1 bytes (offset chainsField) 0, getD-drop 1 bytes (offset widthField) 0, getD-drop 1 bytes (offset heightField) 0, length-drop 1 bytes, drop-drop (offset sumField) 1 bytes, drop-two 0 bytes (place sumField) (omega arith), sum, e)
 
   -- the key behind the kind
-  pub key-behind : {p : Profile} {seed secret : List ℕ} {next : ℕ} {mark : Bool} → p ≡ keyIn (drop 1 bytes) .profile → seed ≡ take 16 (drop 6 bytes) → secret ≡ take 16 (drop 22 bytes)
-      → next ≡ fromBytes (take 4 (drop 38 bytes)) → mark ≡ marked p (record { next = next; mark = eqb (getD bytes 42 0) 1 })
+  pub key-behind : {p : Profile} {seed secret : List ℕ} {next : ℕ} {mark : Bool} → p ≡ keyIn (drop 1 bytes) .profile → seed ≡ take 16 (drop (place seedField) bytes) → secret ≡ take 16 (drop (place secretField) bytes)
+      → next ≡ fromBytes (take 4 (drop (place nextField) bytes)) → mark ≡ markCounts (2 ^ p .height) (record { next = next; mark = eqb (getD bytes (place markField) 0) 1 })
       → _≡_ {A = SigningKey} (record { profile = p; seed = seed; secret = secret; counter = record { next = next; mark = mark } }) (met (keyIn (drop 1 bytes)))
   unfolding keyIn met
   key-behind e seed secret next mark =
-      rw (drop-drop 5 1 bytes, drop-drop 21 1 bytes, drop-drop 37 1 bytes, getD-drop 1 bytes 41 0, ← e, mark, seed, secret, next)
+      rw (mark, seed, secret, next, e, drop-drop (offset seedField) 1 bytes, drop-drop (offset secretField) 1 bytes, drop-drop (offset nextField) 1 bytes, getD-drop 1 bytes (offset markField) 0)
 
 module _ (frame : List ℕ) where
   -- a frame that is refused
@@ -56,8 +60,8 @@ module _ (frame : List ℕ) where
       let e = wrong-read frame never in
       record { code = answer .code ∙ ap readCode (sym e); line = answer .line ∙ ap lineIn (sym e); key = answer .key ∙ ap keyOf (sym e) }
 
-  -- a right frame has 87 or 89 characters
-  pub other-long : (length frame ≡ 87 → ⊥) → (length frame ≡ 89 → ⊥) → (bytes : List ℕ) → RightFrame frame bytes → ⊥
+  -- a right frame is as long as the line of either edition
+  pub other-long : (length frame ≡ 2 * frameLength + 1 → ⊥) → (length frame ≡ 2 * frameLength + 3 → ⊥) → (bytes : List ℕ) → RightFrame frame bytes → ⊥
   other-long first second bytes r = omega (arith, right-long r, r .some, r .few)
 
   -- a frame that is read
@@ -84,7 +88,7 @@ module _ (frame : List ℕ) where
     bytes-are bytes r = let same = right-line r in cc
 
     pub right-framed : (bytes : List ℕ) → RightFrame frame bytes → framedTest new ≡ true
-    right-framed bytes r = rw (bytes-are bytes r, lt-ltb (getD bytes 41 0) 2 (r .mark), eq-eqb (getD bytes 42 2) 2 (r .last))
+    right-framed bytes r = rw (bytes-are bytes r, lt-ltb (byteIn markField bytes) 2 (r .mark), eq-eqb (getD bytes keyLength 2) 2 (r .last))
 
     -- and the key in them
     module _ {key : SigningKey} (found : key ≡ met (keyIn (drop 1 new))) where
@@ -95,10 +99,10 @@ module _ (frame : List ℕ) where
       right-passed bytes r = same-cause ∙ rw (bytes-are bytes r) (r .passed)
 
       -- bytes that pass the tests are those of a right frame
-      pub framed-right : 43 ≤ length new → length new ≤ 44 → framedTest new ≡ true → firstCause (profileCauses (key .profile)) ≡ 0 → RightFrame frame (drop 1 new)
+      pub framed-right : frameLength ≤ length new → length new ≤ frameLength + 1 → framedTest new ≡ true → firstCause (profileCauses (key .profile)) ≡ 0 → RightFrame frame (drop 1 new)
       framed-right some few tests passed =
           let kind = both (eqb (getD new 0 0) 7) _ tests in
-          let mark = both (ltb (getD new 42 0) 2) (eqb (getD new 43 2) 2) (kind .1) in
+          let mark = both (ltb (getD new (place markField) 0) 2) (eqb (getD new frameLength 2) 2) (kind .1) in
           let written = line-of-read frame line in
           let cut : new ≡ 7 ∷ drop 1 new = drop-cons new 0 0 (omega arith) ∙ ap (λ k. k ∷ drop 1 new) (eqb-true (getD new 0 0) 7 (kind .0)) in
           let long = length-drop 1 new in
@@ -107,7 +111,7 @@ module _ (frame : List ℕ) where
             below = below-drop 256 1 new (written .below);
             some = omega arith;
             few = omega arith;
-            mark = rw (getD-drop 1 new 41 0) (ltb-true (getD new 42 0) 2 (mark .0));
-            last = rw (getD-drop 1 new 42 2) (eqb-true (getD new 43 2) 2 (mark .1));
+            mark = rw (getD-drop 1 new (offset markField) 0) (ltb-true (getD new (place markField) 0) 2 (mark .0));
+            last = rw (getD-drop 1 new keyLength 2) (eqb-true (getD new frameLength 2) 2 (mark .1));
             passed = sym same-cause ∙ passed;
           }

@@ -11,9 +11,10 @@ use Rattle.refusal.specs.Code.{outcomeCode}
 use Rattle.lists.proofs.Tests.{both}
 use Rattle.profile.specs.Checks.{outside}
 use Rattle.profile.specs.declared.Profile.{Profile}
-use Rattle.signing_key.specs.Counter.{marked}
+use Rattle.signing_key.specs.Counter.{markCounts}
 use Rattle.signing_key.specs.declared.Counter.{Counter}
 use Rattle.signing_key.specs.declared.SigningKey.{SigningKey}
+use Rattle.stored_key.specs.KeyFields.{markField, byteIn}
 use Rattle.stored_key.specs.KeyFrame.{keyIn, met, storedKey, Stored, wrongFrame, stored, readStored}
 use Rattle.stored_key.specs.Operations.{readCode, lineIn, keyOf, ReadsKey}
 use Rattle.stored_key.specs.RoundTrip.{WrittenIsRead, IdleIn, ReadIsWritten}
@@ -44,20 +45,20 @@ written-is-read key frame frame′ made held w granted found r =
     stored-answer r (rw front (stored-read key held (granted-passed key frame zero)))
 
 -- a mark that counts is a mark
-marked-mark : (p : Profile) (c : Counter) → marked p c ≡ true → c .mark ≡ true
-unfolding marked
+marked-mark : (p : Profile) (c : Counter) → markCounts (2 ^ p .height) c ≡ true → c .mark ≡ true
+unfolding markCounts
 marked-mark p c e = both (c .mark) (not (outside 1 (2 ^ p .height) (c .next))) e .0
 
 -- where the mark of a frame is not idle, the key in it is met as it stands
 module _ {frame bytes : List ℕ} (r : RightFrame frame bytes) (counts : IdleIn frame → ⊥) where
-  idle : marked (keyIn bytes .profile) (keyIn bytes .counter) ≡ false → keyIn bytes .counter .mark ≡ true → IdleIn frame
+  idle : markCounts (2 ^ keyIn bytes .profile .height) (keyIn bytes .counter) ≡ false → keyIn bytes .counter .mark ≡ true → IdleIn frame
   unfolding IdleIn keyIn
-  idle e m = (bytes, [], right-frame r, eqb-true (getD bytes 41 0) 1 m, e)
+  idle e m = (bytes, [], right-frame r, eqb-true (byteIn markField bytes) 1 m, e)
 
-  same-mark : marked (keyIn bytes .profile) (keyIn bytes .counter) ≡ keyIn bytes .counter .mark
-  same-mark = by (marked (keyIn bytes .profile) (keyIn bytes .counter)) (keyIn bytes .counter .mark) refl refl
+  same-mark : markCounts (2 ^ keyIn bytes .profile .height) (keyIn bytes .counter) ≡ keyIn bytes .counter .mark
+  same-mark = by (markCounts (2 ^ keyIn bytes .profile .height) (keyIn bytes .counter)) (keyIn bytes .counter .mark) refl refl
     where
-      by : (t u : Bool) → marked (keyIn bytes .profile) (keyIn bytes .counter) ≡ t → keyIn bytes .counter .mark ≡ u → t ≡ u
+      by : (t u : Bool) → markCounts (2 ^ keyIn bytes .profile .height) (keyIn bytes .counter) ≡ t → keyIn bytes .counter .mark ≡ u → t ≡ u
       by true true e m = refl
       by false false e m = refl
       by true false e m = absurd (true≢false (sym (marked-mark (keyIn bytes .profile) (keyIn bytes .counter) e) ∙ m))

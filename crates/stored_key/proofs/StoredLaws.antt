@@ -17,6 +17,7 @@ use Rattle.frames.specs.Lines.{frameLine, readFrame}
 use Rattle.frames.proofs.FrameLaws.{frame-read, read-frame, line-long}
 use Rattle.frames.proofs.FrameNumbers.{edition-long}
 use Rattle.signing_key.specs.declared.SigningKey.{SigningKey}
+use Rattle.stored_key.specs.KeyFields.{markField, keyLength, byteIn}
 use Rattle.stored_key.specs.KeyFrame.{keyFrame, keyBytes, met, storedKey, keyIn, isRight, Stored, wrongFrame, stored, keyOnLine, readStored}
 use Rattle.stored_key.specs.RoundTrip.{Held}
 use Rattle.stored_key.proofs.KeyLaws.{met-met, met-profile, met-held, mark-small, key-bytes-long, mark-byte, last-byte, key-bytes-below, key-in-bytes}
@@ -25,10 +26,10 @@ use Rattle.stored_key.proofs.KeyLaws.{met-met, met-profile, met-held, m
 pub record RightFrame (frame bytes : List ℕ) : Type 0 where
   pub line : frame ≡ frameLine keyFrame bytes
   pub below : Below 256 bytes
-  pub some : 42 ≤ length bytes
-  pub few : length bytes ≤ 43
-  pub mark : getD bytes 41 0 < 2
-  pub last : getD bytes 42 2 ≡ 2
+  pub some : keyLength ≤ length bytes
+  pub few : length bytes ≤ keyLength + 1
+  pub mark : byteIn markField bytes < 2
+  pub last : getD bytes keyLength 2 ≡ 2
   pub passed : firstCause (profileCauses (keyIn bytes .profile)) ≡ 0
 
 module _ {frame bytes : List ℕ} (r : RightFrame frame bytes) where
@@ -43,21 +44,21 @@ module _ {frame bytes : List ℕ} (r : RightFrame frame bytes) where
   -- it is read as the key in it
   pub right-read : readStored frame ≡ stored (met (keyIn bytes))
   unfolding readStored keyOnLine isRight
-  right-read = rw (right-frame, lt-ltb (getD bytes 41 0) 2 (r .mark), eq-eqb (getD bytes 42 2) 2 (r .last), eq-eqb (firstCause (profileCauses (keyIn bytes .profile))) 0 (r .passed))
+  right-read = rw (right-frame, lt-ltb (byteIn markField bytes) 2 (r .mark), eq-eqb (getD bytes keyLength 2) 2 (r .last), eq-eqb (firstCause (profileCauses (keyIn bytes .profile))) 0 (r .passed))
 
   pub right-long : length frame ≡ 2 * length bytes + 3
   right-long = ap length (r .line) ∙ line-long (7 ∷ []) bytes ∙ omega arith
 
 -- what the tests of a frame's bytes tell
 tests-tell : (bytes rest : List ℕ) → isRight bytes rest ≡ true
-    → (getD bytes 41 0 < 2) × (getD bytes 42 2 ≡ 2) × (firstCause (profileCauses (keyIn bytes .profile)) ≡ 0) × (length rest ≡ 0)
+    → (byteIn markField bytes < 2) × (getD bytes keyLength 2 ≡ 2) × (firstCause (profileCauses (keyIn bytes .profile)) ≡ 0) × (length rest ≡ 0)
 unfolding isRight
 tests-tell bytes rest told =
     let cause : ℕ = firstCause (profileCauses (keyIn bytes .profile)) in
-    let mark = both (ltb (getD bytes 41 0) 2) _ told in
-    let last = both (eqb (getD bytes 42 2) 2) _ (mark .1) in
+    let mark = both (ltb (byteIn markField bytes) 2) _ told in
+    let last = both (eqb (getD bytes keyLength 2) 2) _ (mark .1) in
     let checked = both (eqb cause 0) (eqb (length rest) 0) (last .1) in
-    (ltb-true (getD bytes 41 0) 2 (mark .0), eqb-true (getD bytes 42 2) 2 (last .0), eqb-true cause 0 (checked .0), eqb-true (length rest) 0 (checked .1))
+    (ltb-true (byteIn markField bytes) 2 (mark .0), eqb-true (getD bytes keyLength 2) 2 (last .0), eqb-true cause 0 (checked .0), eqb-true (length rest) 0 (checked .1))
 
 -- nothing else is read as a key
 module _ (frame : List ℕ) where

@@ -2,7 +2,7 @@
 use mathlib.Core.Path.{_≡_, refl, sym, ap, _∙_}
 use mathlib.Core.Bool.{Bool, cond}
 use mathlib.Core.List.{List, [], _∷_, _++_, append-assoc}
-use Prim.Native.Nat.{ℕ, _+_, _*_, _≤_, _<_}
+use Prim.Native.Nat.{ℕ, _+_, _*_, _^_, _≤_, _<_}
 use native.Mathlib.Omega.{arith}
 use borrow.Author.Tests.{lt-ltb, le-ltb}
 use lib.Dec.{ltb}
@@ -24,11 +24,12 @@ use Rattle.profile.proofs.Limits.{profile-numbered}
 use Rattle.frames.specs.Frames.{editionByte}
 use Rattle.frames.proofs.FrameLaws.{line-long}
 use Rattle.frames.proofs.FrameNumbers.{edition-byte}
-use Rattle.signing_key.specs.Counter.{marked}
+use Rattle.signing_key.specs.Counter.{markCounts}
 use Rattle.signing_key.specs.declared.SigningKey.{SigningKey}
+use Rattle.stored_key.specs.KeyFields.{seedField, secretField, nextField}
 use Rattle.stored_key.specs.KeyFrame.{keyBytes, met, storedKey}
 use Rattle.stored_key.specs.Operations.{writeCode, bytesWritten, frameAfter, WritesKey}
-use Rattle.stored_key.specs.Parts.{frontBytes, lastBytes}
+use Rattle.stored_key.specs.inner.Parts.{place, frameLength, lastLength, frontBytes, lastBytes}
 use Rattle.stored_key.specs.declared.writer.KeyWritten.{KeyWritten}
 use Rattle.stored_key.proofs.KeyLaws.{key-parts, key-bytes-long}
 
@@ -44,52 +45,52 @@ module _ (front bytes o : List ℕ) (at : ℕ) {out out′ : List ℕ} (long : 2
       ∙ rw (← q, hexOf-append front bytes) (ap (λ l. l ++ drop end o) (sym (append-assoc (hexOf front) (hexOf bytes) (lineEnd ∷ []))))
 
 -- what stands in front of the seeds, of a head with the byte of edition 2
-pub front-taken : (p : Profile) {head : List ℕ} → head ≡ 7 ∷ p .shape .chains ∷ p .shape .width ∷ p .height ∷ (toBytes 2 (p .shape .sum) ++ editionByte 2) → take 6 head ≡ frontBytes p
+pub front-taken : (p : Profile) {head : List ℕ} → head ≡ 7 ∷ p .shape .chains ∷ p .shape .width ∷ p .height ∷ (toBytes 2 (p .shape .sum) ++ editionByte 2) → take (place seedField) head ≡ frontBytes p
 unfolding toBytes
-front-taken p e = ap (take 6) e
+front-taken p e = ap (take (place seedField)) e
 
-pub front-long : (p : Profile) → length (frontBytes p) ≡ 6
+pub front-long : (p : Profile) → length (frontBytes p) ≡ place seedField
 unfolding toBytes
 front-long p = refl
 
 -- what stands in front of the last bytes
 pub front-written : (p : Profile) (seed secret o : List ℕ) {o₁ o₂ o₃ : List ℕ} → length seed ≡ 16 → length secret ≡ 16
-    → o₁ ≡ take 0 o ++ hexOf (frontBytes p) ++ drop (0 + 2 * length (frontBytes p)) o → o₂ ≡ take 12 o₁ ++ hexOf seed ++ drop (12 + 2 * length seed) o₁
-    → o₃ ≡ take 44 o₂ ++ hexOf secret ++ drop (44 + 2 * length secret) o₂ → o₃ ≡ hexOf (frontBytes p ++ seed ++ secret) ++ drop 76 o
+    → o₁ ≡ take 0 o ++ hexOf (frontBytes p) ++ drop (0 + 2 * length (frontBytes p)) o → o₂ ≡ take (2 * place seedField) o₁ ++ hexOf seed ++ drop (2 * place seedField + 2 * length seed) o₁
+    → o₃ ≡ take (2 * place secretField) o₂ ++ hexOf secret ++ drop (2 * place secretField + 2 * length secret) o₂ → o₃ ≡ hexOf (frontBytes p ++ seed ++ secret) ++ drop (2 * place nextField) o
 unfolding toBytes
 front-written p seed secret o seed-long secret-long e₁ e₂ e₃ =
     let front : List ℕ = frontBytes p in
-    let second = rw seed-long at (bytes-behind front seed o 12 refl e₁ e₂) in
-    let long : 2 * length (front ++ seed) ≡ 44 = omega (arith, length-append front seed) in
-    bytes-behind (front ++ seed) secret o 44 long second e₃ ∙ rw secret-long
+    let second = rw seed-long at (bytes-behind front seed o (2 * place seedField) refl e₁ e₂) in
+    let long : 2 * length (front ++ seed) ≡ 2 * place secretField = omega (arith, length-append front seed) in
+    bytes-behind (front ++ seed) secret o (2 * place secretField) long second e₃ ∙ rw secret-long
 
-pub last-long : (next : ℕ) (mark : Bool) (edition : ℕ) → length (lastBytes next mark edition) ≡ 5 + length (editionByte edition)
+pub last-long : (next : ℕ) (mark : Bool) (edition : ℕ) → length (lastBytes next mark edition) ≡ lastLength + length (editionByte edition)
 unfolding toBytes
 last-long next mark edition = omega arith
 
 -- the last bytes of edition 2, as far as another edition has them
-pub last-taken : (next : ℕ) (mark : Bool) (edition count : ℕ) {last : List ℕ} → count ≡ 5 + length (editionByte edition) → last ≡ lastBytes next mark 2 → take count last ≡ lastBytes next mark edition
+pub last-taken : (next : ℕ) (mark : Bool) (edition count : ℕ) {last : List ℕ} → count ≡ lastLength + length (editionByte edition) → last ≡ lastBytes next mark 2 → take count last ≡ lastBytes next mark edition
 unfolding toBytes editionByte
 last-taken next mark edition count e w =
-    rw (e, w) (edition-byte (λ ending. take (5 + length ending) (lastBytes next mark 2) ≡ toBytes 4 next ++ (cond mark 1 0 ∷ ending)) edition refl refl)
+    rw (e, w) (edition-byte (λ ending. take (lastLength + length ending) (lastBytes next mark 2) ≡ toBytes 4 next ++ (cond mark 1 0 ∷ ending)) edition refl refl)
 
 module _ (key : SigningKey) (seed-long : length (key .seed) ≡ 16) (secret-long : length (key .secret) ≡ 16) where
   -- how long the frame is
-  pub stored-long : length (storedKey key) ≡ 87 + 2 * length (editionByte (key .profile .edition))
+  pub stored-long : length (storedKey key) ≡ 2 * (frameLength + length (editionByte (key .profile .edition))) + 1
   unfolding storedKey met
   stored-long = line-long (7 ∷ []) (keyBytes (met key)) ∙ omega (arith, key-bytes-long (met key) seed-long secret-long)
 
   -- the whole frame
-  pub frame-written : (o : List ℕ) {o₁ o₂ last : List ℕ} {end : ℕ} → o₁ ≡ hexOf (frontBytes (key .profile) ++ key .seed ++ key .secret) ++ drop 76 o
-      → last ≡ lastBytes (key .counter .next) (marked (key .profile) (key .counter)) (key .profile .edition)
-      → end ≡ 76 + length (lineOf last) → o₂ ≡ take 76 o₁ ++ lineOf last ++ drop end o₁ → (end ≡ length (storedKey key)) × (o₂ ≡ storedKey key ++ drop end o)
+  pub frame-written : (o : List ℕ) {o₁ o₂ last : List ℕ} {end : ℕ} → o₁ ≡ hexOf (frontBytes (key .profile) ++ key .seed ++ key .secret) ++ drop (2 * place nextField) o
+      → last ≡ lastBytes (key .counter .next) (markCounts (2 ^ key .profile .height) (key .counter)) (key .profile .edition)
+      → end ≡ 2 * place nextField + length (lineOf last) → o₂ ≡ take (2 * place nextField) o₁ ++ lineOf last ++ drop end o₁ → (end ≡ length (storedKey key)) × (o₂ ≡ storedKey key ++ drop end o)
   unfolding storedKey met toBytes
   frame-written o {end} e₁ l q e₂ =
       let front : List ℕ = frontBytes (key .profile) in
       let seeds : List ℕ = front ++ key .seed ++ key .secret in
-      let last : List ℕ = lastBytes (key .counter .next) (marked (key .profile) (key .counter)) (key .profile .edition) in
-      let long : 2 * length seeds ≡ 76 = omega (arith, length-append (front ++ key .seed) (key .secret), length-append front (key .seed)) in
-      (omega (arith, stored-long, length-lineOf last, ap (λ l. length (lineOf l)) l), line-behind seeds last o 76 long e₁ (q ∙ rw l) (e₂ ∙ rw l) ∙ ap (λ l. lineOf l ++ drop end o) (sym (key-parts (met key))))
+      let last : List ℕ = lastBytes (key .counter .next) (markCounts (2 ^ key .profile .height) (key .counter)) (key .profile .edition) in
+      let long : 2 * length seeds ≡ 2 * place nextField = omega (arith, length-append (front ++ key .seed) (key .secret), length-append front (key .seed)) in
+      (omega (arith, stored-long, length-lineOf last, ap (λ l. length (lineOf l)) l), line-behind seeds last o (2 * place nextField) long e₁ (q ∙ rw l) (e₂ ∙ rw l) ∙ ap (λ l. lineOf l ++ drop end o) (sym (key-parts (met key))))
 
 -- the two answers to a profile within its limits, and the one to another
 module _ (key : SigningKey) (frame : List ℕ) where

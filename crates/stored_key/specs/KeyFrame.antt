@@ -1,22 +1,23 @@
 -- Document 02, point 5: "The stored key is one frame as in the sheet, kind 07". It stands alone, without the sheet's first line.
 use mathlib.Core.Bool.{Bool, _&&_, cond}
 use mathlib.Core.List.{List, [], _∷_, _++_}
-use Prim.Native.Nat.{ℕ}
+use Prim.Native.Nat.{ℕ, _+_, _^_}
 use lib.Dec.{ltb, eqb}
-use lib.ListN.{length, getD, take, drop}
+use lib.ListN.{length, getD}
 use Rattle.refusal.specs.Code.{firstCause}
 use Rattle.octets.specs.Bytes.{fromBytes, toBytes}
 use Rattle.hex.specs.Hex.{Line, wrong, right}
 use Rattle.profile.specs.Checks.{profileCauses}
 use Rattle.frames.specs.Frames.{Frame, framed, editionByte}
 use Rattle.frames.specs.Lines.{frameLine, readFrame}
-use Rattle.signing_key.specs.Counter.{marked}
+use Rattle.signing_key.specs.Counter.{markCounts}
 use Rattle.signing_key.specs.Key.{recounted}
 use Rattle.signing_key.specs.declared.SigningKey.{SigningKey}
+use Rattle.stored_key.specs.KeyFields.{chainsField, widthField, heightField, sumField, seedField, secretField, nextField, markField, keyLength, fieldIn, byteIn}
 
--- "kind 07": behind it stand 42 bytes, one more in edition 2
+-- "kind 07": behind it stand the fields, and one byte more in edition 2
 abbrev pub keyFrame : Frame
-keyFrame = framed (7 ∷ []) 42 43
+keyFrame = framed (7 ∷ []) keyLength (keyLength + 1)
 
 -- "l, w, h, s (2), public seed, secret seed, next leaf (4), mark (00 or 01)"; "frames 01 and 07 gain a last byte, 02, only for edition 2"
 unfoldable pub keyBytes : SigningKey → List ℕ
@@ -27,7 +28,7 @@ keyBytes key =
 
 -- a mark that does not count is "read, written and met as none"
 unfoldable pub met : SigningKey → SigningKey
-met key = recounted key (record { next = key .counter .next; mark = marked (key .profile) (key .counter) })
+met key = recounted key (record { next = key .counter .next; mark = markCounts (2 ^ key .profile .height) (key .counter) })
 
 -- the frame of a key, as a line
 unfoldable pub storedKey : SigningKey → List ℕ
@@ -38,20 +39,20 @@ unfoldable pub keyIn : (bytes : List ℕ) → SigningKey
 keyIn bytes =
     record {
       profile = record {
-        shape = record { chains = getD bytes 0 0; width = getD bytes 1 0; sum = fromBytes (take 2 (drop 3 bytes)) };
-        height = getD bytes 2 0;
-        edition = cond (eqb (length bytes) 43) 2 1;
+        shape = record { chains = byteIn chainsField bytes; width = byteIn widthField bytes; sum = fromBytes (fieldIn sumField bytes) };
+        height = byteIn heightField bytes;
+        edition = cond (eqb (length bytes) (keyLength + 1)) 2 1;
       };
-      seed = take 16 (drop 5 bytes);
-      secret = take 16 (drop 21 bytes);
-      counter = record { next = fromBytes (take 4 (drop 37 bytes)); mark = eqb (getD bytes 41 0) 1 };
+      seed = fieldIn seedField bytes;
+      secret = fieldIn secretField bytes;
+      counter = record { next = fromBytes (fieldIn nextField bytes); mark = eqb (byteIn markField bytes) 1 };
     }
 
 -- "mark (00 or 01)", the last byte 02 where there is one, a profile within its limits, and nothing behind the line: "a wrong one, one with anything after it, or one
 -- with a profile outside the limits"
 unfoldable pub isRight : (bytes rest : List ℕ) → Bool
 isRight bytes rest =
-    ltb (getD bytes 41 0) 2 && (eqb (getD bytes 42 2) 2 && (eqb (firstCause (profileCauses (keyIn bytes .profile))) 0 && eqb (length rest) 0))
+    ltb (byteIn markField bytes) 2 && (eqb (getD bytes keyLength 2) 2 && (eqb (firstCause (profileCauses (keyIn bytes .profile))) 0 && eqb (length rest) 0))
 
 -- what a frame is read as
 pub data Stored : Type 0 where

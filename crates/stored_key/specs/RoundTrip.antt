@@ -7,8 +7,9 @@ use lib.ListN.{length, getD, take, drop}
 use Rattle.refusal.specs.Code.{outcomeCode}
 use Rattle.hex.specs.Hex.{right}
 use Rattle.frames.specs.Lines.{readFrame}
-use Rattle.signing_key.specs.Counter.{marked}
+use Rattle.signing_key.specs.Counter.{markCounts}
 use Rattle.signing_key.specs.declared.SigningKey.{SigningKey}
+use Rattle.stored_key.specs.KeyFields.{markField, byteIn}
 use Rattle.stored_key.specs.KeyFrame.{keyFrame, keyIn, met}
 use Rattle.stored_key.specs.Operations.{WritesKey, ReadsKey}
 use Rattle.stored_key.specs.declared.writer.KeyWritten.{KeyWritten}
@@ -32,7 +33,7 @@ WrittenIsRead =
 -- the mark of a frame is idle: 01 stands there, and it does not count
 unfoldable pub IdleIn : (frame : List ℕ) → Type 0
 IdleIn frame =
-    (bytes rest : List ℕ) × (readFrame keyFrame frame ≡ right bytes rest) × (getD bytes 41 0 ≡ 1) × (marked (keyIn bytes .profile) (keyIn bytes .counter) ≡ false)
+    (bytes rest : List ℕ) × (readFrame keyFrame frame ≡ right bytes rest) × (byteIn markField bytes ≡ 1) × (markCounts (2 ^ keyIn bytes .profile .height) (keyIn bytes .counter) ≡ false)
 
 -- writing what was read gives the same bytes unless the mark was idle: into a slice that is long enough
 abbrev pub ReadIsWritten : Type 0

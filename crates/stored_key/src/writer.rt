@@ -2,16 +2,22 @@
 ghost use mathlib.Core.Path.{_≡_};
 ghost use mathlib.Core.Bool.{cond};
 ghost use mathlib.Core.List.{_++_};
-ghost use Prim.Native.Nat.{_+_, _*_, _≤_};
+ghost use Prim.Native.Nat.{_+_, _*_, _^_, _≤_};
 ghost use lib.ListN.{length, drop};
 ghost use Rattle.refusal.specs.Code.{firstCause};
 ghost use Rattle.hex.specs.Hex.{hexOf};
 ghost use Rattle.profile.specs.Checks.{profileCauses};
 ghost use Rattle.frames.specs.Frames.{Within, editionByte};
 ghost use Rattle.signing_key.specs.Counter as counting;
+ghost use Rattle.stored_key.specs.KeyFields.{nextField};
 ghost use Rattle.stored_key.specs.KeyFrame.{storedKey};
 ghost use Rattle.stored_key.specs.Operations.{WritesKey};
-ghost use Rattle.stored_key.specs.Parts.{frontBytes, lastBytes};
+ghost use Rattle.stored_key.specs.inner.Parts.{place, frameLength, frontBytes, lastBytes};
+use super::fields::LAST_BYTES;
+use super::fields::LINE_LENGTH;
+use super::fields::NEXT_AT;
+use super::fields::SECRET_AT;
+use super::fields::SEED_AT;
 use frames::edition_bytes;
 use frames::profile_head;
 use hex::write_bytes;
@@ -23,7 +29,7 @@ use refusal::Outcome;
 use refusal::Refusal;
 use signing_key::Counter;
 use signing_key::SigningKey;
-use signing_key::marked;
+use signing_key::mark_stands;
 
 // What Write key answers: refused, no byte is written.
 pub struct KeyWritten {
@@ -40,46 +46,45 @@ fn mark_byte(mark: bool) -> u8
 
 // The bytes behind the seeds, as in edition 2: in edition 1 the last is left out. A mark that does not count is written as none.
 fn last_bytes(p: Profile, counter: Counter) -> [u8; 6]
-    ensures { λ r. ⌜ r ≡ lastBytes (counter .next) (counting.marked p counter) 2 ⌝ }
+    ensures { λ r. ⌜ r ≡ lastBytes (counter .next) (counting.markCounts (2 ^ p .height) counter) 2 ⌝ }
 {
     let next = word_bytes(counter.next);
-    let mark = mark_byte(marked(p, counter));
+    let mark = mark_byte(mark_stands(p, counter));
     [next[0], next[1], next[2], next[3], mark, 2]
 }
 
 // Writes the frame of a key up to behind its seeds.
 fn write_front(p: Profile, seed: [u8; 16], secret: [u8; 16], frame: &mut [u8])
-    requires { ⌜ Within p × (76 ≤ length (now frame)) ⌝ }
-    ensures { λ _. ⌜ now (frame .exit) ≡ hexOf (frontBytes p ++ seed ++ secret) ++ drop 76 (now (frame .entry)) ⌝ }
+    requires { ⌜ Within p × (2 * place nextField ≤ length (now frame)) ⌝ }
+    ensures { λ _. ⌜ now (frame .exit) ≡ hexOf (frontBytes p ++ seed ++ secret) ++ drop (2 * place nextField) (now (frame .entry)) ⌝ }
 {
     let front = profile_head(7, p);
-    write_bytes(frame, 0, &front[..6]);
-    write_bytes(frame, 12, &seed);
-    write_bytes(frame, 44, &secret);
+    write_bytes(frame, 0, &front[..SEED_AT]);
+    write_bytes(frame, 2 * SEED_AT, &seed);
+    write_bytes(frame, 2 * SECRET_AT, &secret);
 }
 
 // Writes the frame of a key, and gives the index behind it.
 fn write_frame(key: SigningKey, frame: &mut [u8]) -> usize
-    requires { ⌜ Within (key .profile) × (87 + 2 * length (editionByte (key .profile .edition)) ≤ length (now frame)) ⌝ }
+    requires { ⌜ Within (key .profile) × (2 * (frameLength + length (editionByte (key .profile .edition))) + 1 ≤ length (now frame)) ⌝ }
     ensures { λ r. ⌜ (r ≡ length (storedKey key)) × (now (frame .exit) ≡ storedKey key ++ drop r (now (frame .entry))) ⌝ }
 {
     let p = key.profile;
     let seed = key.seed;
     let secret = key.secret;
     let last = last_bytes(p, key.counter);
-    let count = 5 + edition_bytes(p.edition);
+    let count = LAST_BYTES + edition_bytes(p.edition);
     write_front(p, seed, secret, frame);
-    write_line(frame, 76, &last[..count])
+    write_line(frame, 2 * NEXT_AT, &last[..count])
 }
 
-// Write key for a profile within its limits: nothing is written unless the frame has room. A line of n bytes has 2 n + 1,
-// and n is 43 in edition 1.
+// Write key for a profile within its limits: nothing is written unless the frame has room.
 fn write_checked(key: SigningKey, frame: &mut [u8]) -> KeyWritten
     requires { ⌜ firstCause (profileCauses (key .profile)) ≡ 0 ⌝ }
     ensures { λ r. ⌜ WritesKey key (now (frame .entry)) (now (frame .exit)) r ⌝ }
 {
     let p = key.profile;
-    if frame.len() < 87 + 2 * edition_bytes(p.edition) {
+    if frame.len() < LINE_LENGTH + 2 * edition_bytes(p.edition) {
         KeyWritten {
             outcome: Outcome::Refused(Refusal::OutputTooShort),
             length: 0,

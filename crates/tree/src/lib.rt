@@ -10,13 +10,13 @@ ghost use Rattle.tree.specs.Tree.{Roots};
 use chains::leaves::key_of_leaf;
 use merkle::parent;
 use merkle::sibling;
+use octets::write_16;
 use profile::Profile;
 use profile::check_profile;
 use refusal::Outcome;
 use tweak::Hasher;
 use tweak::Leaf;
 use tweak::first_hasher;
-use octets::write_16;
 
 // What Root answers. Refused, the root is zero.
 pub struct TreeRoot {

@@ -9,7 +9,8 @@ use Rattle.refusal.specs.declared.Outcome.{Outcome}
 use Rattle.numbers.specs.Number.{value}
 use Rattle.profile.specs.declared.Shape.{Shape}
 use Rattle.profile.specs.declared.Profile.{Profile}
-use Rattle.signing_key.specs.Counter.{cleared, Reserves}
+use Rattle.signing_key.specs.Counter.{cleared}
+use Rattle.signing_key.specs.Operations.{Reserves}
 use Rattle.signing_key.specs.Key.{keyWith, recounted}
 use Rattle.signing_key.specs.declared.Counter.{Counter}
 use Rattle.signing_key.specs.declared.Reserved.{Reserved}

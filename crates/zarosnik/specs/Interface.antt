@@ -16,7 +16,7 @@ use Rattle.sha256.specs.Digest.{digest}
 use Rattle.sha256.specs.Running.{started, addCode}
 use Rattle.profile.specs.declared.Shape.{Shape}
 use Rattle.profile.specs.declared.Profile.{Profile}
-use Rattle.signing_key.specs.Counter.{Reserves}
+use Rattle.signing_key.specs.Operations.{Reserves}
 use Rattle.signing_key.specs.Key.{keyWith, recounted}
 use Rattle.signing_key.specs.declared.Counter.{Counter}
 use Rattle.signing_key.specs.declared.Reserved.{Reserved}

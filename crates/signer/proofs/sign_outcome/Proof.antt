@@ -17,7 +17,7 @@ returns c =
     let length-is = ap (ltb (a .bytes)) (measured .signature-length .ensures) in
     let text = chain-next 16 refl (chain-behind so-far) (measured .before .outside-text .ensures) (c .before .before .then .ensures) in
     let room = chain-next 6 refl text length-is (c .before .then2 .ensures) in
-    chain-ends so-far (chain-next 20 refl room (ap not (used .marked .ensures)) (c .then3 .ensures))
+    chain-ends so-far (chain-next 20 refl room (ap not (used .mark-stands .ensures)) (c .then3 .ensures))
 
 pub sign-outcome-spec : {M : Type 1} → statement M
 sign-outcome-spec =

@@ -19,7 +19,7 @@ profile-in-spec =
     (λ c. search needs) (λ c κs. search needs) (λ c. search needs)
     (λ c. omega (arith, c .shared-slice-known2 .given 4))
     (λ c. omega (arith, c .shared-slice-known2 .given 4))
-    (λ c. search needs)
+    (λ c. search needs) (λ c. search needs)
     (λ c. omega (arith, c .shared-slice-known3 .given 5))
     (λ c. omega (arith, c .shared-slice-known3 .given 4, c .shared-slice-known3 .given 5))
     (λ c. search needs)

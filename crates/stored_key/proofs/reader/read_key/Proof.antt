@@ -17,7 +17,7 @@ read-key-spec =
     (tie.spec
     (λ c. search needs) (λ c. search needs) (λ c κs. search needs)
     (λ c. c .before .read-sized .ensures)
-    (λ c. search needs) (λ c κs. search needs)
+    (λ c. search needs) (λ c. search needs) (λ c. search needs) (λ c. search needs) (λ c κs. search needs)
     (λ c. c .before .read-sized2 .ensures)
     (λ c κs. search needs)
     returns-3)

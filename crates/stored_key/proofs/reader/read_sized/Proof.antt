@@ -2,7 +2,7 @@
 use mathlib.Core.Path.{_≡_, sym, ap, _∙_}
 use mathlib.Core.Bool.{true≢false}
 use mathlib.Core.List.{List, []}
-use Prim.Native.Nat.{ℕ, _≤_}
+use Prim.Native.Nat.{ℕ, _+_, _≤_}
 use native.Mathlib.Omega.{arith}
 use borrow.Author.Needs.{needs}
 use borrow.Author.Tests.{not-true, not-false, eqb-false}
@@ -11,6 +11,7 @@ use lib.ListN.{length}
 use Rattle.refusal.specs.Code.{outcomeCode}
 use Rattle.refusal.proofs.Causes.{refused-number}
 use Rattle.hex.specs.Hex.{right, readLine}
+use Rattle.stored_key.specs.inner.Parts.{frameLength}
 use Rattle.stored_key.proofs.ReadAnswer.{refuses-key, reads-key, other-line, whole-line, right-framed, right-passed, framed-right}
 use Rattle.stored_key.proofs.reader.read_sized.Statement.{statement}
 use Rattle.stored_key.proofs.reader.read_sized.Tie as tie
@@ -60,8 +61,8 @@ returns-4 c =
     let line = whole (tested .before .before) in
     let told = sym (tested .is-framed .ensures) ∙ not-false (tested .is-framed .result) (found .before .before .if2 .left) in
     let granted = ap outcomeCode (c .enum-told2 .given .1) in
-    let some : 43 ≤ length (read q) = omega (arith, start q .pre .0, q .read-line .kept .1 .1 .0) in
-    let few : length (read q) ≤ 44 = omega (arith, start q .pre .1, q .read-line .kept .1 .1 .0) in
+    let some : frameLength ≤ length (read q) = omega (arith, start q .pre .0, q .read-line .kept .1 .1 .0) in
+    let few : length (read q) ≤ frameLength + 1 = omega (arith, start q .pre .1, q .read-line .kept .1 .1 .0) in
     reads-key _ (framed-right _ line (found .key-in .ensures) some few told (sym (checked .check-profile .ensures) ∙ granted)) granted (found .key-in .ensures)
 
 pub read-sized-spec : {M : Type 1} → statement M

@@ -7,7 +7,7 @@ use Rattle.stored_key.proofs.writer.last_bytes.Tie as tie
 
 returns : tie.Need-returns
 unfolding toBytes editionByte
-returns c = rw (c .before .before .word-bytes .ensures, c .mark-byte .ensures, c .before .marked .ensures)
+returns c = rw (c .before .before .word-bytes .ensures, c .mark-byte .ensures, c .before .mark-stands .ensures)
 
 pub last-bytes-spec : {M : Type 1} → statement M
 last-bytes-spec =

@@ -4,7 +4,8 @@ use native.Mathlib.Omega.{arith}
 use borrow.Author.Needs.{needs}
 use denote.Ref.{now}
 use lib.ListN.{length, take}
-use Rattle.stored_key.specs.Parts.{frontBytes}
+use Rattle.stored_key.specs.KeyFields.{seedField}
+use Rattle.stored_key.specs.inner.Parts.{place, frontBytes}
 use Rattle.stored_key.proofs.WriteAnswer.{front-taken, front-long, front-written}
 use Rattle.stored_key.proofs.writer.write_front.Statement.{statement}
 use Rattle.stored_key.proofs.writer.write_front.Tie as tie
@@ -16,10 +17,10 @@ longs s = search needs
 abbrev start : tie.After-profile-head → tie.Start
 start h = h .before .before
 
-front-are : (h : tie.After-profile-head) → take 6 (h .profile-head .result) ≡ frontBytes (start h .args .p)
+front-are : (h : tie.After-profile-head) → take (place seedField) (h .profile-head .result) ≡ frontBytes (start h .args .p)
 front-are h = front-taken (start h .args .p) (h .profile-head .ensures)
 
-front-count : (h : tie.After-profile-head) → length (take 6 (h .profile-head .result)) ≡ 6
+front-count : (h : tie.After-profile-head) → length (take (place seedField) (h .profile-head .result)) ≡ place seedField
 front-count h = ap length (front-are h) ∙ front-long (start h .args .p)
 
 slice-aggregate-write-bytes : tie.Need-slice-aggregate-write-bytes
@@ -45,6 +46,6 @@ write-front-spec =
     (λ c κs. search needs) (λ c. search needs)
     slice-aggregate-write-bytes
     write-bytes-requires
-    (λ c. search needs) (λ c κs. search needs) (λ c. search needs) (λ c κs. search needs)
+    (λ c. search needs) (λ c. search needs) (λ c κs. search needs) (λ c. search needs) (λ c. search needs) (λ c κs. search needs)
     (λ c. search needs)
     returns)
