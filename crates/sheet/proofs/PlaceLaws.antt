@@ -2,7 +2,7 @@
 use mathlib.Core.Path.{_≡_, refl, sym, ap, _∙_}
 use mathlib.Core.Bool.{Bool, true, false, cond, true≢false}
 use mathlib.Core.List.{List, [], _∷_, _++_}
-use Prim.Native.Nat.{ℕ, suc, _+_, _-_, _*_, _/_, _≤_, _<_}
+use Prim.Native.Nat.{ℕ, zero, suc, _+_, _-_, _*_, _/_, _≤_, _<_}
 use native.Mathlib.Numerals.{add-one}
 use native.Mathlib.Omega.{arith}
 use lib.Dec.{lit<, lit≤}
@@ -14,10 +14,11 @@ use Rattle.hex.proofs.Reading.{ending-within}
 use Rattle.profile.specs.declared.Profile.{Profile}
 use Rattle.frames.specs.Frames.{Frame, firstCharacters, firstFrame, frames, textFrame, frameAt}
 use Rattle.frames.specs.Lines.{readFrame}
+use Rattle.frames.proofs.FrameNumbers.{text-at}
 use Rattle.frames.proofs.FrameLaws.{frame-read, read-frame, line-behind, line-within}
 use Rattle.sheet.specs.Sheet.{Reading, wrongLine, read, inFront, followed, ended, readFrames, readSheet}
 use Rattle.sheet.specs.Operation.{lineIn, textIn}
-use Rattle.sheet.specs.Reader.{stepOf, start, Stands, behindLine, taken, readAt, judgement}
+use Rattle.sheet.specs.Reader.{stepOf, start, Stands, Due, behindLine, placeAfter, placeAt, readAt, judgement}
 use Rattle.sheet.specs.declared.frame.Step.the-variants as step
 use Rattle.sheet.specs.declared.place.Place.{Place}
 
@@ -42,67 +43,70 @@ module _ (sheet : List ℕ) (f : Frame) (here : Place) where
   abbrev line-here : Line
   line-here = readFrame f (drop (here .at) sheet)
 
-  taken-line : here .right ≡ true → taken sheet f here ≡ behindLine here (length (f .head)) line-here
-  unfolding taken
-  taken-line e = ap (λ t. cond t (behindLine here (length (f .head)) line-here) here) e
+  after-line : here .right ≡ true → placeAfter sheet f here ≡ behindLine here (length (f .head)) line-here
+  unfolding placeAfter
+  after-line e = ap (λ t. cond t (behindLine here (length (f .head)) line-here) here) e
 
-  pub taken-wrong : here .right ≡ true → step.Wrong ≡ stepOf (here .at) (length (f .head)) line-here → record { at = here .at; line = here .line; right = false } ≡ taken sheet f here
-  taken-wrong e q = sym (taken-line e ∙ step-wrong here (length (f .head)) line-here (sym q))
+  pub after-wrong : here .right ≡ true → step.Wrong ≡ stepOf (here .at) (length (f .head)) line-here → record { at = here .at; line = here .line; right = false } ≡ placeAfter sheet f here
+  after-wrong e q = sym (after-line e ∙ step-wrong here (length (f .head)) line-here (sym q))
 
-  pub taken-next : (next : ℕ) → here .right ≡ true → step.Next next ≡ stepOf (here .at) (length (f .head)) line-here
-      → record { at = next; line = here .line + 1; right = true } ≡ taken sheet f here
-  taken-next next e q = sym (taken-line e ∙ step-next here (length (f .head)) line-here next (sym q))
+  pub after-next : (next : ℕ) → here .right ≡ true → step.Next next ≡ stepOf (here .at) (length (f .head)) line-here
+      → record { at = next; line = here .line + 1; right = true } ≡ placeAfter sheet f here
+  after-next next e q = sym (after-line e ∙ step-next here (length (f .head)) line-here next (sym q))
 
-  pub taken-kept : here .right ≡ false → here ≡ taken sheet f here
-  unfolding taken
-  taken-kept e = sym (ap (λ t. cond t (behindLine here (length (f .head)) line-here) here) e)
+  pub after-kept : here .right ≡ false → here ≡ placeAfter sheet f here
+  unfolding placeAfter
+  after-kept e = sym (ap (λ t. cond t (behindLine here (length (f .head)) line-here) here) e)
 
   -- the sheet is judged the same from the next place on, whatever is to come
-  taken-judged : (fs : List Frame) → judgement (readAt sheet here (f ∷ fs)) ≡ judgement (readAt sheet (taken sheet f here) fs)
-  unfolding readAt taken behindLine readFrames followed
-  taken-judged fs = by (here .right) line-here refl refl
+  after-judged : (fs : List Frame) → judgement (readAt sheet here (f ∷ fs)) ≡ judgement (readAt sheet (placeAfter sheet f here) fs)
+  unfolding readAt placeAfter behindLine readFrames followed
+  after-judged fs = by (here .right) line-here refl refl
     where
-      by : (t : Bool) (l : Line) → here .right ≡ t → line-here ≡ l → judgement (readAt sheet here (f ∷ fs)) ≡ judgement (readAt sheet (taken sheet f here) fs)
+      by : (t : Bool) (l : Line) → here .right ≡ t → line-here ≡ l → judgement (readAt sheet here (f ∷ fs)) ≡ judgement (readAt sheet (placeAfter sheet f here) fs)
       by false l e q = rw e
       by true wrong e q = rw (e, q)
       by true (right bytes rest) e q =
           let behind = line-behind sheet (here .at) (f .head) bytes rest (read-frame f (drop (here .at) sheet) bytes rest q .line) in
           rw (e, q, behind, add-one) (judgement-front bytes (readFrames fs (suc (here .line)) rest))
 
-  taken-stands : Stands sheet here → Stands sheet (taken sheet f here)
-  unfolding taken behindLine
-  taken-stands h = by (here .right) line-here refl refl
+  after-stands : Stands sheet here → Stands sheet (placeAfter sheet f here)
+  unfolding placeAfter behindLine
+  after-stands h = by (here .right) line-here refl refl
     where
-      by : (t : Bool) (l : Line) → here .right ≡ t → line-here ≡ l → Stands sheet (taken sheet f here)
+      by : (t : Bool) (l : Line) → here .right ≡ t → line-here ≡ l → Stands sheet (placeAfter sheet f here)
       by false l e q = rw e h
       by true wrong e q = rw (e, q) h
       by true (right bytes rest) e q =
           let within = line-within sheet (here .at) (f .head) bytes rest (read-frame f (drop (here .at) sheet) bytes rest q .line) in
           rw (e, q) (within, omega arith)
 
--- the reader's way over the frames of a profile
+-- the places before the frames of a profile
 module _ (p : Profile) (sheet : List ℕ) where
-  -- before frame k
-  pub record Reached (k : ℕ) (here : Place) : Type 0 where
-    pub same : judgement (readSheet p sheet) ≡ judgement (readAt sheet here (drop k (frames p)))
-    pub stands : Stands sheet here
+  stands-at : (k : ℕ) → Stands sheet (placeAt sheet p k)
+  unfolding placeAt
+  stands-at zero = (omega arith, lit≤ tt)
+  stands-at (suc k) = after-stands sheet (frameAt p k) (placeAt sheet p k) (stands-at k)
 
-  pub reached-first : {here : Place} → here ≡ taken sheet firstFrame start → Reached 1 here
-  unfolding readSheet readAt frames
-  reached-first e =
-      rw e (record { same = taken-judged sheet firstFrame start (drop 1 (frames p)); stands = taken-stands sheet firstFrame start (omega arith, lit≤ tt) })
+  pub due-at : (k : ℕ) → Due sheet k (placeAt sheet p k)
+  unfolding placeAt
+  due-at k = (stands-at k, λ e. rw e)
 
-  pub reached-next : (k : ℕ) (here : Place) {next : Place} → k < length (frames p) → Reached k here → next ≡ taken sheet (frameAt p k) here → Reached (k + 1) next
-  reached-next k here h r e =
-      let cut : drop k (frames p) ≡ frameAt p k ∷ drop (k + 1) (frames p) = rw add-one (drop-cons (frames p) k textFrame h) in
-      rw e
-      (record {
-        same = r .same ∙ ap (λ fs. judgement (readAt sheet here fs)) cut ∙ taken-judged sheet (frameAt p k) here (drop (k + 1) (frames p));
-        stands = taken-stands sheet (frameAt p k) here (r .stands);
-      })
+  -- the sheet is judged the same from each of them on
+  judged-at : (k : ℕ) → k ≤ length (frames p) → judgement (readSheet p sheet) ≡ judgement (readAt sheet (placeAt sheet p k) (drop k (frames p)))
+  unfolding placeAt readSheet readAt
+  judged-at zero h = refl
+  judged-at (suc k) h =
+      judged-at k (omega arith) ∙ ap (λ fs. judgement (readAt sheet (placeAt sheet p k) fs)) (drop-cons (frames p) k textFrame (omega arith))
+      ∙ after-judged sheet (frameAt p k) (placeAt sheet p k) (drop (suc k) (frames p))
 
-  pub reached-text : (k : ℕ) (here : Place) → length (frames p) ≤ k → Reached k here → judgement (readSheet p sheet) ≡ judgement (readAt sheet here [])
-  reached-text k here h r = r .same ∙ ap (λ fs. judgement (readAt sheet here fs)) (drop-of-length-le (frames p) {i = k} h)
+  pub judged-text : (k : ℕ) → k ≡ length (frames p) → judgement (readSheet p sheet) ≡ judgement (readAt sheet (placeAt sheet p k) [])
+  judged-text k e = judged-at k (omega arith) ∙ ap (λ fs. judgement (readAt sheet (placeAt sheet p k) fs)) (drop-of-length-le (frames p) {i = k} (omega arith))
+
+  -- behind the last of them the text's frame is taken
+  pub text-taken : (k : ℕ) → k ≡ length (frames p) → placeAt sheet p (suc k) ≡ placeAfter sheet textFrame (placeAt sheet p k)
+  unfolding placeAt
+  text-taken k e = ap (λ f. placeAfter sheet f (placeAt sheet p k)) (text-at p k (omega arith))
 
 -- the text's line: a line is wrong, or the text is read
 data Ending (sheet : List ℕ) (here last : Place) : Type 0 where
@@ -111,14 +115,14 @@ data Ending (sheet : List ℕ) (here last : Place) : Type 0 where
       → readAt sheet here [] ≡ ended (here .line) (right text (drop (last .at) sheet)) → Ending sheet here last
 
 -- the text's line, and the end of the sheet
-module _ (sheet : List ℕ) (here last : Place) (e : last ≡ taken sheet textFrame here) where
+module _ (sheet : List ℕ) (here last : Place) (e : last ≡ placeAfter sheet textFrame here) where
   ending : Ending sheet here last
   unfolding readAt behindLine readFrames ended judgement lineIn textIn
   ending = by (here .right) (readFrame textFrame (drop (here .at) sheet)) refl refl
     where
       by : (t : Bool) (l : Line) → here .right ≡ t → readFrame textFrame (drop (here .at) sheet) ≡ l → Ending sheet here last
-      by false l t q = let kept : last ≡ here = e ∙ sym (taken-kept sheet textFrame here t) in broken (ap (λ r. r .right) kept ∙ t) (rw (kept, t))
-      by true l t q = line l q (e ∙ taken-line sheet textFrame here t ∙ ap (behindLine here 1) q)
+      by false l t q = let kept : last ≡ here = e ∙ sym (after-kept sheet textFrame here t) in broken (ap (λ r. r .right) kept ∙ t) (rw (kept, t))
+      by true l t q = line l q (e ∙ after-line sheet textFrame here t ∙ ap (behindLine here 1) q)
         where
           line : (l : Line) → readFrame textFrame (drop (here .at) sheet) ≡ l → last ≡ behindLine here 1 l → Ending sheet here last
           line wrong q s = broken (rw s) (rw (s, t, q))
@@ -170,8 +174,8 @@ module _ (sheet : List ℕ) where
       ap (λ l. firstCharacters ++ l) (sym rest) ∙ ap (λ l. l ++ drop 6 sheet) (sym e) ∙ take-append-drop 6 sheet in
       rw whole at (frame-read firstFrame [] (drop 7 sheet) (below-by-test 256 (71 ∷ 79 ∷ 49 ∷ []) tt) (λ i. lit< tt) (lit≤ tt) (lit≤ tt))
 
-  pub first-right : take 6 sheet ≡ firstCharacters → getD sheet 6 0 ≡ lineEnd → record { at = 7; line = 2; right = true } ≡ taken sheet firstFrame start
-  unfolding taken behindLine
+  pub first-right : take 6 sheet ≡ firstCharacters → getD sheet 6 0 ≡ lineEnd → record { at = 7; line = 2; right = true } ≡ placeAfter sheet firstFrame start
+  unfolding placeAfter behindLine
   first-right e end = rw (begun e end)
 
   first-apart : (line : Line) → readFrame firstFrame sheet ≡ line → (take 6 sheet ≡ firstCharacters → getD sheet 6 0 ≡ lineEnd → ⊥) → line ≡ wrong
@@ -182,9 +186,14 @@ module _ (sheet : List ℕ) where
       absurd (other (ap (take 6) line) (ap (λ l. getD l 6 0) line))
   first-apart (right (b ∷ bytes) rest) q other = absurd (omega (arith, read-frame firstFrame sheet (b ∷ bytes) rest q .few))
 
-  pub first-wrong : (take 6 sheet ≡ firstCharacters → getD sheet 6 0 ≡ lineEnd → ⊥) → record { at = 0; line = 1; right = false } ≡ taken sheet firstFrame start
-  unfolding taken behindLine
+  pub first-wrong : (take 6 sheet ≡ firstCharacters → getD sheet 6 0 ≡ lineEnd → ⊥) → record { at = 0; line = 1; right = false } ≡ placeAfter sheet firstFrame start
+  unfolding placeAfter behindLine
   first-wrong other = rw (first-apart (readFrame firstFrame sheet) refl other)
+
+  -- which is frame 0, where reading begins
+  pub first-after : (p : Profile) (k : ℕ) (here : Place) → k ≡ 0 → Due sheet k here → placeAfter sheet firstFrame start ≡ placeAfter sheet (frameAt p k) here
+  unfolding frames
+  first-after p k here e due = rw (e, due .1 e)
 
 -- the first characters, compared one by one
 module _ (sheet characters : List ℕ) where

@@ -1,11 +1,13 @@
 -- What the inner steps of the reader answer: "The reader takes the sheet frame after frame, each call picking up behind the last".
+use mathlib.Core.Path.{_≡_}
 use mathlib.Core.Bool.{true, false, cond}
 use mathlib.Core.List.{List}
-use Prim.Native.Nat.{ℕ, _+_, _*_, _≤_}
+use Prim.Native.Nat.{ℕ, zero, suc, _+_, _*_, _≤_}
 use lib.Dec.{leb}
 use lib.ListN.{length, drop}
+use Rattle.profile.specs.declared.Profile.{Profile}
 use Rattle.hex.specs.Hex.{Line, wrong, right}
-use Rattle.frames.specs.Frames.{Frame}
+use Rattle.frames.specs.Frames.{Frame, frameAt}
 use Rattle.frames.specs.Lines.{readFrame}
 use Rattle.sheet.specs.Sheet.{Reading, wrongLine, readFrames}
 use Rattle.sheet.specs.Operation.{lineIn, textIn}
@@ -34,14 +36,23 @@ start = record { at = 0; line = 1; right = true }
 abbrev pub Stands : (sheet : List ℕ) → Place → Type 0
 Stands sheet here = (here .at ≤ length sheet) × (here .line ≤ here .at + 1)
 
+-- a place where frame k may be taken: the first where reading begins
+abbrev pub Due : (sheet : List ℕ) (k : ℕ) → Place → Type 0
+Due sheet k here = Stands sheet here × (k ≡ 0 → here ≡ start)
+
 -- the place behind a line; a wrong line stays
 unfoldable pub behindLine : Place → (fixed : ℕ) → Line → Place
 behindLine here fixed wrong = record { at = here .at; line = here .line; right = false }
 behindLine here fixed (right bytes rest) = record { at = here .at + 2 * (fixed + length bytes) + 1; line = here .line + 1; right = true }
 
 -- the place once a frame is taken; behind a wrong line none is
-unfoldable pub taken : (sheet : List ℕ) → Frame → Place → Place
-taken sheet f here = cond (here .right) (behindLine here (length (f .head)) (readFrame f (drop (here .at) sheet))) here
+unfoldable pub placeAfter : (sheet : List ℕ) → Frame → Place → Place
+placeAfter sheet f here = cond (here .right) (behindLine here (length (f .head)) (readFrame f (drop (here .at) sheet))) here
+
+-- the place before frame k, "each call picking up behind the last"
+unfoldable pub placeAt : (sheet : List ℕ) → Profile → (k : ℕ) → Place
+placeAt sheet p zero = start
+placeAt sheet p (suc k) = placeAfter sheet (frameAt p k) (placeAt sheet p k)
 
 -- what a sheet is read as from a place on, where these frames and the text are still to come
 unfoldable pub readAt : (sheet : List ℕ) → Place → List Frame → Reading

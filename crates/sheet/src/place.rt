@@ -1,10 +1,9 @@
 // Places of the reader: what a frame does to one.
 ghost use mathlib.Core.Path.{_≡_};
 ghost use mathlib.Core.Bool.{true, false};
-ghost use Prim.Native.Nat.{_≤_};
 ghost use lib.ListN.{take};
 ghost use Rattle.frames.specs.Frames.{Within, firstFrame, frameAt};
-ghost use Rattle.sheet.specs.Reader.{start, Stands, taken};
+ghost use Rattle.sheet.specs.Reader.{start, Due, placeAfter};
 use super::frame::Step;
 use super::frame::ends_at;
 use super::frame::frame;
@@ -36,8 +35,8 @@ fn begins(sheet: &[u8], characters: [u8; 6]) -> bool
 }
 
 // The first line.
-pub fn first_line(sheet: &[u8]) -> Place
-    ensures { λ r. ⌜ r ≡ taken (now (sheet .entry)) firstFrame start ⌝ }
+fn first_line(sheet: &[u8]) -> Place
+    ensures { λ r. ⌜ r ≡ placeAfter (now (sheet .entry)) firstFrame start ⌝ }
 {
     let characters = first_characters();
     if begins(sheet, characters) {
@@ -56,11 +55,14 @@ pub fn first_line(sheet: &[u8]) -> Place
     }
 }
 
-// Frame k, behind the first line.
+// Frame k.
 pub fn take_frame(sheet: &[u8], here: Place, p: Profile, k: usize) -> Place
-    requires { ⌜ Stands (now sheet) here × Within p × (1 ≤ k) ⌝ }
-    ensures { λ r. ⌜ r ≡ taken (now (sheet .entry)) (frameAt p k) here ⌝ }
+    requires { ⌜ Due (now sheet) k here × Within p ⌝ }
+    ensures { λ r. ⌜ r ≡ placeAfter (now (sheet .entry)) (frameAt p k) here ⌝ }
 {
+    if k == 0 {
+        return first_line(sheet);
+    }
     let at = here.at;
     let line = here.line;
     let right = here.right;

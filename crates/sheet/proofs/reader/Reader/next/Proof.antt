@@ -45,7 +45,7 @@ use Rattle.profile.specs.declared.Profile.{Profile}
 use Rattle.profile.proofs.Profile as F
 use Rattle.profile.proofs.Profile.Laws as F′
 use Rattle.frames.specs.Frames.{frameAt}
-use Rattle.sheet.specs.Reader.{taken}
+use Rattle.sheet.specs.Reader.{placeAfter}
 use Rattle.sheet.specs.declared.place.Place.{Place}
 use Rattle.sheet.specs.declared.reader.Reader.{Reader}
 use Rattle.sheet.proofs.ReaderLaws.{lowered, Asked, met-calling}
@@ -97,7 +97,7 @@ module _ {M : Type 1} (𝓤 : URA M) (H : Heap 𝓤) (A : Atoms 𝓤) (W : Given
 
   -- what the callee says of the new place
   abbrev Told : Place → Type 0
-  Told r = r ≡ taken (now (d .sheet)) (frameAt p k) (d .place)
+  Told r = r ≡ placeAfter (now (d .sheet)) (frameAt p k) (d .place)
 
   abbrev Post : Val → SProp 𝓤
   Post = walkOf 𝓤 H A next.ended stayed (next.clauses 𝓤 H A mem run) .post (((κ, tt), (q, tt), tt, (d, (p, (k, tt))), vals), tt)
