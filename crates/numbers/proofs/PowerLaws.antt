@@ -4,7 +4,7 @@ use mathlib.Core.Bool.{Bool, true, false}
 use mathlib.Core.List.{List, [], _∷_, _++_}
 use mathlib.Core.Logic.{_⊎_, inl, inr}
 use Prim.Native.Nat.{ℕ, suc, _+_, _*_, _-_, _/_, _%_, _^_, _≤_, _<_, max}
-use native.Mathlib.Nat.{zero-div, le-trans, le-of-eq, le-max-left, le-max-right, div-lt-iff-lt-mul, le-div-iff-mul-le, mul-le-mul-left, add-comm}
+use native.Mathlib.Nat.{zero-div, le-trans, le-of-eq, le-max-left, le-max-right, div-lt-iff-lt-mul, le-div-iff-mul-le, mul-le-mul-left, add-comm, le-of-lt}
 use native.Mathlib.Omega.{arith}
 use borrow.Author.Tests.{ltb-true, ltb-false}
 use lib.Dec.{ltb}
@@ -116,7 +116,9 @@ value-shifted t (x ∷ xs) few words =
     let swapped : all / 2 ^ t / 2 ^ 32 ≡ value xs / 2 ^ t = shr-shr all t 32 ∙ ap (λ k. all / 2 ^ k) (add-comm t 32) ∙ sym (shr-shr all 32 t) ∙ ap (λ k. k / 2 ^ t) upper in
     rw (value-shifted t xs few (λ j. words (suc j)), ← window all (x + 2 ^ 32 * getD xs 0 0) t few (two-lowest x xs), ← swapped) (omega arith)
 
-pub value-shifted-5 : (t : ℕ) (n : List ℕ) → length n ≡ 5 → t ≤ 32 → Below (2 ^ 32) n
-    → value (shiftedWord t (getD n 0 0) (getD n 1 0) ∷ shiftedWord t (getD n 1 0) (getD n 2 0) ∷ shiftedWord t (getD n 2 0) (getD n 3 0) ∷ shiftedWord t (getD n 3 0) (getD n 4 0) ∷ shiftedWord t (getD n 4 0) 0 ∷ [])
-    ≡ value n / 2 ^ t
-value-shifted-5 t n long few words = ap (λ l. value (shiftedWords t l)) (sym (five 0 n long)) ∙ value-shifted t n few words
+pub value-shifted-5 : (t : ℕ) (n : List ℕ) {a b c d e : ℕ} → length n ≡ 5 → t < 32 → Below (2 ^ 32) n
+    → a ≡ shiftedWord t (getD n 0 0) (getD n 1 0) → b ≡ shiftedWord t (getD n 1 0) (getD n 2 0) → c ≡ shiftedWord t (getD n 2 0) (getD n 3 0)
+    → d ≡ shiftedWord t (getD n 3 0) (getD n 4 0) → e ≡ shiftedWord t (getD n 4 0) 0
+    → value (a ∷ b ∷ c ∷ d ∷ e ∷ []) ≡ value n / 2 ^ t
+value-shifted-5 t n long few words ea eb ec ed ee =
+    rw (ea, eb, ec, ed, ee) (ap (λ l. value (shiftedWords t l)) (sym (five 0 n long)) ∙ value-shifted t n (le-of-lt few) words)

@@ -1,8 +1,9 @@
--- A digest is 32 bytes.
+-- A digest is 32 bytes, and how its words are put into them.
 use mathlib.Core.Path.{_≡_}
 use mathlib.Core.List.{List, _++_}
 use Prim.Native.Nat.{ℕ}
-use lib.ListN.{length, length-append}
+use lib.ListN.{length, replicate, length-append}
+use lib.Seq.{paste}
 use Rattle.octets.specs.Bytes.{toBytes}
 use Rattle.octets.proofs.ByteLaws.{length-toBytes, toBytes-lt}
 use Rattle.lists.proofs.Lists.{Below, below-append}
@@ -21,3 +22,10 @@ digest-below bytes =
   where
     more : (x : ℕ) (l : List ℕ) → Below 256 l → Below 256 (toBytes 4 x ++ l)
     more x l below = below-append 256 (toBytes 4 x) l (toBytes-lt 4 x) below
+
+-- the words of a hash value put one behind the other into 32 bytes
+pub words-put : (v : HashWords) {a b c d e f g h : List ℕ} → a ≡ paste (replicate 32 0) 0 (toBytes 4 (v .a)) 4 → b ≡ paste a 4 (toBytes 4 (v .b)) 4
+    → c ≡ paste b 8 (toBytes 4 (v .c)) 4 → d ≡ paste c 12 (toBytes 4 (v .d)) 4 → e ≡ paste d 16 (toBytes 4 (v .e)) 4
+    → f ≡ paste e 20 (toBytes 4 (v .f)) 4 → g ≡ paste f 24 (toBytes 4 (v .g)) 4 → h ≡ paste g 28 (toBytes 4 (v .h)) 4 → h ≡ wordBytes v
+unfolding toBytes wordBytes
+words-put v ea eb ec ed ee ef eg eh = rw (eh, eg, ef, ee, ed, ec, eb, ea)

@@ -38,13 +38,13 @@ unfolding rootWord wholeRoot
 root-word e p low high = record { root = wholeRoot e (p * 2 ^ (32 * e)); whole = root-from e (p * 2 ^ (32 * e)) 35 0 low high; word = refl }
 
 -- the primes, computed once
-unfoldable listed : List ℕ
+unfoldable pub listed : List ℕ
 listed =
     2 ∷ 3 ∷ 5 ∷ 7 ∷ 11 ∷ 13 ∷ 17 ∷ 19 ∷ 23 ∷ 29 ∷ 31 ∷ 37 ∷ 41 ∷ 43 ∷ 47 ∷ 53 ∷ 59 ∷ 61 ∷ 67 ∷ 71 ∷ 73 ∷ 79 ∷ 83 ∷ 89 ∷ 97 ∷ 101 ∷ 103 ∷ 107 ∷ 109 ∷
     113 ∷ 127 ∷ 131 ∷ 137 ∷ 139 ∷ 149 ∷ 151 ∷ 157 ∷ 163 ∷ 167 ∷ 173 ∷ 179 ∷ 181 ∷ 191 ∷ 193 ∷ 197 ∷ 199 ∷ 211 ∷ 223 ∷ 227 ∷ 229 ∷ 233 ∷ 239 ∷ 241 ∷
     251 ∷ 257 ∷ 263 ∷ 269 ∷ 271 ∷ 277 ∷ 281 ∷ 283 ∷ 293 ∷ 307 ∷ 311 ∷ []
 
-primes-listed : primes ≡ listed
+pub primes-listed : primes ≡ listed
 unfolding listed primes primesFrom isPrime hasDivisor
 primes-listed = refl
 

@@ -1,9 +1,13 @@
--- A round and a sum of hash values from the sums of words that the code forms one by one.
+-- A sigma function, a round and a sum of hash values from the words that the code forms one by one.
 use mathlib.Core.Path.{_≡_}
 use Prim.Native.Nat.{ℕ}
+use lib.Bits.{bitXor}
 use Rattle.sha256_block.specs.Functions.{_⊞_, Ch, Maj, Σ₀, Σ₁}
 use Rattle.sha256_block.specs.Compression.{round, addWords}
 use Rattle.sha256_block.specs.declared.compression.HashWords.{HashWords}
+
+pub xored : {a b c x y z : ℕ} → a ≡ x → b ≡ y → c ≡ z → bitXor (bitXor a b) c ≡ bitXor (bitXor x y) z
+xored p q r = rw (p, q, r)
 
 pub round-made : (v : HashWords) (k w : ℕ) {s₁ x c y z t₁ s₀ m t₂ a e : ℕ} → s₁ ≡ Σ₁ (v .e) → x ≡ v .h ⊞ s₁ → c ≡ Ch (v .e) (v .f) (v .g)
     → y ≡ x ⊞ c → z ≡ y ⊞ k → t₁ ≡ z ⊞ w → s₀ ≡ Σ₀ (v .a) → m ≡ Maj (v .a) (v .b) (v .c) → t₂ ≡ s₀ ⊞ m → a ≡ t₁ ⊞ t₂ → e ≡ v .d ⊞ t₁

@@ -1,16 +1,16 @@
 -- `sha256::running::extended` meets its contract: the bytes stay within the block, or fill it and go on behind it.
-use mathlib.Core.Path.{sym, ap, _≡_, _∙_}
-use mathlib.Core.List.{List, _++_, append-nil}
-use Prim.Native.Nat.{ℕ, _+_, _-_, _%_}
+use mathlib.Core.Path.{sym, _≡_}
+use mathlib.Core.List.{List}
+use Prim.Native.Nat.{ℕ, _-_, _%_}
 use native.Mathlib.Omega.{arith}
 use borrow.Author.Needs.{needs}
 use denote.Ref.{now}
-use lib.ListN.{length, take, replicate}
+use lib.ListN.{length, take}
 use lib.Seq.{length-take-le}
-use Rattle.lists.proofs.Fill.{pasted, part-to-end}
+use Rattle.lists.proofs.Fill.{part-to-end}
 use Rattle.sha256.specs.Running.{pending}
 use Rattle.sha256.specs.declared.running.Hash.{Hash}
-use Rattle.sha256.proofs.Extension.{within-block, past-block}
+use Rattle.sha256.proofs.Extension.{within-made, past-made}
 use Rattle.sha256.proofs.running.extended.Statement.{statement}
 use Rattle.sha256.proofs.running.extended.Tie as tie
 
@@ -34,10 +34,7 @@ returns : tie.Need-returns
 unfolding pending
 returns c =
     let at-kept = c .before .before in
-    let s = state at-kept in
-    let bytes = added at-kept in
-    let block = pasted (take (s .total % 64) (s .block)) 0 bytes (s .total % 64) 64 (long at-kept) (omega arith) (at-kept .kept .ensures) (c .put .ensures) in
-    within-block s bytes (long at-kept) (c .put .result) (omega arith) block
+    within-made (state at-kept) (added at-kept) (long at-kept) (c .before .if1 .taken) (at-kept .kept .ensures) (c .put .ensures)
 
 slice-aggregate-put : tie.Need-slice-aggregate-put
 slice-aggregate-put c = let at-kept = c .before .before in sym (length-take-le (room at-kept) (added at-kept) (c .before .if1 .left))
@@ -48,18 +45,12 @@ put-requires-2 c κs = let at-kept = c .before .before in omega (arith, length-t
 returns-2 : tie.Need-returns-2
 unfolding pending
 returns-2 c =
-    let at-put = c .before .before .before .before .before in
+    let at-absorb = c .before in
+    let at-compress = at-absorb .before in
+    let at-put = at-compress .before .before .before in
     let at-kept = at-put .before .before .before in
-    let s = state at-kept in
-    let bytes = added at-kept in
-    let front = take (s .total % 64) (s .block) in
-    let filler = take (room at-kept) bytes in
-    let filler-long = length-take-le (room at-kept) bytes (at-put .before .before .if1 .left) in
-    let none : 64 - (s .total % 64 + length filler) ≡ 0 = omega (arith, filler-long) in
-    let first : at-put .put2 .result ≡ front ++ filler =
-    pasted front 0 filler (s .total % 64) 64 (long at-kept) (omega (arith, filler-long)) (at-kept .kept .ensures) (at-put .put2 .ensures)
-    ∙ ap (λ k. (front ++ filler) ++ replicate k 0) none ∙ append-nil (front ++ filler) in
-    cc (part-to-end bytes (room at-kept), past-block s bytes (long at-kept) (at-put .put2 .result) (omega arith) first)
+    past-made (state at-kept) (added at-kept) (long at-kept) (at-put .before .before .if1 .left) (at-kept .kept .ensures) (at-put .put2 .ensures)
+    (at-compress .compress .ensures) (part-to-end (added at-kept) (room at-kept)) (at-absorb .absorb .ensures) (c .rest .ensures)
 
 pub extended-spec : {M : Type 1} → statement M
 extended-spec =

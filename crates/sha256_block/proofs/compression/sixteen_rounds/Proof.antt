@@ -4,6 +4,7 @@ use mathlib.Core.List.{List}
 use Prim.Native.Nat.{ℕ, suc, _+_, _<_}
 use native.Mathlib.Nat.{add-zero}
 use native.Mathlib.Omega.{arith}
+use lib.Dec.{lit<}
 use lib.ListN.{getD, take, drop}
 use lib.Seq.{getD-take, getD-drop}
 use Rattle.sha256_block.specs.Constants.{roundWords}
@@ -30,41 +31,41 @@ returns c =
     let start = c₄ .before .before .before .before in
     let t = start .args .t in
     let e₀ : start .args .v ≡ roundsOf (t + 0) v₀ all = rw add-zero p in
-    let e₁ = next t _ all v₀ 0 q (omega arith) e₀ (c₄ .before .before .before .round-at .ensures) in
-    let e₂ = next t _ all v₀ 1 q (omega arith) e₁ (c₄ .before .before .round-at2 .ensures) in
-    let e₃ = next t _ all v₀ 2 q (omega arith) e₂ (c₄ .before .round-at3 .ensures) in
-    let e₄ = next t _ all v₀ 3 q (omega arith) e₃ (c₄ .round-at4 .ensures) in
-    let e₅ = next t _ all v₀ 4 q (omega arith) e₄ (c₈ .before .before .before .round-at5 .ensures) in
-    let e₆ = next t _ all v₀ 5 q (omega arith) e₅ (c₈ .before .before .round-at6 .ensures) in
-    let e₇ = next t _ all v₀ 6 q (omega arith) e₆ (c₈ .before .round-at7 .ensures) in
-    let e₈ = next t _ all v₀ 7 q (omega arith) e₇ (c₈ .round-at8 .ensures) in
-    let e₉ = next t _ all v₀ 8 q (omega arith) e₈ (c₁₂ .before .before .before .round-at9 .ensures) in
-    let e₁₀ = next t _ all v₀ 9 q (omega arith) e₉ (c₁₂ .before .before .round-at10 .ensures) in
-    let e₁₁ = next t _ all v₀ 10 q (omega arith) e₁₀ (c₁₂ .before .round-at11 .ensures) in
-    let e₁₂ = next t _ all v₀ 11 q (omega arith) e₁₁ (c₁₂ .round-at12 .ensures) in
-    let e₁₃ = next t _ all v₀ 12 q (omega arith) e₁₂ (c .before .before .before .round-at13 .ensures) in
-    let e₁₄ = next t _ all v₀ 13 q (omega arith) e₁₃ (c .before .before .round-at14 .ensures) in
-    let e₁₅ = next t _ all v₀ 14 q (omega arith) e₁₄ (c .before .round-at15 .ensures) in
-    next t _ all v₀ 15 q (omega arith) e₁₅ (c .round-at16 .ensures)
+    let e₁ = next t _ all v₀ 0 q (lit< tt) e₀ (c₄ .before .before .before .round-at .ensures) in
+    let e₂ = next t _ all v₀ 1 q (lit< tt) e₁ (c₄ .before .before .round-at2 .ensures) in
+    let e₃ = next t _ all v₀ 2 q (lit< tt) e₂ (c₄ .before .round-at3 .ensures) in
+    let e₄ = next t _ all v₀ 3 q (lit< tt) e₃ (c₄ .round-at4 .ensures) in
+    let e₅ = next t _ all v₀ 4 q (lit< tt) e₄ (c₈ .before .before .before .round-at5 .ensures) in
+    let e₆ = next t _ all v₀ 5 q (lit< tt) e₅ (c₈ .before .before .round-at6 .ensures) in
+    let e₇ = next t _ all v₀ 6 q (lit< tt) e₆ (c₈ .before .round-at7 .ensures) in
+    let e₈ = next t _ all v₀ 7 q (lit< tt) e₇ (c₈ .round-at8 .ensures) in
+    let e₉ = next t _ all v₀ 8 q (lit< tt) e₈ (c₁₂ .before .before .before .round-at9 .ensures) in
+    let e₁₀ = next t _ all v₀ 9 q (lit< tt) e₉ (c₁₂ .before .before .round-at10 .ensures) in
+    let e₁₁ = next t _ all v₀ 10 q (lit< tt) e₁₀ (c₁₂ .before .round-at11 .ensures) in
+    let e₁₂ = next t _ all v₀ 11 q (lit< tt) e₁₁ (c₁₂ .round-at12 .ensures) in
+    let e₁₃ = next t _ all v₀ 12 q (lit< tt) e₁₂ (c .before .before .before .round-at13 .ensures) in
+    let e₁₄ = next t _ all v₀ 13 q (lit< tt) e₁₃ (c .before .before .round-at14 .ensures) in
+    let e₁₅ = next t _ all v₀ 14 q (lit< tt) e₁₄ (c .before .round-at15 .ensures) in
+    next t _ all v₀ 15 q (lit< tt) e₁₅ (c .round-at16 .ensures)
 
 pub sixteen-rounds-spec : {M : Type 1} → statement M
 sixteen-rounds-spec =
     tie.close
     (tie.spec
-    (λ c κs. (c .pre, omega arith))
-    (λ c κs. (c .before .pre, omega arith))
-    (λ c κs. (c .before .before .pre, omega arith))
-    (λ c κs. (c .before .before .before .pre, omega arith))
-    (λ c κs. (c .before .before .before .before .pre, omega arith))
-    (λ c κs. (c .before .before .before .before .before .pre, omega arith))
-    (λ c κs. (c .before .before .before .before .before .before .pre, omega arith))
-    (λ c κs. (c .before .before .before .before .before .before .before .pre, omega arith))
-    (λ c κs. (c .before .before .before .before .before .before .before .before .pre, omega arith))
-    (λ c κs. (c .before .before .before .before .before .before .before .before .before .pre, omega arith))
-    (λ c κs. (c .before .before .before .before .before .before .before .before .before .before .pre, omega arith))
-    (λ c κs. (c .before .before .before .before .before .before .before .before .before .before .before .pre, omega arith))
-    (λ c κs. (c .before .before .before .before .before .before .before .before .before .before .before .before .pre, omega arith))
-    (λ c κs. (c .before .before .before .before .before .before .before .before .before .before .before .before .before .pre, omega arith))
-    (λ c κs. (c .before .before .before .before .before .before .before .before .before .before .before .before .before .before .pre, omega arith))
-    (λ c κs. (c .before .before .before .before .before .before .before .before .before .before .before .before .before .before .before .pre, omega arith))
+    (λ c κs. (c .pre, lit< tt))
+    (λ c κs. (c .before .pre, lit< tt))
+    (λ c κs. (c .before .before .pre, lit< tt))
+    (λ c κs. (c .before .before .before .pre, lit< tt))
+    (λ c κs. (c .before .before .before .before .pre, lit< tt))
+    (λ c κs. (c .before .before .before .before .before .pre, lit< tt))
+    (λ c κs. (c .before .before .before .before .before .before .pre, lit< tt))
+    (λ c κs. (c .before .before .before .before .before .before .before .pre, lit< tt))
+    (λ c κs. (c .before .before .before .before .before .before .before .before .pre, lit< tt))
+    (λ c κs. (c .before .before .before .before .before .before .before .before .before .pre, lit< tt))
+    (λ c κs. (c .before .before .before .before .before .before .before .before .before .before .pre, lit< tt))
+    (λ c κs. (c .before .before .before .before .before .before .before .before .before .before .before .pre, lit< tt))
+    (λ c κs. (c .before .before .before .before .before .before .before .before .before .before .before .before .pre, lit< tt))
+    (λ c κs. (c .before .before .before .before .before .before .before .before .before .before .before .before .before .pre, lit< tt))
+    (λ c κs. (c .before .before .before .before .before .before .before .before .before .before .before .before .before .before .pre, lit< tt))
+    (λ c κs. (c .before .before .before .before .before .before .before .before .before .before .before .before .before .before .before .pre, lit< tt))
     returns)
