@@ -17,6 +17,7 @@ use Rattle.counts.proofs.NextCell.{row-small}
 use Rattle.counts.specs.Counts.{sumTo, share, D, count}
 use Rattle.counts.specs.Table.{rows, tableLength, Holds}
 use Rattle.codewords.specs.Codeword.{place as search-from, codeword}
+use Rattle.codewords.proofs.PlaceLaws.{one-more, next-within, one-less, behind-within, behind-few, from-few, less-left, left-within, share-at, share-within, not-above}
 use Rattle.codewords.proofs.SearchLaws.{still, skipped, searched, found, number-next, row-next, holds, too-small, taken-off}
 use Rattle.codewords.proofs.unranking.write_codeword.Statement.{statement}
 use Rattle.codewords.proofs.unranking.write_codeword.Tie as tie
@@ -61,8 +62,7 @@ places q = start q .args .p .chains - 1 - q .before .before .loop .place
 number-below : (q : Search) → value (q .before .before .loop .n) < sumTo (share (D (start q .args .p .width) (places q)) (q .before .before .loop .left)) (start q .args .p .width)
 unfolding D
 number-below q =
-    let one : start q .args .p .chains - q .before .before .loop .place ≡ suc (places q) = omega arith in
-    rw one at (q .before .before .loop .inv .3)
+    rw (one-more (start q .args .p .chains) (q .before .before .loop .place) (q .before .loop-test .taken)) at (q .before .before .loop .inv .3)
 
 placing : (q : Search) → (q .loop2 .j < start q .args .p .width) × (q .loop2 .j ≤ q .before .before .loop .left)
 placing q =
@@ -72,10 +72,11 @@ placing q =
 read-room : (q : Search) → 5 * (places q * (start q .args .p .sum + 1) + q .before .before .loop .left) + 5 ≤ length (now (start q .args .table))
 read-room q =
     let p = start q .args .p in
-    cell-within (p .width) (p .sum) (p .chains + 1) (now (start q .args .table)) (table-is (start q)) (places q) (q .before .before .loop .left) (omega arith) (q .before .before .loop .inv .1)
+    cell-within (p .width) (p .sum) (p .chains + 1) (now (start q .args .table)) (table-is (start q)) (places q) (q .before .before .loop .left)
+    (behind-within (p .chains) (q .before .before .loop .place)) (q .before .before .loop .inv .1)
 
 few : (q : Search) → places q ≤ 40
-few q = omega (arith, limits (start q))
+few q = behind-few (start q .args .p .chains) (q .before .before .loop .place) (limits (start q) .2)
 
 -- the number read is the share of the length
 share-read : (c : tie.After-load Inv-loop2 μ-loop2 Inv-loop μ-loop)
@@ -85,17 +86,18 @@ share-read c =
     let p = start q .args .p in
     let table = now (start q .args .table) in
     let left = q .before .before .loop .left in
-    let at : places q * (p .sum + 1) + left - q .loop2 .j ≡ places q * (p .sum + 1) + (left - q .loop2 .j) = omega (arith, placing q .1) in
+    let at = share-at (places q * (p .sum + 1)) left (q .loop2 .j) (placing q .1) in
     c .load .ensures ∙ ap (λ k. take 5 (drop (5 * k) table)) at
-    ∙ cell-of (p .width) (p .sum) (p .chains + 1) (places q) (left - q .loop2 .j) table (table-is (start q)) (omega arith) (omega (arith, q .before .before .loop .inv .1))
+    ∙ cell-of (p .width) (p .sum) (p .chains + 1) (places q) (left - q .loop2 .j) table (table-is (start q))
+    (behind-within (p .chains) (q .before .before .loop .place)) (left-within left (q .loop2 .j) (q .before .before .loop .inv .1))
 
 small : (q : Search) → value (q .loop2 .n) < 2 ^ 160
 small q =
     let p = start q .args .p in
     let l = q .before .before .loop in
     let h = limits (start q) in
-    let least : value (q .loop2 .n) ≤ value (l .n) = omega (arith, q .loop2 .inv .0) in
-    lt-of-le-of-lt least (lt-trans (l .inv .3) (D-small (p .width) (p .chains - l .place) (l .left) (h .0) (h .1) (omega (arith, h))))
+    lt-of-le-of-lt (not-above (sumTo (share (D (p .width) (places q)) (l .left)) (q .loop2 .j)) (value (q .loop2 .n)) (q .loop2 .inv .0))
+    (lt-trans (l .inv .3) (D-small (p .width) (p .chains - l .place) (l .left) (h .0) (h .1) (from-few (p .chains) (l .place) (h .2))))
 
 -- the length found is that of the definition
 found-here : (c : tie.Then1 Inv-loop2 μ-loop2 Inv-loop μ-loop)
@@ -138,7 +140,7 @@ sub-load : tie.Need-sub-load Inv-loop2 μ-loop2 Inv-loop μ-loop
 sub-load c = omega (arith, placing c .1)
 
 load-requires : tie.Need-load-requires Inv-loop2 μ-loop2 Inv-loop μ-loop
-load-requires c κs = omega (arith, read-room c)
+load-requires c κs = share-within (places c * (start c .args .p .sum + 1)) (c .before .before .loop .left) (c .loop2 .j) (read-room c)
 
 subtract-requires : tie.Need-subtract-requires Inv-loop2 μ-loop2 Inv-loop μ-loop
 subtract-requires c κs = ltb-false _ _ (sym (c .before .less .ensures) ∙ c .if1 .left)
@@ -177,11 +179,11 @@ loop-again c =
     let q = c .before .before .before in
     let p = start q .args .p in
     let l = q .before .before .loop in
-    let here : p .chains - l .place ≡ suc (places q) = omega arith in
-    let behind : p .chains - (l .place + 1) ≡ places q = omega arith in
+    let here = one-more (p .chains) (l .place) (q .before .loop-test .taken) in
+    let behind = one-less (p .chains) (l .place) in
     let e = found-here c in (
-      omega arith,
-      omega (arith, l .inv .1),
+      next-within (p .chains) (l .place) (q .before .loop-test .taken),
+      less-left (l .left) (q .loop2 .j) (l .inv .1),
       simp length-set (l .inv .2),
       rw behind (number-next (p .width) (places q) (l .left) (value (l .n)) (q .loop2 .j) (value (q .loop2 .n)) e (rw here at (l .inv .3))),
       rw behind (row-next (p .width) (places q) (l .left) (value (l .n)) (q .loop2 .j) (value (q .loop2 .n)) e (l .row) _ (l .place) (omega (arith, start q .pre .1 .1 .1, l .inv .2)) (rw here at (l .inv .4))),
