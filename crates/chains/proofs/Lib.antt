@@ -2,3 +2,4 @@
 pub mod ChainLaws
 pub mod LeafLaws
 pub mod LeafRecover
+pub mod RowFront
