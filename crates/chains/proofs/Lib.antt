@@ -2,4 +2,5 @@
 pub mod ChainLaws
 pub mod LeafLaws
 pub mod LeafRecover
+pub mod RowFront
 pub mod StepLaws

@@ -13,16 +13,21 @@ use Rattle.profile.proofs.Limits.{profile-numbered}
 use Rattle.counts.specs.Counts.{count}
 use Rattle.counts.specs.Table.{tableLength, tableCauses}
 use Rattle.counts.proofs.Room.{table-numbered}
+use Rattle.codewords.specs.Operations.{rowOf}
 use Rattle.tweak.specs.Tweak.{firstDomain}
 use Rattle.tweak.specs.declared.Domain.{Domain}
+use Rattle.chains.specs.Leaves.{leafKeyOf, revealed}
+use Rattle.one_time.specs.Operations.{revealedBy, recoveredBy, stepsOf}
 use Rattle.one_time.proofs.RecoverLaws.{steps-below, recovers-revealed}
+use Rattle.merkle.specs.Nodes.{path}
 use Rattle.tree.specs.Tree.{rootOf}
-use Rattle.message.specs.Message.{signatureLength}
-use Rattle.verifier.specs.Verifying.{taken, numberIn, recoveredRoot, rootIn, causesBeforeRoot, verifyCode, verifierAfter, stepsMade}
+use Rattle.signature.specs.Signature.{signatureLength}
+use Rattle.signature.proofs.Parts.{Parts}
+use Rattle.verifier.specs.Verifying.{withAccepted, numberIn, recoveredRoot, rootAlong, rootIn}
+use Rattle.verifier.specs.Operations.{causesBeforeRoot, verifyCode, verifierAfter, stepsMade}
 use Rattle.verifier.specs.declared.Verifier.{Verifier}
-use Rattle.claims.specs.Orders.{Issued}
+use Rattle.claims.specs.Orders.{Issued, ownCheck}
 use Rattle.claims.proofs.Climb.{climbs}
-use Rattle.claims.proofs.ReadBack.{ReadBack}
 use Rattle.claims.proofs.Judged.{judged-by-root}
 use Rattle.claims.proofs.LeafLaws.{leaf-inside, Free, CabinetOf}
 use Rattle.claims.proofs.Made.{numberOf, Made, made-below, made-read}
@@ -42,7 +47,7 @@ module _ (p : Profile) (seed secret : List ℕ) (leaf : ℕ) (one : Issued) (mad
   abbrev n : ℕ
   n = numberOf p seed secret leaf (made .r) (one .message)
 
-  back : ReadBack d p secret leaf n (made .r) (one .signature)
+  back : Parts p leaf (made .r) (revealed d secret leaf (p .shape .chains) (rowOf (p .shape) n)) (path d (leafKeyOf d p secret) (p .height) leaf) (one .signature)
   back = made-read p seed secret leaf one made
 
   below : n < count (p .shape)
@@ -53,14 +58,14 @@ module _ (p : Profile) (seed secret : List ℕ) (leaf : ℕ) (one : Issued) (mad
   made-number = rw (back .own-leaf, back .own-random, of .same-profile, of .same-seed, of .same-root)
 
   made-root : rootIn v (one .message) (one .signature) ≡ v .root
-  unfolding rootIn recoveredRoot
+  unfolding rootAlong recoveredRoot recoveredBy revealedBy
   made-root =
       rw
       (back .own-leaf, made-number, of .same-profile, of .same-seed, of .same-root, back .own-values, back .own-siblings, recovers-revealed d p secret leaf n below)
       (climbs d p secret leaf (made .in-tree))
 
   module _ (work : List ℕ) (free : Free v leaf) (long : tableLength (p .shape) ≤ length work) where
-    before : firstCause (causesBeforeRoot v (one .message) (one .signature) work) ≡ 0
+    before : firstCause (causesBeforeRoot v (ownCheck one work)) ≡ 0
     unfolding causesBeforeRoot
     before =
         rw (back .own-leaf, free, of .same-profile)
@@ -74,14 +79,14 @@ module _ (p : Profile) (seed secret : List ℕ) (leaf : ℕ) (one : Issued) (mad
 
     -- what a check of it answers
     pub record MadeAccepted : Type 0 where
-      pub accepted : verifyCode v (one .message) (one .signature) work ≡ 0
-      pub steps : stepsMade v (one .message) (one .signature) work ≡ p .shape .chains * (p .shape .width - 1) - p .shape .sum
-      pub after : verifierAfter v (one .message) (one .signature) work ≡ taken v leaf
+      pub accepted : verifyCode v (ownCheck one work) ≡ 0
+      pub steps : stepsMade v (ownCheck one work) ≡ p .shape .chains * (p .shape .width - 1) - p .shape .sum
+      pub after : verifierAfter v (ownCheck one work) ≡ withAccepted v leaf
 
     pub made-accepted : MadeAccepted
-    unfolding verifierAfter stepsMade
+    unfolding verifierAfter stepsMade stepsOf
     made-accepted =
-        let accepted = judged-by-root v (one .message) (one .signature) work before .1 made-root in
+        let accepted = judged-by-root v (ownCheck one work) before .1 made-root in
         record {
           accepted = accepted;
           steps = rw (accepted, made-number, of .same-profile) (steps-below (p .shape) n below);

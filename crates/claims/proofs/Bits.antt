@@ -19,9 +19,10 @@ use Rattle.counts.proofs.Answer.{count-some}
 use Rattle.counts.proofs.Room.{table-numbered}
 use Rattle.message.specs.Message.{countTooSmall}
 use Rattle.message.proofs.NumberLaws.{bits-few, bits-held, bits-largest, number-of-bits, number-below-count, number-of-16-bytes}
-use Rattle.signer.specs.Signing as signing
+use Rattle.signer.specs.Operations.{SigningCall, signCauses, signCode}
 use Rattle.signing_key.specs.declared.SigningKey.{SigningKey}
-use Rattle.verifier.specs.Verifying as verifying
+use Rattle.verifier.specs.Verifying.{rootIn, sameBytes}
+use Rattle.verifier.specs.Operations.{VerifyingCall, verifyCauses, causesBeforeRoot, verifyCode}
 use Rattle.verifier.specs.declared.Verifier.{Verifier}
 use Rattle.claims.specs.Bits.{LargestBits, NumbersFit, SmallCounts}
 
@@ -57,46 +58,46 @@ nineteen first own last counted numbered before behind =
       (λ holds. sym (ap firstCause joined) ∙ answers .1 (holds .0, lt-ltb counted 256 (holds .1))),
     )
 
-module _ (key : SigningKey) (r message work out : List ℕ) where
+module _ (key : SigningKey) (call : SigningCall) where
   abbrev sign-first : List (Bool × ℕ)
-  sign-first = tableCauses (key .profile) (length work)
+  sign-first = tableCauses (key .profile) (length (call .work))
 
   abbrev sign-own : List (Bool × ℕ)
-  sign-own = signing.orderCauses key (length message) (length out)
+  sign-own = signCauses key (length (call .message)) (length (call .out))
 
-  sign-seven : signing.signCode key r message work out ≡ 7 → ⊥
-  unfolding signing.signCode
-  sign-seven = never-seven (key .profile) (length work) (sign-own ++ ((countTooSmall (count (key .profile .shape)), 19) ∷ [])) (refl, (refl, (refl, (refl, tt))))
+  sign-seven : signCode key call ≡ 7 → ⊥
+  unfolding signCode
+  sign-seven = never-seven (key .profile) (length (call .work)) (sign-own ++ ((countTooSmall (count (key .profile .shape)), 19) ∷ [])) (refl, (refl, (refl, (refl, tt))))
 
-  sign-nineteen : (signing.signCode key r message work out ≡ 19) ↔ ((firstCause (sign-first ++ sign-own) ≡ 0) × (count (key .profile .shape) < 256))
-  unfolding signing.signCode
+  sign-nineteen : (signCode key call ≡ 19) ↔ ((firstCause (sign-first ++ sign-own) ≡ 0) × (count (key .profile .shape) < 256))
+  unfolding signCode
   sign-nineteen =
-      nineteen sign-first sign-own [] (count (key .profile .shape)) (without-append 0 sign-first sign-own (table-numbered (key .profile) (length work)) (refl, (refl, (refl, tt))))
-      (without-append 19 sign-first sign-own (table-without 19 (key .profile) (length work) (lit< tt) (lit< tt)) (refl, (refl, (refl, tt)))) tt
+      nineteen sign-first sign-own [] (count (key .profile .shape)) (without-append 0 sign-first sign-own (table-numbered (key .profile) (length (call .work))) (refl, (refl, (refl, tt))))
+      (without-append 19 sign-first sign-own (table-without 19 (key .profile) (length (call .work)) (lit< tt) (lit< tt)) (refl, (refl, (refl, tt)))) tt
 
-module _ (v : Verifier) (message signature work : List ℕ) where
+module _ (v : Verifier) (call : VerifyingCall) where
   abbrev verify-first : List (Bool × ℕ)
-  verify-first = tableCauses (v .profile) (length work)
+  verify-first = tableCauses (v .profile) (length (call .work))
 
   abbrev verify-own : List (Bool × ℕ)
-  verify-own = verifying.orderCauses v (length message) signature
+  verify-own = verifyCauses v (length (call .message)) (call .signature)
 
   abbrev verify-last : List (Bool × ℕ)
-  verify-last = (not (verifying.same (verifying.rootIn v message signature) (v .root)), 15) ∷ []
+  verify-last = (not (sameBytes (rootIn v (call .message) (call .signature)) (v .root)), 15) ∷ []
 
-  verify-causes : verifying.verifyCode v message signature work ≡ firstCause (verify-first ++ (verify-own ++ ((countTooSmall (count (v .profile .shape)), 19) ∷ verify-last)))
-  unfolding verifying.verifyCode verifying.causesBeforeRoot
+  verify-causes : verifyCode v call ≡ firstCause (verify-first ++ (verify-own ++ ((countTooSmall (count (v .profile .shape)), 19) ∷ verify-last)))
+  unfolding verifyCode causesBeforeRoot
   verify-causes = ap firstCause (append-assoc verify-first (verify-own ++ ((countTooSmall (count (v .profile .shape)), 19) ∷ [])) verify-last)
 
-  verify-seven : verifying.verifyCode v message signature work ≡ 7 → ⊥
+  verify-seven : verifyCode v call ≡ 7 → ⊥
   verify-seven e =
-      never-seven (v .profile) (length work) (verify-own ++ ((countTooSmall (count (v .profile .shape)), 19) ∷ verify-last)) (refl, (refl, (refl, (refl, (refl, (refl, tt)))))) (sym verify-causes ∙ e)
+      never-seven (v .profile) (length (call .work)) (verify-own ++ ((countTooSmall (count (v .profile .shape)), 19) ∷ verify-last)) (refl, (refl, (refl, (refl, (refl, (refl, tt)))))) (sym verify-causes ∙ e)
 
-  verify-nineteen : (verifying.verifyCode v message signature work ≡ 19) ↔ ((firstCause (verify-first ++ verify-own) ≡ 0) × (count (v .profile .shape) < 256))
+  verify-nineteen : (verifyCode v call ≡ 19) ↔ ((firstCause (verify-first ++ verify-own) ≡ 0) × (count (v .profile .shape) < 256))
   verify-nineteen =
       rw verify-causes
-      (nineteen verify-first verify-own verify-last (count (v .profile .shape)) (without-append 0 verify-first verify-own (table-numbered (v .profile) (length work)) (refl, (refl, (refl, (refl, tt)))))
-      (without-append 19 verify-first verify-own (table-without 19 (v .profile) (length work) (lit< tt) (lit< tt)) (refl, (refl, (refl, (refl, tt))))) (refl, tt))
+      (nineteen verify-first verify-own verify-last (count (v .profile .shape)) (without-append 0 verify-first verify-own (table-numbered (v .profile) (length (call .work))) (refl, (refl, (refl, (refl, tt)))))
+      (without-append 19 verify-first verify-own (table-without 19 (v .profile) (length (call .work)) (lit< tt) (lit< tt)) (refl, (refl, (refl, (refl, tt))))) (refl, tt))
 
 pub small-counts : SmallCounts
 small-counts = record { sign-seven = sign-seven; verify-seven = verify-seven; sign-nineteen = sign-nineteen; verify-nineteen = verify-nineteen }

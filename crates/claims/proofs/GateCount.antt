@@ -27,6 +27,6 @@ gate-counted =
       counted = counted;
       large = large;
       bits = le-antisymm (bits-few (count gateShape)) (bits-largest (count gateShape) 128 (le-refl _) large);
-      sign-never-nineteen = λ key r message work out edition e nineteen. not-small (key .profile) edition e (small-counts .sign-nineteen key r message work out .0 nineteen .1);
-      verify-never-nineteen = λ v message signature work edition e nineteen. not-small (v .profile) edition e (small-counts .verify-nineteen v message signature work .0 nineteen .1);
+      sign-never-nineteen = λ key call edition e nineteen. not-small (key .profile) edition e (small-counts .sign-nineteen key call .0 nineteen .1);
+      verify-never-nineteen = λ v call edition e nineteen. not-small (v .profile) edition e (small-counts .verify-nineteen v call .0 nineteen .1);
     }

@@ -7,18 +7,19 @@ use Rattle.lists.proofs.Pairs.{Each, each-with, Pairs, Apart}
 use Rattle.profile.specs.declared.Profile.{Profile}
 use Rattle.tweak.specs.Tweak.{firstDomain}
 use Rattle.tree.specs.Tree.{rootOf}
-use Rattle.verifier.specs.Verifying.{taken, verifyCode, verifierAfter}
+use Rattle.verifier.specs.Verifying.{withAccepted}
+use Rattle.verifier.specs.Operations.{VerifyingCall, verifyCode, verifierAfter}
 use Rattle.verifier.specs.declared.Verifier.{Verifier}
 use Rattle.claims.specs.Orders.{Issued, leafOf, Check, AllAccepted}
 use Rattle.claims.specs.Orders.Check.{next, other}
-use Rattle.claims.proofs.LeafLaws.{Free, CabinetOf, taken-cabinet, free-after}
+use Rattle.claims.proofs.LeafLaws.{Free, CabinetOf, accepted-cabinet, free-after}
 use Rattle.claims.proofs.Made.{MadeOwn}
 use Rattle.claims.proofs.Accepted.{made-accepted}
 
 -- a refused check leaves the cabinet as it was
-stays : (v : Verifier) (message signature work : List ℕ) → (verifyCode v message signature work ≡ 0 → ⊥) → verifierAfter v message signature work ≡ v
+stays : (v : Verifier) (call : VerifyingCall) → (verifyCode v call ≡ 0 → ⊥) → verifierAfter v call ≡ v
 unfolding verifierAfter
-stays v message signature work refused = rw (ne-eqb (verifyCode v message signature work) 0 refused)
+stays v call refused = rw (ne-eqb (verifyCode v call) 0 refused)
 
 -- one may follow another: it has another leaf, and that of the other is not 32 or more above its own
 abbrev pub Follows : (earlier later : Issued) → Type 0
@@ -36,10 +37,10 @@ module _ (p : Profile) (seed secret : List ℕ) where
   all-accepted (next work ∷ checks) v (one ∷ all) of made free follow = λ long.
       let leaf = leafOf one in
       let ok = made-accepted p seed secret leaf one (made .0) v of work (free .0) long in
-      let still = each-with (λ later. Free v (leafOf later)) (Follows one) (λ later. Free (taken v leaf) (leafOf later)) (λ later none follows. free-after v leaf (leafOf later) (free .0) none (follows .0) (follows .1)) all (free .1) (follow .0) in (
+      let still = each-with (λ later. Free v (leafOf later)) (Follows one) (λ later. Free (withAccepted v leaf) (leafOf later)) (λ later none follows. free-after v leaf (leafOf later) (free .0) none (follows .0) (follows .1)) all (free .1) (follow .0) in (
         ok .accepted,
         ok .steps,
-        rw (ok .after) (all-accepted checks (taken v leaf) all (taken-cabinet p seed root v leaf of) (made .1) still (follow .1)),
+        rw (ok .after) (all-accepted checks (withAccepted v leaf) all (accepted-cabinet p seed root v leaf of) (made .1) still (follow .1)),
       )
-  all-accepted (other message signature work ∷ checks) v all of made free follow = λ refused.
-      rw (stays v message signature work refused) (all-accepted checks v all of made free follow)
+  all-accepted (other call ∷ checks) v all of made free follow = λ refused.
+      rw (stays v call refused) (all-accepted checks v all of made free follow)

@@ -1,5 +1,5 @@
 -- What the list theorems know of the leaves of a tree, of those that a cabinet still takes and of the leaf that a key has marked: no other law of theirs opens
--- `leafBeyond`, `taken` or `counterAfter`, of `passed` they know the laws of `window` alone, and of `markCounts` those of `signing_key`.
+-- `leafBeyond`, `withAccepted` or `counterAfter`, of `passed` they know the laws of `window` alone, and of `markCounts` those of `signing_key`.
 use mathlib.Core.Path.{_≡_, refl, sym, _∙_}
 use mathlib.Core.Bool.{Bool, true, false, _||_, true≢false}
 use mathlib.Core.List.{List}
@@ -19,7 +19,7 @@ use Rattle.signing_key.specs.declared.SigningKey.{SigningKey}
 use Rattle.signing_key.proofs.CounterLaws.{cleared-unmarked}
 use Rattle.window.specs.Window.{freshWindow, passed}
 use Rattle.window.proofs.WindowLaws.{passed-none, behind, behind-other, not-behind, passed-after}
-use Rattle.verifier.specs.Verifying.{freshVerifier, taken}
+use Rattle.verifier.specs.Verifying.{freshVerifier, withAccepted}
 use Rattle.verifier.specs.declared.Verifier.{Verifier}
 
 -- a leaf of the tree is not beyond it
@@ -45,24 +45,24 @@ module _ (p : Profile) (seed root : List ℕ) where
   fresh-passes-none leaf = passed-none freshWindow leaf refl
 
   module _ (v : Verifier) (leaf : ℕ) where
-    pub taken-cabinet : CabinetOf v → CabinetOf (taken v leaf)
-    unfolding taken
-    taken-cabinet of = record { same-profile = of .same-profile; same-seed = of .same-seed; same-root = of .same-root }
+    pub accepted-cabinet : CabinetOf v → CabinetOf (withAccepted v leaf)
+    unfolding withAccepted
+    accepted-cabinet of = record { same-profile = of .same-profile; same-seed = of .same-seed; same-root = of .same-root }
 
 -- once a leaf was taken
 module _ (v : Verifier) (leaf x : ℕ) (free : Free v leaf) where
-  now-passed : passed (taken v leaf .window) x ≡ (passed (v .window) x || behind leaf x)
-  unfolding taken
+  now-passed : passed (withAccepted v leaf .window) x ≡ (passed (v .window) x || behind leaf x)
+  unfolding withAccepted
   now-passed = passed-after (v .window) leaf x free
 
   -- one that is not passed is another, and was not passed before
-  pub free-before : Free (taken v leaf) x → Free v x × (leaf ≡ x → ⊥)
+  pub free-before : Free (withAccepted v leaf) x → Free v x × (leaf ≡ x → ⊥)
   free-before none =
       let parts = neither (passed (v .window) x) (behind leaf x) (sym now-passed ∙ none) in
       (parts .0, λ same. behind-other leaf x (parts .1) (sym same))
 
   -- another that was not passed is passed only where the leaf is 32 or more above it
-  pub free-after : Free v x → (leaf ≡ x → ⊥) → leaf < x + 32 → Free (taken v leaf) x
+  pub free-after : Free v x → (leaf ≡ x → ⊥) → leaf < x + 32 → Free (withAccepted v leaf) x
   free-after none other near = now-passed ∙ rw (none, not-behind leaf x (λ same. other (sym same)) near)
 
 module _ (p : Profile) (seed secret : List ℕ) where

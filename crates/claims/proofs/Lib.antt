@@ -11,7 +11,6 @@ pub mod LeafLaws
 pub mod Made
 pub mod OrdersProved
 pub mod PowerCuts
-pub mod ReadBack
 pub mod Rounds
 pub mod Sheets
 pub mod Source

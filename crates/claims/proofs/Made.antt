@@ -20,17 +20,22 @@ use Rattle.signing_key.proofs.CounterLaws.{mark-within}
 use Rattle.counts.specs.Counts.{count}
 use Rattle.counts.specs.Table.{tableLength, tableCauses}
 use Rattle.counts.proofs.Room.{table-numbered}
+use Rattle.codewords.specs.Operations.{rowOf}
 use Rattle.tweak.specs.Tweak.{firstDomain}
 use Rattle.tweak.specs.declared.Domain.{Domain}
+use Rattle.chains.specs.Leaves.{leafKeyOf, revealed}
+use Rattle.merkle.specs.Nodes.{path}
 use Rattle.tree.specs.Tree.{rootOf}
-use Rattle.message.specs.Message.{messageNumber, countTooSmall, outsideText, signatureLength}
+use Rattle.message.specs.Message.{messageNumber, countTooSmall}
+use Rattle.signature.specs.Signature.{outsideText, signatureLength}
 use Rattle.message.proofs.NumberLaws.{number-fits}
-use Rattle.signer.specs.Signing.{leafToSign, keyNumber, signatureOf, signCode, keyAfter, outputAfter}
-use Rattle.signer.proofs.SignatureLaws.{length-signature}
-use Rattle.claims.specs.Orders.{SigningCall, Issued, signedBy, issuedBy, KeyCall, keyHandedBack, givenBy, leafOf}
+use Rattle.signer.specs.Signing.{leafToSign, keyNumber, signatureOf, keySignature}
+use Rattle.signer.specs.Operations.{signCode, keyAfter, outputAfter}
+use Rattle.signature.proofs.Parts.{Parts}
+use Rattle.signer.proofs.SignatureLaws.{length-signature, signature-parts}
+use Rattle.claims.specs.Orders.{OrderCall, Issued, signedBy, issuedBy, KeyCall, keyHandedBack, givenBy, leafOf}
 use Rattle.claims.specs.Orders.KeyCall.{reserve, sign}
 use Rattle.claims.proofs.LeafLaws.{KeyFrom, reserved-from, cleared-from}
-use Rattle.claims.proofs.ReadBack.{ReadBack, read-back}
 use Rattle.claims.proofs.Source.{Rises}
 
 module _ (p : Profile) (seed secret : List ℕ) where
@@ -49,7 +54,7 @@ module _ (p : Profile) (seed secret : List ℕ) where
     pub text : outsideText (length (one .message)) ≡ false
     pub in-tree : leaf < 2 ^ p .height
     pub large : countTooSmall (count (p .shape)) ≡ false
-    pub bytes : one .signature ≡ signatureOf d p secret leaf (numberOf leaf r (one .message)) r
+    pub bytes : one .signature ≡ signatureOf d p secret leaf r (rowOf (p .shape) (numberOf leaf r (one .message)))
 
   module _ (leaf : ℕ) (one : Issued) (made : Made leaf one) where
     -- its number is below the count
@@ -57,10 +62,12 @@ module _ (p : Profile) (seed secret : List ℕ) where
     made-below = number-fits p leaf (made .r) seed (rootOf d p secret) (one .message) (made .large)
 
     -- its parts, read back from its bytes: a leaf below 2 ^ h has four bytes
-    pub made-read : ReadBack d p secret leaf (numberOf leaf (made .r) (one .message)) (made .r) (one .signature)
+    pub made-read :
+        let row = rowOf (p .shape) (numberOf leaf (made .r) (one .message)) in
+        Parts p leaf (made .r) (revealed d secret leaf (p .shape .chains) row) (path d (leafKeyOf d p secret) (p .height) leaf) (one .signature)
     made-read =
         let four : leaf < 2 ^ 32 = omega (arith, next-fits leaf (p .height) (profile-passed p (made .profile) .low) (made .in-tree)) in
-        rw (made .bytes) (read-back d p secret leaf (numberOf leaf (made .r) (one .message)) (made .r) (made .sixteen) four)
+        rw (made .bytes) (signature-parts d p secret leaf (made .r) (rowOf (p .shape) (numberOf leaf (made .r) (one .message))) (made .sixteen) four)
 
   -- made with the leaf that it carries
   abbrev pub MadeOwn : Issued → Type 0
@@ -70,47 +77,47 @@ module _ (p : Profile) (seed secret : List ℕ) where
   made-own leaf one made = rw (made-read leaf one made .own-leaf) made
 
 -- what is known where a call of Sign is granted
-module _ (key : SigningKey) (c : SigningCall) where
+module _ (key : SigningKey) (c : OrderCall) where
   abbrev pub granted : Bool
-  granted = eqb (signCode key (c .r) (c .message) (c .work) (c .out)) 0
+  granted = eqb (signCode key (c .call)) 0
 
   -- a leaf is marked, and the signature is made with it
-  pub sign-made : granted ≡ true → (markCounts (2 ^ key .profile .height) (key .counter) ≡ true) × Made (key .profile) (key .seed) (key .secret) (leafToSign key) (signedBy key c)
-  unfolding signCode tableCauses signedBy outputAfter keyNumber
+  pub sign-made : granted ≡ true → (markCounts (2 ^ key .profile .height) (key .counter) ≡ true) × Made (key .profile) (key .seed) (key .secret) (leafToSign key) (signedBy key (c .call))
+  unfolding signCode tableCauses signedBy outputAfter keySignature keyNumber
   sign-made e =
       let p = key .profile in
-      let n = keyNumber key (c .r) (c .message) in
+      let n = keyNumber key (c .call .r) (c .call .message) in
       let unmarked : Bool = not (markCounts (2 ^ p .height) (key .counter)) in
       let counted : List (Bool × ℕ) = (countTooSmall (count (p .shape)), 19) ∷ [] in
       let leaf : List (Bool × ℕ) = (unmarked, 20) ∷ counted in
-      let output : List (Bool × ℕ) = (ltb (length (c .out)) (signatureLength p), 6) ∷ leaf in
-      let table = none-of-append (tableCauses p (length (c .work))) ((outsideText (length (c .message)), 16) ∷ output) (table-numbered p (length (c .work))) (eqb-true _ 0 e) in
-      let text = none-here (outsideText (length (c .message))) 16 output refl (table .1) in
-      let room = none-here (ltb (length (c .out)) (signatureLength p)) 6 leaf refl (text .1) in
+      let output : List (Bool × ℕ) = (ltb (length (c .call .out)) (signatureLength p), 6) ∷ leaf in
+      let table = none-of-append (tableCauses p (length (c .call .work))) ((outsideText (length (c .call .message)), 16) ∷ output) (table-numbered p (length (c .call .work))) (eqb-true _ 0 e) in
+      let text = none-here (outsideText (length (c .call .message))) 16 output refl (table .1) in
+      let room = none-here (ltb (length (c .call .out)) (signatureLength p)) 6 leaf refl (text .1) in
       let found = none-here unmarked 20 counted refl (room .1) in
       let mark = not-false (markCounts (2 ^ p .height) (key .counter)) (found .0) in
       let within = mark-within (2 ^ p .height) (key .counter) mark in (
         mark,
         record {
-          r = c .r;
+          r = c .call .r;
           sixteen = c .sixteen;
-          profile = none-of-append (profileCauses p) ((ltb (length (c .work)) (tableLength (p .shape)), 5) ∷ []) (profile-numbered p) (table .0) .0;
+          profile = none-of-append (profileCauses p) ((ltb (length (c .call .work)) (tableLength (p .shape)), 5) ∷ []) (profile-numbered p) (table .0) .0;
           text = text .0;
           in-tree = omega arith;
           large = none-here (countTooSmall (count (p .shape))) 19 [] refl (found .1) .0;
           bytes =
               rw e
-              (take-at (signatureOf (firstDomain (key .seed)) p (key .secret) (leafToSign key) n (c .r)) (drop (signatureLength p) (c .out)) (signatureLength p)
-              (length-signature (firstDomain (key .seed)) p (key .secret) (leafToSign key) n (c .r) (c .sixteen)));
+              (take-at (keySignature key (c .call .r) (c .call .message)) (drop (signatureLength p) (c .call .out)) (signatureLength p)
+              (length-signature (firstDomain (key .seed)) p (key .secret) (leafToSign key) (c .call .r) (rowOf (p .shape) n) (c .sixteen)));
         },
       )
 
   -- a call of Sign, at a key that signs with no leaf below n
   module _ (p : Profile) (seed secret : List ℕ) (n : ℕ) (from : KeyFrom p seed secret key n) where
     -- granted, it issues the marked leaf, and no leaf below the next one comes behind it
-    pub sign-granted : granted ≡ true → Rises leafOf (MadeOwn p seed secret) n (signedBy key c ∷ []) (key .counter .next)
+    pub sign-granted : granted ≡ true → Rises leafOf (MadeOwn p seed secret) n (signedBy key (c .call) ∷ []) (key .counter .next)
     sign-granted e =
-        let one = signedBy key c in
+        let one = signedBy key (c .call) in
         let of = from .of in
         let known = sign-made e in
         let mark : markCounts (2 ^ p .height) (key .counter) ≡ true = rw (← of .same-profile) (known .0) in
@@ -120,11 +127,11 @@ module _ (key : SigningKey) (c : SigningCall) where
         (omega arith, made-own p seed secret (leafToSign key) one made, omega arith)
 
     -- as a source of leaves
-    pub sign-step : (m : ℕ) × Rises leafOf (MadeOwn p seed secret) n (issuedBy key c) m × KeyFrom p seed secret (keyAfter key (c .r) (c .message) (c .work) (c .out)) m
+    pub sign-step : (m : ℕ) × Rises leafOf (MadeOwn p seed secret) n (issuedBy key (c .call)) m × KeyFrom p seed secret (keyAfter key (c .call)) m
     unfolding issuedBy keyAfter
     sign-step = by granted refl
       where
-        by : (g : Bool) → granted ≡ g → (m : ℕ) × Rises leafOf (MadeOwn p seed secret) n (issuedBy key c) m × KeyFrom p seed secret (keyAfter key (c .r) (c .message) (c .work) (c .out)) m
+        by : (g : Bool) → granted ≡ g → (m : ℕ) × Rises leafOf (MadeOwn p seed secret) n (issuedBy key (c .call)) m × KeyFrom p seed secret (keyAfter key (c .call)) m
         by true e = rw e (key .counter .next, sign-granted e, cleared-from p seed secret key n (from .of))
         by false e = rw e (n, le-refl n, from)
 

@@ -23,8 +23,8 @@ use Rattle.stored_key.specs.KeyFrame.{met, storedKey, stored, readStored}
 use Rattle.stored_key.specs.Operations.{writeCode, bytesWritten, frameAfter, keyOf}
 use Rattle.stored_key.specs.RoundTrip.{Held}
 use Rattle.stored_key.proofs.StoredLaws.{stored-read}
-use Rattle.signer.specs.Signing.{keyAfter}
-use Rattle.claims.specs.Orders.{SigningCall, issuedBy, leafOf}
+use Rattle.signer.specs.Operations.{keyAfter}
+use Rattle.claims.specs.Orders.{OrderCall, issuedBy, leafOf}
 use Rattle.claims.specs.PowerCuts.{Storing, Progress, Desk, Step, frameLeft, onceBegun, onceEnded, afterReserve, afterBegin, afterEnd, afterSign, afterCut, deskAfter, issuedAt, issuedAlong, InTurn, freshDesk, SeedBytes, PowerCuts}
 use Rattle.claims.specs.PowerCuts.Storing.{nothing, new}
 use Rattle.claims.specs.PowerCuts.Progress.{unstored, begun, ended}
@@ -202,11 +202,11 @@ module _ (p : Profile) (seed secret : List ℕ) (seed-bytes : SeedBytes seed) (s
         past ended r e = omega (arith, at .past r, store .above)
 
     -- Sign, granted: its store has ended, so the stored frame is past the leaf that signs
-    signed-desk : (c : SigningCall) → InTurn d (sign c) → (m : ℕ) × Rises leafOf (MadeOwn p seed secret) n (issuedBy (d .key) c) m × DeskFrom (afterSign d c) m
+    signed-desk : (c : OrderCall) → InTurn d (sign c) → (m : ℕ) × Rises leafOf (MadeOwn p seed secret) n (issuedBy (d .key) (c .call)) m × DeskFrom (afterSign d c) m
     unfolding afterSign InTurn issuedBy keyAfter
     signed-desk c turn = by (granted (d .key) c) refl
       where
-        by : (g : Bool) → granted (d .key) c ≡ g → (m : ℕ) × Rises leafOf (MadeOwn p seed secret) n (issuedBy (d .key) c) m × DeskFrom (afterSign d c) m
+        by : (g : Bool) → granted (d .key) c ≡ g → (m : ℕ) × Rises leafOf (MadeOwn p seed secret) n (issuedBy (d .key) (c .call)) m × DeskFrom (afterSign d c) m
         by true e =
             let stored-past = at .past (turn (eqb-true _ 0 e)) in
             rw e (

@@ -15,7 +15,7 @@ use Rattle.profile.proofs.Limits.{profile-numbered}
 use Rattle.stored_key.specs.KeyFrame.{storedKey}
 use Rattle.stored_key.specs.Operations.{writeCode}
 use Rattle.stored_key.proofs.StoredLaws.{stored-right, right-long}
-use Rattle.claims.specs.Orders.{SigningCall, Along}
+use Rattle.claims.specs.Orders.{OrderCall, Along}
 use Rattle.claims.specs.PowerCuts.{Progress, Desk, Step, onceBegun, onceEnded, afterReserve, afterBegin, afterEnd, afterSign, afterCut, deskAfter, InTurn, StoredFirst, freshDesk, SeedBytes, Round, roundOf, stepsOf, WithRoom, RoundsInTurn}
 use Rattle.claims.specs.PowerCuts.Storing.{nothing}
 use Rattle.claims.specs.PowerCuts.Progress.{unstored, begun, ended}
@@ -60,7 +60,7 @@ module _ (p : Profile) (seed secret : List ℕ) (seed-bytes : SeedBytes seed) (s
   after d n at step turn = let goes = desk-step p seed secret seed-bytes secret-bytes passed d n at step turn in (goes .0, goes .2)
 
   -- one round, from between two on
-  module _ (d : Desk) (n : ℕ) (at : Between d n) (slice : List ℕ) (room : 89 ≤ length slice) (c : SigningCall) where
+  module _ (d : Desk) (n : ℕ) (at : Between d n) (slice : List ℕ) (room : 89 ≤ length slice) (c : OrderCall) where
     abbrev reserved : Desk
     reserved = deskAfter d reserve
 

@@ -12,7 +12,7 @@ use Rattle.refusal.proofs.Causes.{none-then, none-of-append}
 use Rattle.profile.specs.Checks.{profileCauses}
 use Rattle.profile.specs.declared.Profile.{Profile}
 use Rattle.profile.proofs.Limits.{profile-numbered, profile-limits}
-use Rattle.message.specs.Message.{signatureLength}
+use Rattle.signature.specs.Signature.{signatureLength}
 use Rattle.frames.specs.Lines.{sheetOf}
 use Rattle.sheet.specs.Sheet.{Reading, wrongLine, read, readSheet, Carried}
 use Rattle.sheet.specs.Operation.{lineIn, signatureIn, textIn, isWrong, sheetCauses, sheetCode, ReadsSheet}

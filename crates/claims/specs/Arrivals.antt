@@ -9,35 +9,28 @@ use Rattle.profile.specs.declared.Profile.{Profile}
 use Rattle.tweak.specs.Tweak.{firstDomain}
 use Rattle.tree.specs.Tree.{rootOf}
 use Rattle.signing_key.specs.Key.{freshKey}
-use Rattle.verifier.specs.Verifying.{freshVerifier, leafIn, verifyCode, verifierAfter}
+use Rattle.verifier.specs.Verifying.{freshVerifier}
+use Rattle.verifier.specs.Operations.{VerifyingCall, verifyCode, verifierAfter}
+use Rattle.signature.specs.Signature.{leafIn}
 use Rattle.verifier.specs.declared.Verifier.{Verifier}
 use Rattle.claims.specs.Orders.{KeyCall, Issued, givenAlong, issued, leafOf, Check, AllAccepted}
 
--- a call of Check, with any text, signature and work slice
-pub record CheckCall : Type 0 where
-  pub message : List ℕ
-  pub signature : List ℕ
-  pub work : List ℕ
-
-abbrev pub cabinetHandedBack : Verifier → CheckCall → Verifier
-cabinetHandedBack v c = verifierAfter v (c .message) (c .signature) (c .work)
-
 -- the call itself, if its signature is accepted
-unfoldable pub acceptedBy : Verifier → CheckCall → List CheckCall
-acceptedBy v c = cond (eqb (verifyCode v (c .message) (c .signature) (c .work)) 0) (c ∷ []) []
+unfoldable pub acceptedBy : Verifier → VerifyingCall → List VerifyingCall
+acceptedBy v c = cond (eqb (verifyCode v c) 0) (c ∷ []) []
 
 -- those calls of a list that are accepted, the first at a cabinet and each other at the cabinet that the one before handed back
-abbrev pub accepted : Verifier → List CheckCall → List CheckCall
-accepted v calls = givenAlong cabinetHandedBack acceptedBy v calls
+abbrev pub accepted : Verifier → List VerifyingCall → List VerifyingCall
+accepted v calls = givenAlong verifierAfter acceptedBy v calls
 
 -- the leaf that a call's signature carries
-abbrev pub leafChecked : CheckCall → ℕ
+abbrev pub leafChecked : VerifyingCall → ℕ
 leafChecked c = leafIn (c .signature)
 
 -- "For every list of checks from fresh, no leaf is accepted twice"
 abbrev pub NoLeafAcceptedTwice : Type 0
 NoLeafAcceptedTwice =
-    (p : Profile) (seed root : List ℕ) (calls : List CheckCall) → Distinct 0 (map leafChecked (accepted (freshVerifier p seed root) calls))
+    (p : Profile) (seed root : List ℕ) (calls : List VerifyingCall) → Distinct 0 (map leafChecked (accepted (freshVerifier p seed root) calls))
 
 -- "each comes before any leaf 32 or more above it": of the leaves at two places of an order of arrival
 abbrev pub InTime : (leaves : List ℕ) → Type 0

@@ -12,9 +12,9 @@ use Rattle.profile.specs.declared.Profile.{Profile}
 use Rattle.counts.specs.Counts.{count}
 use Rattle.counts.specs.Table.{tableCauses}
 use Rattle.message.specs.Message.{messageDigest, numberBits, messageNumber}
-use Rattle.signer.specs.Signing as signing
+use Rattle.signer.specs.Operations.{SigningCall, signCauses, signCode}
 use Rattle.signing_key.specs.declared.SigningKey.{SigningKey}
-use Rattle.verifier.specs.Verifying as verifying
+use Rattle.verifier.specs.Operations.{VerifyingCall, verifyCauses, verifyCode}
 use Rattle.verifier.specs.declared.Verifier.{Verifier}
 
 -- "b is the largest value up to 128 with 2^b not above the count", for the count of every shape within its limits
@@ -36,12 +36,12 @@ pub record NumbersFit : Type 0 where
 -- what 19 does in 7's place, for every call
 pub record SmallCounts : Type 0 where
   -- "Issue and Check no longer give 7": Sign in Issue's place
-  pub sign-seven : (key : SigningKey) (r message work out : List ℕ) → signing.signCode key r message work out ≡ 7 → ⊥
-  pub verify-seven : (v : Verifier) (message signature work : List ℕ) → verifying.verifyCode v message signature work ≡ 7 → ⊥
+  pub sign-seven : (key : SigningKey) (call : SigningCall) → signCode key call ≡ 7 → ⊥
+  pub verify-seven : (v : Verifier) (call : VerifyingCall) → verifyCode v call ≡ 7 → ⊥
   -- "19 when the count is below 256": where no cause before it holds, exactly then
-  pub sign-nineteen : (key : SigningKey) (r message work out : List ℕ)
-      → (signing.signCode key r message work out ≡ 19)
-      ↔ ((firstCause (tableCauses (key .profile) (length work) ++ signing.orderCauses key (length message) (length out)) ≡ 0) × (count (key .profile .shape) < 256))
-  pub verify-nineteen : (v : Verifier) (message signature work : List ℕ)
-      → (verifying.verifyCode v message signature work ≡ 19)
-      ↔ ((firstCause (tableCauses (v .profile) (length work) ++ verifying.orderCauses v (length message) signature) ≡ 0) × (count (v .profile .shape) < 256))
+  pub sign-nineteen : (key : SigningKey) (call : SigningCall)
+      → (signCode key call ≡ 19)
+      ↔ ((firstCause (tableCauses (key .profile) (length (call .work)) ++ signCauses key (length (call .message)) (length (call .out))) ≡ 0) × (count (key .profile .shape) < 256))
+  pub verify-nineteen : (v : Verifier) (call : VerifyingCall)
+      → (verifyCode v call ≡ 19)
+      ↔ ((firstCause (tableCauses (v .profile) (length (call .work)) ++ verifyCauses v (length (call .message)) (call .signature)) ≡ 0) × (count (v .profile .shape) < 256))

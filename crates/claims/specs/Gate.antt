@@ -6,10 +6,11 @@ use Rattle.profile.specs.declared.Shape.{Shape}
 use Rattle.profile.specs.declared.Profile.{Profile}
 use Rattle.counts.specs.Counts.{count}
 use Rattle.one_time.specs.Operations.{stepsOf}
-use Rattle.message.specs.Message.{signatureLength, numberBits}
-use Rattle.signer.specs.Signing.{signCode}
+use Rattle.message.specs.Message.{numberBits}
+use Rattle.signature.specs.Signature.{signatureLength}
+use Rattle.signer.specs.Operations.{SigningCall, signCode}
 use Rattle.signing_key.specs.declared.SigningKey.{SigningKey}
-use Rattle.verifier.specs.Verifying.{verifyCode}
+use Rattle.verifier.specs.Operations.{VerifyingCall, verifyCode}
 use Rattle.verifier.specs.declared.Verifier.{Verifier}
 
 -- "The gate profile is l = 34, w = 16, s = 255, h = 10", in an edition
@@ -32,5 +33,5 @@ pub record GateCount : Type 0 where
   pub large : 2 ^ 128 ≤ count gateShape
   pub bits : numberBits (count gateShape) ≡ 128
   -- of Sign and Check, in either edition and whatever else they are handed
-  pub sign-never-nineteen : (key : SigningKey) (r message work out : List ℕ) (edition : ℕ) → key .profile ≡ gate edition → signCode key r message work out ≡ 19 → ⊥
-  pub verify-never-nineteen : (v : Verifier) (message signature work : List ℕ) (edition : ℕ) → v .profile ≡ gate edition → verifyCode v message signature work ≡ 19 → ⊥
+  pub sign-never-nineteen : (key : SigningKey) (call : SigningCall) (edition : ℕ) → key .profile ≡ gate edition → signCode key call ≡ 19 → ⊥
+  pub verify-never-nineteen : (v : Verifier) (call : VerifyingCall) (edition : ℕ) → v .profile ≡ gate edition → verifyCode v call ≡ 19 → ⊥

@@ -11,21 +11,19 @@ use Rattle.profile.specs.declared.Profile.{Profile}
 use Rattle.counts.specs.Table.{tableLength}
 use Rattle.tweak.specs.Tweak.{firstDomain}
 use Rattle.tree.specs.Tree.{rootOf}
-use Rattle.message.specs.Message.{signatureLength}
+use Rattle.signature.specs.Signature.{signatureLength, leafIn}
 use Rattle.signing_key.specs.Key.{freshKey, reservedKey}
 use Rattle.signing_key.specs.declared.SigningKey.{SigningKey}
-use Rattle.signer.specs.Signing.{signCode, keyAfter, outputAfter}
-use Rattle.verifier.specs.Verifying.{freshVerifier, leafIn, verifyCode, verifierAfter, stepsMade}
+use Rattle.signer.specs.Operations.{SigningCall, signCode, keyAfter, outputAfter}
+use Rattle.verifier.specs.Verifying.{freshVerifier}
+use Rattle.verifier.specs.Operations.{VerifyingCall, verifyCode, verifierAfter, stepsMade}
 use Rattle.verifier.specs.declared.Verifier.{Verifier}
 
 -- a call of Sign, "with any R, text, work slice and output slice"
-pub record SigningCall : Type 0 where
-  pub r : List ℕ
-  pub message : List ℕ
-  pub work : List ℕ
-  pub out : List ℕ
+pub record OrderCall : Type 0 where
+  pub call : SigningCall
   -- "R (16 bytes, given by the caller)"
-  pub sixteen : length r ≡ 16
+  pub sixteen : length (call .r) ≡ 16
 
 -- a signature issued, and its own text
 pub record Issued : Type 0 where
@@ -34,15 +32,15 @@ pub record Issued : Type 0 where
 
 -- "An issued signature is the first 20 + 16 × l + 16 × h output bytes of a granted call, as that call left them; its own text is that call's text"
 unfoldable pub signedBy : SigningKey → SigningCall → Issued
-signedBy key c =
+signedBy key call =
     record {
-      signature = take (signatureLength (key .profile)) (outputAfter key (c .r) (c .message) (c .work) (c .out));
-      message = c .message;
+      signature = take (signatureLength (key .profile)) (outputAfter key call);
+      message = call .message;
     }
 
 -- what a call of Sign issues: "a granted sign is what issues"
 unfoldable pub issuedBy : SigningKey → SigningCall → List Issued
-issuedBy key c = cond (eqb (signCode key (c .r) (c .message) (c .work) (c .out)) 0) (signedBy key c ∷ []) []
+issuedBy key call = cond (eqb (signCode key call) 0) (signedBy key call ∷ []) []
 
 -- what the calls of a list give, the first at a state and each other at the state that the one before handed back, with `after` and `gives` for what a call
 -- hands back and gives
@@ -58,15 +56,15 @@ Along after allowed s (c ∷ calls) = allowed s c × Along after allowed (after 
 -- "Lists of reserve and sign take the place of lists of issue in demand 3": in any order, granted or refused
 pub data KeyCall : Type 0 where
   reserve : KeyCall
-  sign : SigningCall → KeyCall
+  sign : OrderCall → KeyCall
 
 unfoldable pub keyHandedBack : SigningKey → KeyCall → SigningKey
 keyHandedBack key reserve = reservedKey key
-keyHandedBack key (sign c) = keyAfter key (c .r) (c .message) (c .work) (c .out)
+keyHandedBack key (sign c) = keyAfter key (c .call)
 
 unfoldable pub givenBy : SigningKey → KeyCall → List Issued
 givenBy key reserve = []
-givenBy key (sign c) = issuedBy key c
+givenBy key (sign c) = issuedBy key (c .call)
 
 -- "The first gets a fresh key of any profile and seeds, each other the key that the one before handed back"
 abbrev pub issued : SigningKey → List KeyCall → List Issued
@@ -83,7 +81,11 @@ NoLeafTwice signatures = Distinct 0 (map leafOf signatures)
 -- a call of Check: of the next signature of a list, with its own text and a work slice, or any other
 pub data Check : Type 0 where
   next : (work : List ℕ) → Check
-  other : (message signature work : List ℕ) → Check
+  other : VerifyingCall → Check
+
+-- the check of a signature with its own text
+abbrev pub ownCheck : Issued → (work : List ℕ) → VerifyingCall
+ownCheck one work = record { message = one .message; signature = one .signature; work = work }
 
 -- "Checked in the list's order, each with its own text, …, with long enough work slices, all of them are accepted. Each of these checks reports
 -- l × (w − 1) − s chain steps. Refused checks in between change none of this": "A work slice is long enough when 5 doesn't refuse it", and
@@ -93,11 +95,11 @@ AllAccepted p v signatures [] = Unit {0}
 AllAccepted p v [] (next work ∷ checks) = AllAccepted p v [] checks
 AllAccepted p v (one ∷ signatures) (next work ∷ checks) =
     tableLength p ≤ length work
-    → (verifyCode v (one .message) (one .signature) work ≡ 0)
-    × (stepsMade v (one .message) (one .signature) work ≡ p .chains * (p .width - 1) - p .sum)
-    × AllAccepted p (verifierAfter v (one .message) (one .signature) work) signatures checks
-AllAccepted p v signatures (other message signature work ∷ checks) =
-    (verifyCode v message signature work ≡ 0 → ⊥) → AllAccepted p (verifierAfter v message signature work) signatures checks
+    → (verifyCode v (ownCheck one work) ≡ 0)
+    × (stepsMade v (ownCheck one work) ≡ p .chains * (p .width - 1) - p .sum)
+    × AllAccepted p (verifierAfter v (ownCheck one work)) signatures checks
+AllAccepted p v signatures (other call ∷ checks) =
+    (verifyCode v call ≡ 0 → ⊥) → AllAccepted p (verifierAfter v call) signatures checks
 
 -- what demand 3 says of a list, for every list: "by a cabinet that starts fresh with that key's profile, public seed and root"; a profile names its edition, so document 02, point 6, is
 -- met too: "under either edition, the cabinet's being the key's"

@@ -16,10 +16,10 @@ use Rattle.signing_key.specs.Key.{freshKey, reservedKey, restartedKey}
 use Rattle.signing_key.specs.declared.SigningKey.{SigningKey}
 use Rattle.stored_key.specs.KeyFrame.{storedKey, readStored}
 use Rattle.stored_key.specs.Operations.{writeCode, bytesWritten, frameAfter, keyOf}
-use Rattle.signer.specs.Signing.{signCode, keyAfter}
+use Rattle.signer.specs.Operations.{signCode, keyAfter}
 use Rattle.verifier.specs.Verifying.{freshVerifier}
 use Rattle.claims.specs.Arrivals.{InTime}
-use Rattle.claims.specs.Orders.{SigningCall, Issued, issuedBy, givenAlong, Along, leafOf, NoLeafTwice, Check, AllAccepted}
+use Rattle.claims.specs.Orders.{OrderCall, Issued, issuedBy, givenAlong, Along, leafOf, NoLeafTwice, Check, AllAccepted}
 
 -- a store in progress: none, or one of a new frame
 pub data Storing : Type 0 where
@@ -45,7 +45,7 @@ pub data Step : Type 0 where
   -- Write key writes the frame of the key in memory into a slice, and these bytes are being stored from then on
   storeBegins : (slice : List ℕ) → Step
   storeEnds : Step
-  sign : SigningCall → Step
+  sign : OrderCall → Step
   -- power fails, and the desk restarts. Where a store is in progress, `whole` says that it left the new frame, else the old one
   cut : (whole : Bool) → Step
 
@@ -84,9 +84,9 @@ afterEnd d nothing = d
 afterEnd d (new frame) = record { key = d .key; stored = frame; storing = nothing; progress = onceEnded (d .progress) }
 
 -- "sign uses the marked leaf and clears the mark"
-unfoldable pub afterSign : Desk → SigningCall → Desk
+unfoldable pub afterSign : Desk → OrderCall → Desk
 afterSign d c =
-    record { key = keyAfter (d .key) (c .r) (c .message) (c .work) (c .out); stored = d .stored; storing = d .storing; progress = d .progress }
+    record { key = keyAfter (d .key) (c .call); stored = d .stored; storing = d .storing; progress = d .progress }
 
 -- "a restart from the stored frame with the mark cleared": the key that Read key gives of the bytes left
 unfoldable pub afterCut : (frame : List ℕ) → Desk
@@ -105,7 +105,7 @@ unfoldable pub issuedAt : Desk → Step → List Issued
 issuedAt d reserve = []
 issuedAt d (storeBegins slice) = []
 issuedAt d storeEnds = []
-issuedAt d (sign c) = issuedBy (d .key) c
+issuedAt d (sign c) = issuedBy (d .key) (c .call)
 issuedAt d (cut whole) = []
 
 abbrev pub issuedAlong : Desk → List Step → List Issued
@@ -116,7 +116,7 @@ unfoldable pub InTurn : Desk → Step → Type 0
 InTurn d reserve = Unit {0}
 InTurn d (storeBegins slice) = Unit {0}
 InTurn d storeEnds = Unit {0}
-InTurn d (sign c) = signCode (d .key) (c .r) (c .message) (c .work) (c .out) ≡ 0 → d .progress ≡ ended
+InTurn d (sign c) = signCode (d .key) (c .call) ≡ 0 → d .progress ≡ ended
 InTurn d (cut whole) = Unit {0}
 
 abbrev pub StoredFirst : Desk → List Step → Type 0
@@ -150,10 +150,10 @@ PowerCuts =
 -- What a desk does for one order, in the document's words: "Reserve marks the next leaf and advances the key; the desk stores the key; sign uses the marked leaf". Whole, or cut
 -- off behind the first n of these steps; the frame is written into a slice.
 pub data Round : Type 0 where
-  wholeRound : (slice : List ℕ) → SigningCall → Round
-  cutRound : (n : ℕ) (slice : List ℕ) → SigningCall → (whole : Bool) → Round
+  wholeRound : (slice : List ℕ) → OrderCall → Round
+  cutRound : (n : ℕ) (slice : List ℕ) → OrderCall → (whole : Bool) → Round
 
-abbrev pub roundOf : (slice : List ℕ) → SigningCall → List Step
+abbrev pub roundOf : (slice : List ℕ) → OrderCall → List Step
 roundOf slice c = reserve ∷ storeBegins slice ∷ storeEnds ∷ sign c ∷ []
 
 unfoldable pub stepsOf : List Round → List Step

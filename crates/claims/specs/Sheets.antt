@@ -5,7 +5,7 @@ use Prim.Native.Nat.{ℕ, _≤_, _<_}
 use lib.ListN.{length, getD, take, drop}
 use Rattle.refusal.specs.Code.{outcomeCode}
 use Rattle.profile.specs.declared.Profile.{Profile}
-use Rattle.message.specs.Message.{signatureLength}
+use Rattle.signature.specs.Signature.{signatureLength}
 use Rattle.sheet.specs.Operation.{ReadsSheet}
 use Rattle.sheet.specs.declared.SheetRead.{SheetRead}
 use Rattle.sheet_writer.specs.Writing.{WritesSheet}

@@ -11,7 +11,7 @@ use Rattle.octets.proofs.ByteLaws.{toBytes-lt}
 use Rattle.lists.proofs.Lists.{Below, below-by-test, below-cons, below-append}
 use Rattle.lists.proofs.Pairs.{Each, each-append}
 use Rattle.profile.specs.declared.Profile.{Profile}
-use Rattle.message.specs.Message.{signatureLength}
+use Rattle.signature.specs.Signature.{signatureLength}
 use Rattle.frames.specs.Frames.{Within, Frame, sized, firstFrame, editionByte, profileFrame, leafFrame, randomizerFrame, numbered, frames}
 use Rattle.frames.specs.Lines.{frameLine, linesOf}
 use Rattle.frames.specs.Size.{behindFrame, behindAll}

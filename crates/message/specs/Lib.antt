@@ -1,2 +1,2 @@
--- What is signed of an order, and how long a signature is.
+-- What is signed of an order.
 pub mod Message

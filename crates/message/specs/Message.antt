@@ -1,11 +1,10 @@
--- Document 01, Tree, key and cabinet: the digest and the length of a signature. Document 02, point 3: the message number; point 6: the leaf inside the digest.
+-- Document 01, Tree, key and cabinet: the digest. Document 02, point 3: the message number; point 6: the leaf inside the digest.
 use mathlib.Core.Bool.{Bool, cond}
 use mathlib.Core.List.{List, [], _++_}
 use Prim.Native.Nat.{ℕ, zero, suc, _+_, _*_, _^_}
 use lib.Dec.{ltb, leb, eqb}
 use Rattle.octets.specs.Bytes.{toBytes, firstBits}
 use Rattle.sha256.specs.Digest.{digest}
-use Rattle.profile.specs.Checks.{outside}
 use Rattle.profile.specs.declared.Profile.{Profile}
 use Rattle.counts.specs.Counts.{count}
 
@@ -33,11 +32,3 @@ messageNumber p leaf r seed root message = firstBits (numberBits (count (p .shap
 -- "19 when the count is below 256"
 unfoldable pub countTooSmall : (count : ℕ) → Bool
 countTooSmall count = ltb count 256
-
--- "order text (1 to 200 bytes)": 16 where it is "empty or over 200 bytes"
-unfoldable pub outsideText : (bytes : ℕ) → Bool
-outsideText bytes = outside 1 200 bytes
-
--- "Signature: leaf (4 bytes …), R, l values, h siblings": "20 + 16 × l + 16 × h"
-unfoldable pub signatureLength : Profile → ℕ
-signatureLength p = 20 + 16 * p .shape .chains + 16 * p .height

@@ -1,4 +1,4 @@
-// The digest of an order, its number, and how long an order's text and a signature are.
+// The digest of an order, and its number.
 ghost use mathlib.Core.Path.{_≡_};
 ghost use mathlib.Core.Bool.{cond};
 ghost use mathlib.Core.List.{_++_};
@@ -9,7 +9,7 @@ ghost use Rattle.octets.specs.Bytes.{fromBytes, firstBits};
 ghost use Rattle.numbers.specs.Number.{value};
 ghost use Rattle.sha256.specs.Digest.{digest};
 ghost use Rattle.counts.specs.Counts as counts;
-ghost use Rattle.message.specs.Message.{messageDigest, numberBits, messageNumber, countTooSmall, outsideText, signatureLength};
+ghost use Rattle.message.specs.Message.{messageDigest, numberBits, messageNumber, countTooSmall};
 use numbers::number::less;
 use numbers::powers::log2;
 use numbers::powers::shift_right;
@@ -113,24 +113,4 @@ pub fn message_number(
     let bits = number_bits(count);
     let edition = p.edition;
     number_of_digest(message_digest(edition, leaf, r, seed, root, message), bits)
-}
-
-// Whether a message is empty or over 200 bytes.
-pub fn outside_text(bytes: usize) -> bool
-    ensures { λ r. ⌜ r ≡ outsideText bytes ⌝ }
-{
-    if bytes < 1 {
-        return true;
-    }
-    200 < bytes
-}
-
-// How long a signature is.
-pub fn signature_length(p: Profile) -> usize
-    ensures { λ r. ⌜ r ≡ signatureLength p ⌝ }
-{
-    let shape = p.shape;
-    let chains = shape.chains as usize;
-    let height = p.height as usize;
-    20 + 16 * chains + 16 * height
 }

@@ -16,7 +16,7 @@ use Rattle.profile.specs.Checks.{profileCauses}
 use Rattle.profile.specs.declared.Profile.{Profile}
 use Rattle.profile.proofs.Limits.{profile-numbered, profile-without}
 use Rattle.hex.specs.Hex.{Line, wrong, right}
-use Rattle.message.specs.Message.{signatureLength}
+use Rattle.signature.specs.Signature.{signatureLength}
 use Rattle.frames.specs.Frames.{Within, Frame, frames, textFrame}
 use Rattle.frames.specs.Lines.{readFrame}
 use Rattle.frames.specs.Size.{behindAll}

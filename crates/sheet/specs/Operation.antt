@@ -8,7 +8,7 @@ use lib.ListN.{length, drop}
 use Rattle.refusal.specs.Code.{outcomeCode, firstCause}
 use Rattle.profile.specs.Checks.{profileCauses}
 use Rattle.profile.specs.declared.Profile.{Profile}
-use Rattle.message.specs.Message.{signatureLength}
+use Rattle.signature.specs.Signature.{signatureLength}
 use Rattle.sheet.specs.Sheet.{Reading, wrongLine, read, readSheet}
 use Rattle.sheet.specs.declared.SheetRead.{SheetRead}
 

@@ -6,7 +6,7 @@ use Prim.Native.Nat.{ℕ, suc, _≤_, _<_}
 use lib.ListN.{length, getD}
 use Rattle.refusal.specs.Code.{firstCause}
 use Rattle.hex.specs.Hex.{Line, wrong, right, lineOf}
-use Rattle.message.specs.Message.{signatureLength}
+use Rattle.signature.specs.Signature.{signatureLength}
 use Rattle.profile.specs.Checks.{profileCauses}
 use Rattle.profile.specs.declared.Profile.{Profile}
 use Rattle.frames.specs.Frames.{Within, Frame, firstFrame, profileFrame, frames, textFrame}

@@ -4,7 +4,7 @@ ghost use mathlib.Core.List.{_++_};
 ghost use Prim.Native.Nat.{_+_, _*_, _^_, _≤_, _<_};
 ghost use lib.ListN.{length, take, drop};
 ghost use Rattle.hex.specs.Digits.{byteAt};
-ghost use Rattle.message.specs.Message.{signatureLength};
+ghost use Rattle.signature.specs.Signature.{signatureLength};
 ghost use Rattle.frames.specs.Frames.{Within, frames, textFrame};
 ghost use Rattle.frames.specs.Size.{behindAll};
 ghost use Rattle.sheet.specs.Payload.{byteOr, bytesIn, payloads};

@@ -17,7 +17,7 @@ use Rattle.lists.proofs.Joins.{written-behind}
 use Rattle.profile.specs.Checks.{profileCauses}
 use Rattle.profile.specs.declared.Profile.{Profile}
 use Rattle.profile.proofs.Limits.{profile-numbered, inside, not-outside}
-use Rattle.message.specs.Message.{outsideText, signatureLength}
+use Rattle.signature.specs.Signature.{outsideText, signatureLength}
 use Rattle.frames.specs.Frames.{frames, textFrame}
 use Rattle.frames.specs.Lines.{frameLine, linesOf, sheetOf}
 use Rattle.frames.specs.Size.{behindAll}

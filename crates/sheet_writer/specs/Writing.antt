@@ -8,7 +8,7 @@ use lib.ListN.{length, drop}
 use Rattle.refusal.specs.Code.{outcomeCode, firstCause}
 use Rattle.profile.specs.Checks.{profileCauses}
 use Rattle.profile.specs.declared.Profile.{Profile}
-use Rattle.message.specs.Message.{outsideText, signatureLength}
+use Rattle.signature.specs.Signature.{outsideText, signatureLength}
 use Rattle.frames.specs.Lines.{sheetOf}
 use Rattle.sheet_writer.specs.declared.writer.SheetWritten.{SheetWritten}
 

@@ -6,12 +6,12 @@ use super::lines::write_frame;
 use super::lines::write_frames;
 use frames::frame_count;
 use frames::lines_length;
-use message::outside_text;
-use message::signature_length;
 use profile::Profile;
 use profile::check_profile;
 use refusal::Outcome;
 use refusal::Refusal;
+use signature::outside_text;
+use signature::signature_length;
 
 // What Write sheet answers: refused, no byte is written.
 pub struct SheetWritten {

@@ -2,4 +2,3 @@
 pub mod Answers
 pub mod SignatureLaws
 pub mod WayLaws
-pub mod Written

@@ -1,2 +1,3 @@
 -- Sign.
 pub mod Signing
+pub mod Operations

@@ -10,8 +10,8 @@ ghost use Rattle.tweak.specs.Tweak.{Seeded};
 ghost use Rattle.chains.specs.Leaves.{leafKeyOf, revealed};
 ghost use Rattle.merkle.specs.Nodes.{path};
 ghost use Rattle.tree.specs.Tree.{rootOf};
-ghost use Rattle.message.specs.Message.{signatureLength};
-ghost use Rattle.signer.specs.Signing as spec;
+ghost use Rattle.signature.specs.Signature.{joinedParts, signatureLength};
+ghost use Rattle.signer.specs.Operations.{SigningCall, signCauses, Signs};
 use chains::leaves::key_of_leaf;
 use chains::leaves::write_values;
 use codewords::unranking::write_codeword;
@@ -20,14 +20,14 @@ use counts::table::table_outcome;
 use merkle::climb_path;
 use message::count_too_small;
 use message::message_number;
-use message::outside_text;
-use message::signature_length;
 use octets::copy;
 use octets::word_bytes;
 use octets::write_16;
 use profile::Profile;
 use refusal::Outcome;
 use refusal::Refusal;
+use signature::outside_text;
+use signature::signature_length;
 use signing_key::SigningKey;
 use signing_key::clear;
 use signing_key::mark_stands;
@@ -39,7 +39,7 @@ use tweak::first_hasher;
 
 // The causes of Sign between 5 and 19, behind an outcome.
 fn sign_outcome(checked: Outcome, key: SigningKey, text: usize, bytes: usize) -> Outcome
-    ensures { λ r. ⌜ outcomeCode r ≡ thenFirst (outcomeCode checked) (spec.orderCauses key text bytes) ⌝ }
+    ensures { λ r. ⌜ outcomeCode r ≡ thenFirst (outcomeCode checked) (signCauses key text bytes) ⌝ }
 {
     let p = key.profile;
     let outside = outside_text(text);
@@ -93,7 +93,7 @@ fn way_up(h: Hasher, p: Profile, secret: &[u8; 16], leaf: u32) -> Way
 
 // Makes a signature: the leaf, R, the values that the codeword shows, and the siblings. The longest has 820 bytes.
 fn make_signature(
-    h: Hasher,
+    hasher: Hasher,
     p: Profile,
     secret: &[u8; 16],
     leaf: u32,
@@ -101,9 +101,9 @@ fn make_signature(
     row: [u8; 40],
     siblings: [u8; 160],
 ) -> [u8; 820]
-    requires { ⌜ Seeded h ⌝ }
+    requires { ⌜ Seeded hasher ⌝ }
     requires { ⌜ (p .shape .chains ≤ 40) × (p .height ≤ 10) ⌝ }
-    ensures { λ made. ⌜ take (signatureLength p) made ≡ toBytes 4 leaf ++ r ++ revealed (h .domain) (now (secret .entry)) leaf (p .shape .chains) row ++ take (16 * p .height) siblings ⌝ }
+    ensures { λ made. ⌜ take (signatureLength p) made ≡ joinedParts leaf r (revealed (hasher .domain) (now (secret .entry)) leaf (p .shape .chains) row) (take (16 * p .height) siblings) ⌝ }
 {
     let shape = p.shape;
     let chains = shape.chains;
@@ -111,7 +111,7 @@ fn make_signature(
     let mut made = [0u8; 820];
     write_leaf(&mut made, leaf);
     write_16(&mut made, 4, r);
-    write_values(h, Leaf(leaf), secret, row, chains, &mut made, 20);
+    write_values(hasher, Leaf(leaf), secret, row, chains, &mut made, 20);
     copy(
         &siblings,
         16 * (height as usize),
@@ -136,45 +136,39 @@ pub fn sign(
     table: &mut [u32],
     signature: &mut [u8],
 ) -> Signed
-    ensures { λ answer. ⌜ spec.Signs key r (now (message .entry)) (now (table .entry)) (now (signature .entry)) (now (table .exit)) (now (signature .exit)) answer ⌝ }
+    ensures { λ answer. ⌜ Signs key (record { r = r; message = now (message .entry); work = now (table .entry); out = now (signature .entry) }) (now (table .exit)) (now (signature .exit)) answer ⌝ }
 {
     let p = key.profile;
     let shape = p.shape;
     let checked = table_outcome(p, table.len());
     let early = sign_outcome(checked, key, message.len(), signature.len());
     let count = fill_past(early, shape, table);
-    match early {
+    let outcome = early.then(count_too_small(count), Refusal::CountTooSmall);
+    match outcome {
         Outcome::Refused(_) => Signed {
-            outcome: early,
+            outcome: outcome,
             key: key,
         },
         Outcome::Granted => {
             let counter = key.counter;
             let leaf = counter.next - 1;
+            let seed = key.seed;
+            let secret = key.secret;
+            let hasher = first_hasher(seed);
+            let way = way_up(hasher, p, &secret, leaf);
+            let root = way.root;
+            let number = message_number(p, count, leaf, r, seed, root, message);
+            let mut row = [0u8; 40];
+            write_codeword(shape, number, table, &mut row);
+            let siblings = way.siblings;
+            let made = make_signature(hasher, p, &secret, leaf, r, row, siblings);
+            let bytes = signature_length(p);
+            copy(&made, bytes, signature, 0);
             let cleared = clear(counter);
             let after = with_counter(key, cleared);
-            if count_too_small(count) {
-                Signed {
-                    outcome: Outcome::Refused(Refusal::CountTooSmall),
-                    key: key,
-                }
-            } else {
-                let seed = key.seed;
-                let secret = key.secret;
-                let h = first_hasher(seed);
-                let way = way_up(h, p, &secret, leaf);
-                let root = way.root;
-                let number = message_number(p, count, leaf, r, seed, root, message);
-                let mut row = [0u8; 40];
-                write_codeword(shape, number, table, &mut row);
-                let siblings = way.siblings;
-                let made = make_signature(h, p, &secret, leaf, r, row, siblings);
-                let bytes = signature_length(p);
-                copy(&made, bytes, signature, 0);
-                Signed {
-                    outcome: early,
-                    key: after,
-                }
+            Signed {
+                outcome: outcome,
+                key: after,
             }
         }
     }

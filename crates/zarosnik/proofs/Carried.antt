@@ -24,9 +24,11 @@ use Rattle.one_time.specs.declared.LeafKey.{LeafKey}
 use Rattle.one_time.specs.declared.Recovered.{Recovered}
 use Rattle.tree.specs.Tree.{Roots}
 use Rattle.tree.specs.declared.TreeRoot.{TreeRoot}
-use Rattle.signer.specs.Signing.{Signs, signCode, keyAfter}
+use Rattle.signer.specs.Operations.{SigningCall, Signs, signCode, keyAfter}
 use Rattle.signer.specs.declared.Signed.{Signed}
-use Rattle.verifier.specs.Verifying.{Verifies, taken, leafIn, verifyCode, verifierAfter}
+use Rattle.verifier.specs.Verifying.{withAccepted}
+use Rattle.verifier.specs.Operations.{VerifyingCall, Verifies, verifyCode, verifierAfter}
+use Rattle.signature.specs.Signature.{leafIn}
 use Rattle.verifier.specs.declared.Verifier.{Verifier}
 use Rattle.verifier.specs.declared.Verdict.{Verdict}
 use Rattle.sheet.specs.Operation.{ReadsSheet}
@@ -58,9 +60,9 @@ only-mark key after true e = subst (λ (k : SigningKey). k ≡ recounted key (re
 only-mark key after false e = subst (λ (k : SigningKey). k ≡ recounted key (record { next = key .counter .next; mark = k .counter .mark })) (sym e) refl
 
 -- of the cabinet that comes back only the highest leaf and the marks can differ
-only-window : (v after : Verifier) (leaf : ℕ) (granted : Bool) → after ≡ cond granted (taken v leaf) v
+only-window : (v after : Verifier) (leaf : ℕ) (granted : Bool) → after ≡ cond granted (withAccepted v leaf) v
     → after ≡ verifierOf (v .profile) (v .seed) (v .root) (after .window .highest) (after .window .marks)
-unfolding taken
+unfolding withAccepted
 only-window v after leaf true e =
     subst (λ (x : Verifier). x ≡ verifierOf (v .profile) (v .seed) (v .root) (x .window .highest) (x .window .marks)) (sym e) refl
 only-window v after leaf false e =
@@ -111,19 +113,19 @@ module _ {p q : Profile} (e : p ≡ q) {r : ℕ} where
       subst (λ (s : Profile). ReserveCall s next mark (a .counter .next) mark′ r) e
       (record { answer = a; reserves = rw f at h; returned = n; next-written = refl; mark-written = m ∙ ap (λ k. markLeft k mark (a .counter .mark)) (sym n) })
 
-  pub verify-call : {seed root : List ℕ} {highest marks : ℕ} {message signature work work′ : List ℕ} {a : Verdict}
-      → Verifies (verifierOf p seed root highest marks) message signature work work′ a → r ≡ outcomeCode (a .outcome)
-      → VerifyCall (verifierOf q seed root highest marks) message signature work work′ (a .verifier .window .highest) (a .verifier .window .marks) (a .steps) r
+  pub verify-call : {seed root : List ℕ} {highest marks : ℕ} {call : VerifyingCall} {work′ : List ℕ} {a : Verdict}
+      → Verifies (verifierOf p seed root highest marks) call work′ a → r ≡ outcomeCode (a .outcome)
+      → VerifyCall (verifierOf q seed root highest marks) call work′ (a .verifier .window .highest) (a .verifier .window .marks) (a .steps) r
   unfolding verifierAfter
-  verify-call {seed} {root} {highest} {marks} {message} {signature} {work} {work′} {a} h n =
+  verify-call {seed} {root} {highest} {marks} {call} {work′} {a} h n =
       let v : Verifier = verifierOf p seed root highest marks in
       let after = a .verifier .window in
-      subst (λ (s : Profile). VerifyCall (verifierOf s seed root highest marks) message signature work work′ (after .highest) (after .marks) (a .steps) r) e
+      subst (λ (s : Profile). VerifyCall (verifierOf s seed root highest marks) call work′ (after .highest) (after .marks) (a .steps) r) e
       (record {
         answer = a;
         verifies = h;
         returned = n;
-        verifier-kept = only-window v (a .verifier) (leafIn signature) (eqb (verifyCode v message signature work) 0) (h .verifier);
+        verifier-kept = only-window v (a .verifier) (leafIn (call .signature)) (eqb (verifyCode v call) 0) (h .verifier);
         steps-written = refl;
       })
 
@@ -137,15 +139,15 @@ module _ {k key : SigningKey} (e : k ≡ key) {r : ℕ} where
   write-key-call {frame} {frame′} {a} h n =
       subst (λ (x : SigningKey). WriteKeyCall x frame frame′ (a .length) r) e (record { answer = a; writes = h; returned = n; length-written = refl })
 
-  pub sign-call : {random message work out work′ out′ : List ℕ} {mark mark′ : ℕ} {a : Signed} → Signs k random message work out work′ out′ a → r ≡ outcomeCode (a .outcome)
-      → mark′ ≡ markLeft (outcomeCode (a .outcome)) mark (a .key .counter .mark) → SignCall key random message work out work′ out′ mark mark′ r
+  pub sign-call : {call : SigningCall} {work′ out′ : List ℕ} {mark mark′ : ℕ} {a : Signed} → Signs k call work′ out′ a → r ≡ outcomeCode (a .outcome)
+      → mark′ ≡ markLeft (outcomeCode (a .outcome)) mark (a .key .counter .mark) → SignCall key call work′ out′ mark mark′ r
   unfolding keyAfter
-  sign-call {random} {message} {work} {out} {work′} {out′} {mark} {mark′} {a} h n m =
-      subst (λ (x : SigningKey). SignCall x random message work out work′ out′ mark mark′ r) e
+  sign-call {call} {work′} {out′} {mark} {mark′} {a} h n m =
+      subst (λ (x : SigningKey). SignCall x call work′ out′ mark mark′ r) e
       (record {
         answer = a;
         signs = h;
         returned = n;
         mark-written = m ∙ ap (λ c. markLeft c mark (a .key .counter .mark)) (sym n);
-        key-kept = only-mark k (a .key) (eqb (signCode k random message work out) 0) (h .key′);
+        key-kept = only-mark k (a .key) (eqb (signCode k call) 0) (h .key′);
       })

@@ -30,9 +30,9 @@ use Rattle.one_time.specs.declared.LeafKey.{LeafKey}
 use Rattle.one_time.specs.declared.Recovered.{Recovered}
 use Rattle.tree.specs.Tree.{Roots}
 use Rattle.tree.specs.declared.TreeRoot.{TreeRoot}
-use Rattle.signer.specs.Signing.{Signs}
+use Rattle.signer.specs.Operations.{SigningCall, Signs}
 use Rattle.signer.specs.declared.Signed.{Signed}
-use Rattle.verifier.specs.Verifying.{Verifies}
+use Rattle.verifier.specs.Operations.{VerifyingCall, Verifies}
 use Rattle.verifier.specs.declared.Verifier.{Verifier}
 use Rattle.verifier.specs.declared.Verdict.{Verdict}
 use Rattle.sheet.specs.Operation.{ReadsSheet}
@@ -138,17 +138,17 @@ pub record ReserveCall (p : Profile) (next mark next′ mark′ code : ℕ) : Ty
   pub mark-written : mark′ ≡ markLeft code mark (answer .counter .mark)
 
 -- Sign: the mark is written back, and the rest of the key that comes back is the rest of the key given
-pub record SignCall (key : SigningKey) (r message work out work′ out′ : List ℕ) (mark mark′ code : ℕ) : Type 0 where
+pub record SignCall (key : SigningKey) (call : SigningCall) (work′ out′ : List ℕ) (mark mark′ code : ℕ) : Type 0 where
   pub answer : Signed
-  pub signs : Signs key r message work out work′ out′ answer
+  pub signs : Signs key call work′ out′ answer
   pub returned : code ≡ outcomeCode (answer .outcome)
   pub mark-written : mark′ ≡ markLeft code mark (answer .key .counter .mark)
   pub key-kept : answer .key ≡ recounted key (record { next = key .counter .next; mark = answer .key .counter .mark })
 
 -- Check: the highest leaf and the marks are written back, and the rest of the cabinet that comes back is the rest of the cabinet given
-pub record VerifyCall (v : Verifier) (message signature work work′ : List ℕ) (highest′ marks′ steps′ code : ℕ) : Type 0 where
+pub record VerifyCall (v : Verifier) (call : VerifyingCall) (work′ : List ℕ) (highest′ marks′ steps′ code : ℕ) : Type 0 where
   pub answer : Verdict
-  pub verifies : Verifies v message signature work work′ answer
+  pub verifies : Verifies v call work′ answer
   pub returned : code ≡ outcomeCode (answer .outcome)
   pub verifier-kept : answer .verifier ≡ verifierOf (v .profile) (v .seed) (v .root) highest′ marks′
   pub steps-written : steps′ ≡ answer .steps

@@ -340,7 +340,7 @@ pub extern "C" fn zarosnik_sign(
     table: &mut [u32],
     signature: &mut [u8],
 ) -> u32
-    ensures { λ code. ⌜ SignCall (signingKeyOf (profileOf l w s h edition) (now (seed .entry)) (now (secret .entry)) next (now (mark .entry))) (now (r .entry)) (now (message .entry)) (now (table .entry)) (now (signature .entry)) (now (table .exit)) (now (signature .exit)) (now (mark .entry)) (now (mark .exit)) code ⌝ }
+    ensures { λ code. ⌜ SignCall (signingKeyOf (profileOf l w s h edition) (now (seed .entry)) (now (secret .entry)) next (now (mark .entry))) (record { r = now (r .entry); message = now (message .entry); work = now (table .entry); out = now (signature .entry) }) (now (table .exit)) (now (signature .exit)) (now (mark .entry)) (now (mark .exit)) code ⌝ }
 {
     let key = signing_key(profile(l, w, s, h, edition), seed, secret, next, *mark);
     let signed = sign(key, *r, message, table, signature);
@@ -368,7 +368,7 @@ pub extern "C" fn zarosnik_verify(
     table: &mut [u32],
     steps: &mut u32,
 ) -> u32
-    ensures { λ code. ⌜ VerifyCall (verifierOf (profileOf l w s h edition) (now (seed .entry)) (now (root .entry)) (now (highest .entry)) (now (marks .entry))) (now (message .entry)) (now (signature .entry)) (now (table .entry)) (now (table .exit)) (now (highest .exit)) (now (marks .exit)) (now (steps .exit)) code ⌝ }
+    ensures { λ code. ⌜ VerifyCall (verifierOf (profileOf l w s h edition) (now (seed .entry)) (now (root .entry)) (now (highest .entry)) (now (marks .entry))) (record { message = now (message .entry); signature = now (signature .entry); work = now (table .entry) }) (now (table .exit)) (now (highest .exit)) (now (marks .exit)) (now (steps .exit)) code ⌝ }
 {
     let verifier = Verifier {
         profile: profile(l, w, s, h, edition),

@@ -16,7 +16,7 @@ returns c =
     record {
       leaf-key = λ edition d p secret leaf. refl;
       root = λ edition d p secret. refl;
-      signature = λ edition d p secret leaf n r. refl;
+      signature = λ edition d p secret leaf r row. refl;
       recovered = λ edition d p leaf n values. refl;
       old-rule = λ leaf r seed root message. ap (λ front. sha256.digest (front ++ message)) (append-nil (r ++ seed ++ root));
       shifted = λ leaf other r seed root message.

@@ -4,8 +4,10 @@ use mathlib.Core.List.{List}
 use Prim.Native.Nat.{ℕ}
 use Rattle.profile.specs.Checks.{profileCauses}
 use Rattle.counts.specs.Table.{tableCauses}
-use Rattle.message.specs.Message.{signatureLength, messageNumber}
-use Rattle.verifier.specs.Verifying.{numberIn, rootIn, causesBeforeRoot}
+use Rattle.message.specs.Message.{messageNumber}
+use Rattle.signature.specs.Signature.{signatureLength}
+use Rattle.verifier.specs.Verifying.{numberIn}
+use Rattle.verifier.specs.Operations.{causesBeforeRoot}
 use Rattle.verifier.specs.declared.Verifier.{Verifier}
 use Rattle.claims.specs.Editions.{numberJudged}
 use Rattle.claims.proofs.Judged.{judged-by-root}
@@ -18,11 +20,11 @@ unfolding numberIn messageNumber
 own-number v message signature = refl
 
 returns : tie.Need-returns
-unfolding causesBeforeRoot tableCauses profileCauses signatureLength rootIn
+unfolding causesBeforeRoot tableCauses profileCauses signatureLength
 returns c =
     record {
-      before = λ v message signature work. refl;
-      verdict = λ v message signature work none. rw (own-number v message signature) at (judged-by-root v message signature work none);
+      before = λ v call. refl;
+      verdict = λ v call none. rw (own-number v (call .message) (call .signature)) at (judged-by-root v call none);
     }
 
 pub judged-by-edition-spec : {M : Type 1} → statement M

@@ -4,12 +4,9 @@ use native.Mathlib.Omega.{arith}
 use borrow.Author.Needs.{needs}
 use denote.Ref.{now}
 use lib.ListN.{length, replicate}
-use Rattle.octets.specs.Bytes.{toBytes}
-use Rattle.octets.proofs.ByteLaws.{length-toBytes}
 use Rattle.chains.specs.Leaves.{revealed}
 use Rattle.chains.proofs.LeafRecover.{length-revealed}
-use Rattle.message.specs.Message.{signatureLength}
-use Rattle.signer.proofs.Written.{signature-made}
+use Rattle.signature.proofs.Written.{signature-made}
 use Rattle.signer.proofs.make_signature.Statement.{statement}
 use Rattle.signer.proofs.make_signature.Tie as tie
 
@@ -36,16 +33,14 @@ copy-requires c κs =
     (omega (arith, begin .pre, longs begin .1), omega (arith, begin .pre, first third .write-leaf .kept .0, second third .write-16 .kept .0, third .write-values .kept .1 .1 .1 .1 .1 .0))
 
 returns : tie.Need-returns
-unfolding signatureLength
 returns c =
     let fourth = c .before in
     let third = fourth .before .before .before .before in
     let begin = start third in
     let a = begin .args in
-    let d = a .h .domain in
-    signature-made (toBytes 4 (a .leaf)) (a .r) (revealed d (now (a .secret)) (a .leaf) (a .p .shape .chains) (a .row))
-    (a .t7) (replicate 820 0) (a .p .shape .chains) (a .p .height)
-    (length-toBytes 4 (a .leaf)) (longs begin .0) (length-revealed d (now (a .secret)) (a .leaf) (a .p .shape .chains) (a .row)) (omega (arith, begin .pre, longs begin .1))
+    let d = a .hasher .domain in
+    signature-made (a .p) (a .leaf) (a .r) (revealed d (now (a .secret)) (a .leaf) (a .p .shape .chains) (a .row)) (a .t7) (replicate 820 0)
+    (longs begin .0) (length-revealed d (now (a .secret)) (a .leaf) (a .p .shape .chains) (a .row)) (omega (arith, begin .pre, longs begin .1))
     (first third .write-leaf .ensures) (second third .write-16 .ensures) (third .write-values .ensures) (fourth .copy .ensures)
 
 pub make-signature-spec : {M : Type 1} → statement M

@@ -1,5 +1,5 @@
--- `signer::sign` meets its contract: refused before the table, refused by 19, and signed.
-use mathlib.Core.Path.{_≡_, refl, ap, sym, _∙_}
+-- `signer::sign` meets its contract: refused before the table or by 19, and signed.
+use mathlib.Core.Path.{_≡_, ap, _∙_}
 use mathlib.Core.Bool.{false}
 use native.Mathlib.Omega.{arith}
 use borrow.Author.Needs.{needs}
@@ -7,15 +7,20 @@ use denote.Ref.{now}
 use lib.ListN.{length}
 use Rattle.refusal.specs.Code.{outcomeCode}
 use Rattle.numbers.specs.Number.{value}
-use Rattle.signing_key.specs.Counter.{cleared}
+use Rattle.signature.specs.Signature.{signatureLength}
 use Rattle.signing_key.specs.Key.{recounted}
 use Rattle.counts.specs.Counts.{count}
 use Rattle.counts.proofs.Answer.{count-value, table-held}
-use Rattle.message.specs.Message.{countTooSmall, signatureLength}
+use Rattle.message.specs.Message.{countTooSmall}
 use Rattle.signer.specs.Signing.{keyNumber}
-use Rattle.signer.proofs.Answers.{SignFits, number-is, key-number-fits, sign-kept, sign-passed, sign-fits, sign-refused, sign-nineteen, sign-granted}
+use Rattle.signer.specs.Operations.{SigningCall}
+use Rattle.signer.proofs.Answers.{SignFits, number-is, key-number-fits, signature-is, sign-filled, sign-fits, sign-none, sign-refused, sign-granted}
 use Rattle.signer.proofs.sign.Statement.{statement}
 use Rattle.signer.proofs.sign.Tie as tie
+
+-- the call
+abbrev called : tie.Start → SigningCall
+called s = record { r = s .args .r; message = now (s .args .message); work = now (s .args .table); out = now (s .args .signature) }
 
 -- the outcome of the causes before 19
 abbrev start : tie.After-sign-outcome → tie.Start
@@ -23,89 +28,100 @@ start e = e .before .before .before .before .before .before .before
 
 fill-past-requires : tie.Need-fill-past-requires
 fill-past-requires c κs =
-    let a = start (c .before) .args in
-    let checked = c .before .before .table-outcome .ensures in
-    let kept = sign-kept (a .key) (a .r) (now (a .message)) (now (a .table)) (now (a .signature)) checked (c .before .sign-outcome .ensures) in
-    λ none. let passed = sign-passed (a .key) (a .r) (now (a .message)) (now (a .table)) (now (a .signature)) checked (c .before .sign-outcome .ensures) (omega arith) in (passed .limits, passed .room)
+    let s = start (c .before) in
+    sign-filled (s .args .key) (called s) (c .before .before .table-outcome .ensures) (c .before .sign-outcome .ensures)
 
 -- the table is filled past them
 abbrev early : tie.After-fill-past → tie.After-sign-outcome
 early f = f .before .before
 
+abbrev begun : tie.After-fill-past → tie.Start
+begun f = start (early f)
+
+fits-at : (f : tie.After-fill-past) → outcomeCode (early f .sign-outcome .result) ≡ 0
+    → SignFits (begun f .args .key) (length (now (begun f .args .message))) (length (now (begun f .args .signature)))
+fits-at f none =
+    sign-fits (begun f .args .key) (called (begun f)) (early f .before .table-outcome .ensures) (early f .sign-outcome .ensures) none
+
+-- the count that is given
+counted : (f : tie.After-fill-past) → outcomeCode (early f .sign-outcome .result) ≡ 0 → value (f .fill-past .result) ≡ count (begun f .args .key .profile .shape)
+counted f none = count-value (begun f .args .key .profile .shape) (fits-at f none .limits) (rw none at (f .fill-past .ensures .counted))
+
+-- the count is looked at
+abbrev filled : tie.After-then → tie.After-fill-past
+filled t = t .before .before .before .before
+
+means : (t : tie.After-then) → outcomeCode (early (filled t) .sign-outcome .result) ≡ 0
+    → t .before .count-too-small .result ≡ countTooSmall (count (begun (filled t) .args .key .profile .shape))
+means t none = t .before .count-too-small .ensures ∙ ap countTooSmall (counted (filled t) none)
+
 returns : tie.Need-returns
 returns c =
-    let filled = c .before .before .before .before in
-    let e = early filled in
-    let a = start e .args in
-    sign-refused (a .key) (a .r) (now (a .message)) (now (a .table)) (now (a .signature)) (e .before .table-outcome .ensures) (e .sign-outcome .ensures) (filled .fill-past .ensures .table) refl (c .enum-told .given .1)
+    let t = c .before .before in
+    let f = filled t in
+    let e = early f in
+    sign-refused (begun f .args .key) (called (begun f)) (e .before .table-outcome .ensures) (e .sign-outcome .ensures) (means t) (t .then .result) (t .then .ensures)
+    (f .fill-past .ensures .table) (c .enum-told .given .1)
 
--- the way on which none of them holds
-abbrev filled : tie.After-enum-told2 → tie.After-fill-past
-filled g = g .before .before .before .before
+-- the way on which none of the causes holds
+abbrev looked : tie.After-enum-told2 → tie.After-then
+looked g = g .before .before
 
-abbrev begun : tie.After-enum-told2 → tie.Start
-begun g = start (early (filled g))
+abbrev at-fill : tie.After-enum-told2 → tie.After-fill-past
+at-fill g = filled (looked g)
 
-none : (g : tie.After-enum-told2) → outcomeCode (early (filled g) .sign-outcome .result) ≡ 0
-none g = ap outcomeCode (g .enum-told2 .given .1)
+abbrev at-start : tie.After-enum-told2 → tie.Start
+at-start g = begun (at-fill g)
 
-fits : (g : tie.After-enum-told2) → SignFits (begun g .args .key) (length (now (begun g .args .message))) (length (now (begun g .args .signature)))
-fits g =
-    let e = early (filled g) in
-    let a = begun g .args in
-    sign-fits (a .key) (a .r) (now (a .message)) (now (a .table)) (now (a .signature)) (e .before .table-outcome .ensures) (e .sign-outcome .ensures) (none g)
+zero : (g : tie.After-enum-told2) → outcomeCode (looked g .then .result) ≡ 0
+zero g = ap outcomeCode (g .enum-told2 .given .1)
+
+none : (g : tie.After-enum-told2)
+    → (outcomeCode (early (at-fill g) .sign-outcome .result) ≡ 0) × (countTooSmall (count (at-start g .args .key .profile .shape)) ≡ false)
+none g =
+    let e = early (at-fill g) in
+    sign-none (at-start g .args .key) (called (at-start g)) (e .before .table-outcome .ensures) (e .sign-outcome .ensures) (means (looked g))
+    (looked g .then .result) (looked g .then .ensures) (zero g)
+
+fits : (g : tie.After-enum-told2)
+    → SignFits (at-start g .args .key) (length (now (at-start g .args .message))) (length (now (at-start g .args .signature)))
+fits g = fits-at (at-fill g) (none g .0)
 
 -- a leaf is marked, so that there is one before the next
 sub-leaf : tie.Need-sub-leaf
 sub-leaf c = omega (arith, fits (c .before .before) .some)
 
--- the key without its mark
-abbrev told : tie.After-clear → tie.After-enum-told2
-told c = c .before .before .before
-
-cleared-key : (t : tie.After-with-counter) → t .with-counter .result ≡ recounted (begun (told (t .before)) .args .key) (cleared (begun (told (t .before)) .args .key .counter))
-cleared-key t = t .with-counter .ensures ∙ ap (recounted (begun (told (t .before)) .args .key)) (t .before .clear .ensures)
-
--- the count, and what the test of it tells
-counted : (g : tie.After-enum-told2) → value (filled g .fill-past .result) ≡ count (begun g .args .key .profile .shape)
-counted g = count-value (begun g .args .key .profile .shape) (fits g .limits) (rw (none g) at (filled g .fill-past .ensures .counted))
-
-looked : (t : tie.After-count-too-small) → t .count-too-small .result ≡ countTooSmall (count (begun (told (t .before .before)) .args .key .profile .shape))
-looked t = t .count-too-small .ensures ∙ ap countTooSmall (counted (told (t .before .before)))
-
--- the way on which it is large enough
-abbrev granted : tie.Else1 → tie.After-enum-told2
-granted w = told (w .before .before .before)
-
-large : (w : tie.Else1) → countTooSmall (count (begun (granted w) .args .key .profile .shape)) ≡ false
-large w = sym (looked (w .before)) ∙ w .if1 .left
+abbrev granted : tie.After-first-hasher → tie.After-enum-told2
+granted h = h .before .before .before .before .before
 
 way-up-requires : tie.Need-way-up-requires
-way-up-requires c κs = let known = fits (granted (c .before .before .before .before)) in (c .before .first-hasher .ensures .1, (known .limits, known .low, known .in-tree))
+way-up-requires c κs = let known = fits (granted (c .before)) in (c .before .first-hasher .ensures .1, (known .limits, known .low, known .in-tree))
 
 message-number-requires : tie.Need-message-number-requires
-message-number-requires c κs = let g = granted (c .before .before .before .before .before .before) in (counted g, fits g .short)
+message-number-requires c κs = let g = granted (c .before .before .before) in (counted (at-fill g) (none g .0), fits g .short)
 
 -- the message number
-abbrev chosen : tie.After-message-number → tie.Else1
-chosen n = n .before .before .before .before .before .before .before
-
 abbrev hasher : tie.After-message-number → tie.After-first-hasher
 hasher n = n .before .before .before .before
 
-number : (n : tie.After-message-number) → value (n .message-number .result) ≡ keyNumber (begun (granted (chosen n)) .args .key) (begun (granted (chosen n)) .args .r) (now (begun (granted (chosen n)) .args .message))
+abbrev numbered-at : tie.After-message-number → tie.Start
+numbered-at n = at-start (granted (hasher n))
+
+number : (n : tie.After-message-number)
+    → value (n .message-number .result) ≡ keyNumber (numbered-at n .args .key) (numbered-at n .args .r) (now (numbered-at n .args .message))
 number n =
-    let a = begun (granted (chosen n)) .args in
+    let a = numbered-at n .args in
     number-is (a .key) (a .r) (now (a .message)) (rw (hasher n .first-hasher .ensures .0) at (n .before .before .way-up .ensures .1)) (n .message-number .ensures)
 
 write-codeword-requires : tie.Need-write-codeword-requires
 write-codeword-requires c κs =
     let n = c .before .before in
-    let g = granted (chosen n) in
-    let a = begun g .args in
+    let g = granted (hasher n) in
+    let a = at-start g .args in
     let known = fits g in
-    let held = table-held (a .key .profile .shape) (now (a .table)) (rw (none g) at (filled g .fill-past .ensures .table)) in
-    (known .limits, (held, (rw (number n) (key-number-fits (a .key) (a .r) (now (a .message)) (large (chosen n))), omega (arith, known .limits .few-chains))))
+    let held = table-held (a .key .profile .shape) (now (a .table)) (rw (none g .0) at (at-fill g .fill-past .ensures .table)) in
+    let fitting = key-number-fits (a .key) (a .r) (now (a .message)) (none g .1) in
+    (known .limits, (held, (rw (number n) fitting, omega (arith, known .limits .few-chains))))
 
 -- its codeword is in the row
 abbrev numbered : tie.After-write-codeword → tie.After-message-number
@@ -114,12 +130,15 @@ numbered w = w .before .before .before
 make-signature-requires : tie.Need-make-signature-requires
 make-signature-requires c κs =
     let n = numbered (c .before .before .before) in
-    let known = fits (granted (chosen n)) in
+    let known = fits (granted (hasher n)) in
     (hasher n .first-hasher .ensures .1, (known .limits .few-chains, known .low))
 
 -- the signature is made
 abbrev placed : tie.After-make-signature → tie.After-write-codeword
 placed m = m .before .before .before .before
+
+abbrev way : tie.After-make-signature → tie.After-enum-told2
+way m = granted (hasher (numbered (placed m)))
 
 made-long : (m : tie.After-make-signature) → length (m .make-signature .result) ≡ 820
 made-long m = search needs
@@ -128,37 +147,34 @@ copy-requires : tie.Need-copy-requires
 unfolding signatureLength
 copy-requires c κs =
     let made = c .before .before .before in
-    let known = fits (granted (chosen (numbered (placed made)))) in
+    let known = fits (way made) in
     omega (arith, made-long made, known .limits .few-chains, known .low, known .room, c .before .before .signature-length .ensures)
 
--- and copied to the output
-abbrev made-for : tie.After-copy → tie.After-make-signature
-made-for k = k .before .before .before .before
+-- and copied to the output, and the mark is cleared
+abbrev copied : tie.After-with-counter → tie.After-copy
+copied t = t .before .before .before .before
+
+abbrev made-for : tie.After-with-counter → tie.After-make-signature
+made-for t = copied t .before .before .before .before
+
+same-length-2 : tie.Need-same-length-2
+same-length-2 c = at-fill (way (made-for c)) .fill-past .kept .1 .1 .0
 
 returns-2 : tie.Need-returns-2
 returns-2 c =
-    let small = c .before in
-    let g = told (small .before .before) in
-    let e = early (filled g) in
-    let a = begun g .args in
-    sign-nineteen (a .key) (a .r) (now (a .message)) (now (a .table)) (now (a .signature)) (e .before .table-outcome .ensures) (e .sign-outcome .ensures) (filled g .fill-past .ensures .table) (none g)
-    (sym (looked small) ∙ c .if1 .taken)
-
-same-length-3 : tie.Need-same-length-3
-same-length-3 c = filled (granted (chosen (numbered (placed (made-for (c .before .before)))))) .fill-past .kept .1 .1 .0
-
-returns-3 : tie.Need-returns-3
-returns-3 c =
-    let copied = c .before .before in
-    let made = made-for copied in
+    let made = made-for c in
     let row = placed made in
     let n = numbered row in
-    let g = granted (chosen n) in
-    let e = early (filled g) in
-    let a = begun g .args in
-    sign-granted (a .key) (a .r) (now (a .message)) (now (a .table)) (now (a .signature)) (e .before .table-outcome .ensures) (e .sign-outcome .ensures) (filled g .fill-past .ensures .table) (none g)
-    _ _ (hasher n .first-hasher .ensures .0) (g .enum-told2 .given .1) (number n) (large (chosen n)) (row .write-codeword .ensures) (cleared-key (chosen n .before .before))
-    (n .before .before .way-up .ensures .0) (made .make-signature .ensures) (copied .before .before .before .signature-length .ensures) (copied .copy .ensures)
+    let g = way made in
+    let e = early (at-fill g) in
+    let s = at-start g in
+    let a = s .args in
+    let is = signature-is (a .key) (a .r) (now (a .message)) (none g .1) _ (made .make-signature .result) (hasher n .first-hasher .ensures .0)
+    (number n) (row .write-codeword .ensures) (n .before .before .way-up .ensures .0) (made .make-signature .ensures) in
+    sign-granted (a .key) (called s) (e .before .table-outcome .ensures) (e .sign-outcome .ensures) (means (looked g)) (looked g .then .result)
+    (looked g .then .ensures)
+    (at-fill g .fill-past .ensures .table) (made .make-signature .result) (zero g) is (copied c .before .before .before .signature-length .ensures)
+    (copied c .copy .ensures) (c .with-counter .ensures ∙ ap (recounted (a .key)) (c .before .clear .ensures))
 
 pub sign-spec : {M : Type 1} → statement M
 sign-spec =
@@ -166,10 +182,9 @@ sign-spec =
     (tie.spec
     (λ c κs. search needs) (λ c κs. search needs)
     fill-past-requires
-    (λ c. search needs) (λ c. search needs)
+    (λ c κs. search needs) (λ c κs. search needs) (λ c. search needs) (λ c. search needs)
     sub-leaf
-    (λ c κs. search needs) (λ c κs. search needs)
-    (λ c κs. search needs) (λ c κs. search needs)
+    (λ c κs. search needs)
     way-up-requires
     message-number-requires
     (λ c. search needs)
@@ -177,10 +192,8 @@ sign-spec =
     make-signature-requires
     (λ c κs. search needs) (λ c. search needs)
     copy-requires
-    (λ c. search needs)
+    (λ c κs. search needs) (λ c κs. search needs) (λ c. search needs)
     returns
+    same-length-2
     (λ c. search needs)
-    returns-2
-    same-length-3
-    (λ c. search needs)
-    returns-3)
+    returns-2)

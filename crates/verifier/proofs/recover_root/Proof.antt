@@ -3,8 +3,8 @@ use mathlib.Core.Path.{_≡_}
 use Prim.Native.Nat.{ℕ, _+_, _-_, _*_}
 use native.Mathlib.Omega.{arith}
 use borrow.Author.Needs.{needs}
-use Rattle.message.specs.Message.{signatureLength}
-use Rattle.verifier.specs.Verifying.{valuesIn, siblingsIn}
+use Rattle.signature.specs.Signature.{signatureLength, valuesIn, siblingsIn}
+use Rattle.verifier.specs.Verifying.{recoveredRoot}
 use Rattle.verifier.proofs.recover_root.Statement.{statement}
 use Rattle.verifier.proofs.recover_root.Tie as tie
 
@@ -23,7 +23,7 @@ all-values : (l : ℕ) → 20 + 16 * l - 20 ≡ 16 * l
 all-values l = omega arith
 
 returns : tie.Need-returns
-unfolding valuesIn siblingsIn
+unfolding valuesIn siblingsIn recoveredRoot
 returns c =
     let found = c .before .before in
     let hashed = found .before .before in

@@ -4,13 +4,13 @@ use Prim.Native.Nat.{_-_, _≤_}
 use native.Mathlib.Omega.{arith}
 use borrow.Author.Needs.{needs}
 use lib.ListN.{length, drop}
-use Rattle.verifier.specs.Verifying.{same}
+use Rattle.verifier.specs.Verifying.{sameBytes}
 use Rattle.verifier.proofs.SameLaws.{same-here, same-later, same-end}
 use Rattle.verifier.proofs.same_root.Statement.{statement}
 use Rattle.verifier.proofs.same_root.Tie as tie
 
 abbrev Inv-loop : tie.InvT-loop
-Inv-loop a b i₀ i = (i ≤ 16) × (same a b ≡ same (drop i a) (drop i b))
+Inv-loop a b i₀ i = (i ≤ 16) × (sameBytes a b ≡ sameBytes (drop i a) (drop i b))
 
 abbrev μ-loop : tie.MeasureT-loop
 μ-loop a b i₀ i = 16 - i

@@ -3,7 +3,7 @@ use mathlib.Core.Path.{_≡_}
 use mathlib.Core.Bool.{false}
 use Prim.Native.Nat.{ℕ, _≤_}
 use Rattle.profile.proofs.Limits.{not-outside}
-use Rattle.message.specs.Message.{outsideText}
+use Rattle.signature.specs.Signature.{outsideText}
 
 pub short-text : (bytes : ℕ) → outsideText bytes ≡ false → bytes ≤ 200
 unfolding outsideText

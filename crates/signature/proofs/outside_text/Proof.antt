@@ -1,8 +1,8 @@
--- `message::outside_text` meets its contract: both limits are looked at.
+-- `signature::outside_text` meets its contract: both limits are looked at.
 use borrow.Author.Tests.{lt-ltb, le-ltb}
-use Rattle.message.specs.Message.{outsideText}
-use Rattle.message.proofs.outside_text.Statement.{statement}
-use Rattle.message.proofs.outside_text.Tie as tie
+use Rattle.signature.specs.Signature.{outsideText}
+use Rattle.signature.proofs.outside_text.Statement.{statement}
+use Rattle.signature.proofs.outside_text.Tie as tie
 
 returns : tie.Need-returns
 unfolding outsideText

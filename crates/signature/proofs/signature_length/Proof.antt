@@ -1,9 +1,9 @@
--- `message::signature_length` meets its contract: the sum of the definition, which fits.
+-- `signature::signature_length` meets its contract: the sum of the definition, which fits.
 use mathlib.Core.Path.{refl}
 use borrow.Author.Needs.{needs}
-use Rattle.message.specs.Message.{signatureLength}
-use Rattle.message.proofs.signature_length.Statement.{statement}
-use Rattle.message.proofs.signature_length.Tie as tie
+use Rattle.signature.specs.Signature.{signatureLength}
+use Rattle.signature.proofs.signature_length.Statement.{statement}
+use Rattle.signature.proofs.signature_length.Tie as tie
 
 returns : tie.Need-returns
 unfolding signatureLength
