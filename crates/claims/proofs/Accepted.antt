@@ -13,15 +13,19 @@ use Rattle.profile.proofs.Limits.{profile-numbered}
 use Rattle.counts.specs.Counts.{count}
 use Rattle.counts.specs.Table.{tableLength, tableCauses}
 use Rattle.counts.proofs.Room.{table-numbered}
+use Rattle.codewords.specs.Operations.{rowOf}
+use Rattle.codewords.proofs.RowLaws.{row-valid}
 use Rattle.tweak.specs.Tweak.{firstDomain}
 use Rattle.tweak.specs.declared.Domain.{Domain}
-use Rattle.one_time.proofs.RecoverLaws.{steps-below, recovers-revealed}
+use Rattle.chains.specs.Leaves.{chainsOf}
+use Rattle.one_time.specs.Operations.{revealedBy}
+use Rattle.one_time.proofs.RecoverLaws.{steps-below}
 use Rattle.tree.specs.Tree.{rootOf}
+use Rattle.tree.proofs.WayLaws.{recovers-root}
 use Rattle.message.specs.Message.{signatureLength}
-use Rattle.verifier.specs.Verifying.{taken, numberIn, recoveredRoot, rootIn, causesBeforeRoot, verifyCode, verifierAfter, stepsMade}
+use Rattle.verifier.specs.Verifying.{taken, numberIn, rootBy, rootIn, causesBeforeRoot, verifyCode, verifierAfter, stepsMade}
 use Rattle.verifier.specs.declared.Verifier.{Verifier}
 use Rattle.claims.specs.Orders.{Issued}
-use Rattle.claims.proofs.Climb.{climbs}
 use Rattle.claims.proofs.ReadBack.{ReadBack}
 use Rattle.claims.proofs.Judged.{judged-by-root}
 use Rattle.claims.proofs.LeafLaws.{leaf-inside, Free, CabinetOf}
@@ -53,11 +57,10 @@ module _ (p : Profile) (seed secret : List ℕ) (leaf : ℕ) (one : Issued) (mad
   made-number = rw (back .own-leaf, back .own-random, of .same-profile, of .same-seed, of .same-root)
 
   made-root : rootIn v (one .message) (one .signature) ≡ v .root
-  unfolding rootIn recoveredRoot
+  unfolding rootIn rootBy revealedBy
   made-root =
-      rw
-      (back .own-leaf, made-number, of .same-profile, of .same-seed, of .same-root, back .own-values, back .own-siblings, recovers-revealed d p secret leaf n below)
-      (climbs d p secret leaf (made .in-tree))
+      rw (back .own-leaf, made-number, of .same-profile, of .same-seed, of .same-root, back .own-values, back .own-siblings)
+      (recovers-root d (chainsOf (p .shape)) secret (p .height) leaf (rowOf (p .shape) n) (made .in-tree) (row-valid (p .shape) n below .lengths .digits))
 
   module _ (work : List ℕ) (free : Free v leaf) (long : tableLength (p .shape) ≤ length work) where
     before : firstCause (causesBeforeRoot v (one .message) (one .signature) work) ≡ 0

@@ -8,10 +8,10 @@ use Rattle.octets.specs.Bytes.{fromBytes, toBytes}
 use Rattle.octets.proofs.ByteLaws.{length-toBytes, from-to-lt}
 use Rattle.profile.specs.declared.Profile.{Profile}
 use Rattle.tweak.specs.declared.Domain.{Domain}
-use Rattle.chains.specs.Leaves.{leafKeyOf}
+use Rattle.chains.specs.Leaves.{chainsOf}
 use Rattle.one_time.specs.Operations.{revealedBy}
 use Rattle.one_time.proofs.RecoverLaws.{length-revealedBy}
-use Rattle.merkle.specs.Nodes.{path}
+use Rattle.tree.specs.Tree.{siblingsOf}
 use Rattle.message.specs.Message.{signatureLength}
 use Rattle.signer.specs.Signing.{signatureOf}
 use Rattle.signer.proofs.SignatureLaws.{length-signature}
@@ -39,7 +39,7 @@ module _ (d : Domain) (p : Profile) (secret : List ℕ) (leaf n : ℕ) where
   values = revealedBy d p secret leaf n
 
   abbrev siblings : List ℕ
-  siblings = path d (leafKeyOf d p secret) (p .height) leaf
+  siblings = siblingsOf d (chainsOf (p .shape)) secret (p .height) leaf
 
   -- what the checker reads
   pub record ReadBack (r signature : List ℕ) : Type 0 where

@@ -15,7 +15,7 @@ use Rattle.one_time.specs.Operations.{recoveredBy}
 use Rattle.tree.specs.Tree.{rootOf}
 use Rattle.message.specs.Message.{messageDigest, numberBits}
 use Rattle.signer.specs.Signing.{signatureOf}
-use Rattle.verifier.specs.Verifying.{leafIn, randomIn, valuesIn, siblingsIn, recoveredRoot, causesBeforeRoot, verifyCode}
+use Rattle.verifier.specs.Verifying.{leafIn, randomIn, rootBy, causesBeforeRoot, verifyCode}
 use Rattle.verifier.specs.declared.Verifier.{Verifier}
 
 -- a profile in an edition, and a cabinet in one
@@ -38,8 +38,7 @@ pub record JudgedByEdition : Type 0 where
   -- past them every signature, in whichever edition it was made, is accepted exactly when it leads to the root by the number of the cabinet's edition
   pub verdict : (v : Verifier) (message signature work : List ℕ) → firstCause (causesBeforeRoot v message signature work) ≡ 0
       → (verifyCode v message signature work ≡ 0)
-      ↔ (recoveredRoot (firstDomain (v .seed)) (v .profile) (leafIn signature) (numberJudged v message signature) (valuesIn (v .profile) signature) (siblingsIn (v .profile) signature)
-      ≡ v .root)
+      ↔ (rootBy v (numberJudged v message signature) signature ≡ v .root)
 
 -- what the edition has no part in, and how the digests stand to each other
 pub record EditionsShare : Type 0 where

@@ -29,11 +29,10 @@ use Rattle.codewords.specs.Operations.{rowOf}
 use Rattle.codewords.proofs.TableOperation.{early-code, none-before, table-after, refused-before, granted-before}
 use Rattle.tweak.specs.Tweak.{firstDomain}
 use Rattle.tweak.specs.declared.Domain.{Domain}
-use Rattle.chains.specs.Leaves.{leafKeyOf, revealed}
+use Rattle.chains.specs.Leaves.{chainsOf, revealed}
 use Rattle.one_time.specs.Operations.{revealedBy}
 use Rattle.one_time.proofs.RowLaws.{revealed-row}
-use Rattle.merkle.specs.Nodes.{path}
-use Rattle.tree.specs.Tree.{rootOf}
+use Rattle.tree.specs.Tree.{rootOf, siblingsOf}
 use Rattle.message.specs.Message.{messageNumber, countTooSmall, outsideText, signatureLength}
 use Rattle.message.proofs.Fits.{short-text}
 use Rattle.message.proofs.NumberLaws.{number-fits}
@@ -143,9 +142,9 @@ module _ (key : SigningKey) (r message work out : List ℕ) {n m : ℕ} (checked
       -- the codeword in the row, in front of what else it has, the signature made of it, and that copied to the output
       pub sign-granted : {o : Outcome} {d : Domain} {row siblings out′ : List ℕ} {after′ : SigningKey} {k bytes : ℕ} (more made : List ℕ) → d ≡ firstDomain (key .seed) → o ≡ Granted → k ≡ keyNumber key r message → countTooSmall (count shape) ≡ false
           → row ≡ rowOf shape k ++ more → after′ ≡ recounted key (cleared (key .counter))
-          → siblings ≡ path d (leafKeyOf d (key .profile) (key .secret)) (key .profile .height) (leafToSign key)
+          → siblings ≡ siblingsOf d (chainsOf shape) (key .secret) (key .profile .height) (leafToSign key)
           → take (signatureLength (key .profile)) made
-          ≡ toBytes 4 (leafToSign key) ++ r ++ revealed d (key .secret) (leafToSign key) (shape .chains) row ++ siblings
+          ≡ toBytes 4 (leafToSign key) ++ r ++ revealed d (chainsOf shape) (key .secret) (leafToSign key) row ++ siblings
           → bytes ≡ signatureLength (key .profile) → out′ ≡ paste out 0 made bytes
           → Signs key r message work out left out′ (record { outcome = o; key = after′ })
       unfolding keyAfter outputAfter signatureOf revealedBy

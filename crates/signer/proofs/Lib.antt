@@ -1,5 +1,4 @@
 -- The laws that belong to no one function.
 pub mod Answers
 pub mod SignatureLaws
-pub mod WayLaws
 pub mod Written

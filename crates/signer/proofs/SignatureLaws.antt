@@ -7,10 +7,9 @@ use lib.ListN.{length, length-append}
 use Rattle.octets.proofs.ByteLaws.{length-toBytes}
 use Rattle.profile.specs.declared.Profile.{Profile}
 use Rattle.tweak.specs.declared.Domain.{Domain}
-use Rattle.chains.specs.Leaves.{leafKeyOf}
-use Rattle.chains.proofs.LeafLaws.{length-leaf-key}
+use Rattle.chains.specs.Leaves.{chainsOf}
 use Rattle.one_time.proofs.RecoverLaws.{length-revealedBy}
-use Rattle.merkle.proofs.ClimbLaws.{length-path}
+use Rattle.tree.proofs.WayLaws.{length-siblings}
 use Rattle.message.specs.Message.{signatureLength}
 use Rattle.signer.specs.Signing.{signatureOf}
 
@@ -18,5 +17,4 @@ pub length-signature : (d : Domain) (p : Profile) (secret : List ℕ) (leaf n : 
     → length (signatureOf d p secret leaf n r) ≡ signatureLength p
 unfolding signatureOf signatureLength
 length-signature d p secret leaf n r sixteen =
-    let each = length-leaf-key d secret (p .shape .width) (p .shape .chains) in
-    simp (length-append, length-toBytes, sixteen, length-revealedBy, length-path d (leafKeyOf d p secret) each) (omega arith)
+    simp (length-append, length-toBytes, sixteen, length-revealedBy, length-siblings d (chainsOf (p .shape)) secret) (omega arith)

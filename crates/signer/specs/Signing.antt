@@ -16,10 +16,9 @@ use Rattle.counts.specs.Counts.{count}
 use Rattle.counts.specs.Table.{tableCauses, tableAfter}
 use Rattle.tweak.specs.Tweak.{firstDomain}
 use Rattle.tweak.specs.declared.Domain.{Domain}
-use Rattle.chains.specs.Leaves.{leafKeyOf}
+use Rattle.chains.specs.Leaves.{chainsOf}
 use Rattle.one_time.specs.Operations.{revealedBy}
-use Rattle.merkle.specs.Nodes.{path}
-use Rattle.tree.specs.Tree.{rootOf}
+use Rattle.tree.specs.Tree.{rootOf, siblingsOf}
 use Rattle.message.specs.Message.{messageNumber, countTooSmall, outsideText, signatureLength}
 use Rattle.signer.specs.declared.Signed.{Signed}
 
@@ -35,7 +34,7 @@ keyNumber key r message =
 -- "Signature: leaf (4 bytes, most significant first), R, l values, h siblings from the bottom"
 unfoldable pub signatureOf : Domain → Profile → (secret : List ℕ) (leaf n : ℕ) (r : List ℕ) → List ℕ
 signatureOf d p secret leaf n r =
-    toBytes 4 leaf ++ r ++ revealedBy d p secret leaf n ++ path d (leafKeyOf d p secret) (p .height) leaf
+    toBytes 4 leaf ++ r ++ revealedBy d p secret leaf n ++ siblingsOf d (chainsOf (p .shape)) secret (p .height) leaf
 
 -- "16 order text empty or over 200 bytes; 6 (20 + 16 × l + 16 × h)", and "20 when sign finds no mark, in 12's place"
 abbrev pub orderCauses : SigningKey → (text bytes : ℕ) → List (Bool × ℕ)

@@ -6,7 +6,7 @@ use Prim.Native.Nat.{ℕ, _<_, _≤_}
 use native.Mathlib.Omega.{arith}
 use borrow.Author.Tests.{eqb-true, not-false}
 use lib.Dec.{eqb}
-use lib.ListN.{length, take}
+use lib.ListN.{length}
 use Rattle.refusal.specs.Code.{outcomeCode, firstCause, thenFirst}
 use Rattle.refusal.specs.declared.Refusal.{Refusal}
 use Rattle.refusal.specs.declared.Refusal.the-variants.{RootDiffers, CountTooSmall}
@@ -21,15 +21,15 @@ use Rattle.counts.proofs.Room.{TablePassed, table-early, table-passed}
 use Rattle.codewords.specs.Operations.{rowOf}
 use Rattle.codewords.proofs.TableOperation.{early-code, none-before, table-after, refused-before, granted-before}
 use Rattle.tweak.specs.Tweak.{firstDomain}
-use Rattle.chains.specs.Leaves.{recovered, stepsLeft}
-use Rattle.one_time.specs.Operations.{recoveredBy, stepsOf}
+use Rattle.chains.specs.Leaves.{chainsOf, stepsLeft}
+use Rattle.one_time.specs.Operations.{stepsOf}
 use Rattle.one_time.proofs.RowLaws.{recovered-row, steps-row}
-use Rattle.merkle.specs.Nodes.{climbed}
+use Rattle.tree.specs.Tree.{recoveredRoot}
 use Rattle.message.specs.Message.{countTooSmall, outsideText, signatureLength}
 use Rattle.message.proofs.Fits.{short-text}
 use Rattle.message.proofs.NumberLaws.{number-fits}
 use Rattle.window.specs.Window.{passed}
-use Rattle.verifier.specs.Verifying.{taken, leafIn, randomIn, valuesIn, siblingsIn, numberIn, recoveredRoot, rootIn, same, orderCauses, causesBeforeRoot, verifyCode, verifierAfter, stepsMade, Verifies}
+use Rattle.verifier.specs.Verifying.{taken, leafIn, randomIn, valuesIn, siblingsIn, numberIn, rootBy, rootIn, same, orderCauses, causesBeforeRoot, verifyCode, verifierAfter, stepsMade, Verifies}
 use Rattle.verifier.specs.declared.Verifier.{Verifier}
 
 -- past the causes before 19: everything is within its limits, the signature has its length, and the leaf that it names is not passed
@@ -141,13 +141,13 @@ module _ (v : Verifier) (message signature work : List ℕ) {n m : ℕ} (checked
       module _ {k : ℕ} {row : List ℕ} (more : List ℕ) (same-number : k ≡ number) (large : countTooSmall (count shape) ≡ false) (placed : row ≡ rowOf shape k ++ more)
           {leaf steps : ℕ} {top : List ℕ} (own-leaf : leaf ≡ leafIn signature)
           (climb : top
-          ≡ climbed (firstDomain (v .seed)) leaf (recovered (firstDomain (v .seed)) (shape .width) (shape .chains) leaf row (valuesIn (v .profile) signature)) (siblingsIn (v .profile) signature) (v .profile .height))
-          (made : steps ≡ stepsLeft (shape .width) (take (shape .chains) row)) where
+          ≡ recoveredRoot (firstDomain (v .seed)) (chainsOf shape) (v .profile .height) leaf row (valuesIn (v .profile) signature) (siblingsIn (v .profile) signature))
+          (made : steps ≡ stepsLeft (chainsOf shape) row) where
         below : number < count shape
         below = number-in-fits v message signature large
 
         top-recovered : top ≡ rootIn v message signature
-        unfolding rootIn recoveredRoot recoveredBy
+        unfolding rootIn rootBy recoveredRoot
         top-recovered = climb ∙ rw (own-leaf, placed, same-number, recovered-row shape number more below (firstDomain (v .seed)) (valuesIn (v .profile) signature) (leafIn signature))
 
         steps-full : steps ≡ stepsOf shape number

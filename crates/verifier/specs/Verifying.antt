@@ -11,10 +11,11 @@ use Rattle.profile.specs.Checks.{leafBeyond}
 use Rattle.profile.specs.declared.Profile.{Profile}
 use Rattle.counts.specs.Counts.{count}
 use Rattle.counts.specs.Table.{tableCauses, tableAfter}
+use Rattle.codewords.specs.Operations.{rowOf}
 use Rattle.tweak.specs.Tweak.{firstDomain}
-use Rattle.tweak.specs.declared.Domain.{Domain}
-use Rattle.one_time.specs.Operations.{recoveredBy, stepsOf}
-use Rattle.merkle.specs.Nodes.{climbed}
+use Rattle.chains.specs.Leaves.{chainsOf}
+use Rattle.one_time.specs.Operations.{stepsOf}
+use Rattle.tree.specs.Tree.{recoveredRoot}
 use Rattle.message.specs.Message.{messageNumber, countTooSmall, outsideText, signatureLength}
 use Rattle.window.specs.Window.{freshWindow, passed, taken as takenBy}
 use Rattle.verifier.specs.declared.Verifier.{Verifier}
@@ -46,15 +47,15 @@ unfoldable pub numberIn : Verifier → (message signature : List ℕ) → ℕ
 numberIn v message signature =
     messageNumber (v .profile) (leafIn signature) (randomIn signature) (v .seed) (v .root) message
 
--- "recovered root": the climb from the leaf key that Recover finds
-unfoldable pub recoveredRoot : Domain → Profile → (leaf n : ℕ) (values siblings : List ℕ) → List ℕ
-recoveredRoot d p leaf n values siblings = climbed d leaf (recoveredBy d p leaf n values) siblings (p .height)
+-- "recovered root": the root that a signature leads to under the cabinet's seed, by a number's codeword
+unfoldable pub rootBy : Verifier → (n : ℕ) (signature : List ℕ) → List ℕ
+rootBy v n signature =
+    recoveredRoot (firstDomain (v .seed)) (chainsOf (v .profile .shape)) (v .profile .height) (leafIn signature)
+    (rowOf (v .profile .shape) n) (valuesIn (v .profile) signature) (siblingsIn (v .profile) signature)
 
--- the root that a signature leads to under the cabinet's seed
+-- by the number of the message
 unfoldable pub rootIn : Verifier → (message signature : List ℕ) → List ℕ
-rootIn v message signature =
-    recoveredRoot (firstDomain (v .seed)) (v .profile) (leafIn signature) (numberIn v message signature) (valuesIn (v .profile) signature)
-    (siblingsIn (v .profile) signature)
+rootIn v message signature = rootBy v (numberIn v message signature) signature
 
 -- whether two byte strings are the same
 unfoldable pub same : List ℕ → List ℕ → Bool

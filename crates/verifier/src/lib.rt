@@ -2,22 +2,21 @@
 ghost use mathlib.Core.Path.{_≡_};
 ghost use mathlib.Core.Bool.{false};
 ghost use Prim.Native.Nat.{_≤_};
-ghost use lib.ListN.{length, take};
+ghost use lib.ListN.{length};
 ghost use Rattle.refusal.specs.Code.{outcomeCode, thenFirst};
 ghost use Rattle.numbers.specs.Number.{value};
 ghost use Rattle.profile.specs.Checks.{InLimits};
 ghost use Rattle.counts.specs.Counts as counts;
 ghost use Rattle.tweak.specs.Tweak.{firstDomain};
-ghost use Rattle.chains.specs.Leaves.{recovered, stepsLeft};
-ghost use Rattle.merkle.specs.Nodes.{climbed};
+ghost use Rattle.chains.specs.Leaves.{chainsOf, stepsLeft};
+ghost use Rattle.tree.specs.Tree.{recoveredRoot};
 ghost use Rattle.message.specs.Message.{signatureLength};
 ghost use Rattle.window.specs.Window as window;
 ghost use Rattle.verifier.specs.Verifying as spec;
-use chains::leaves::recover_key;
+use chains::chains_of;
 use codewords::unranking::write_codeword;
 use counts::table::fill_past;
 use counts::table::table_outcome;
-use merkle::climb_path;
 use message::count_too_small;
 use message::message_number;
 use message::outside_text;
@@ -26,7 +25,7 @@ use profile::Profile;
 use profile::leaf_beyond;
 use refusal::Outcome;
 use refusal::Refusal;
-use tweak::Leaf;
+use tree::RootFound;
 use tweak::first_hasher;
 use window::Window;
 use window::passed;
@@ -121,34 +120,27 @@ fn verify_outcome(checked: Outcome, v: Verifier, text: usize, signature: &[u8]) 
         .then(low, Refusal::LeafPassed)
 }
 
-// The root that a signature leads to, and the chain steps made on the way.
-struct Found {
-    root: [u8; 16],
-    steps: u32,
-}
-
-// The root above the leaf key that the codeword and the signature's values give, along the signature's siblings.
-fn recover_root(v: Verifier, leaf: u32, row: [u8; 40], signature: &[u8]) -> Found
-    requires { ⌜ InLimits (v .profile .shape) × (v .profile .height ≤ 10) × (length (now signature) ≡ signatureLength (v .profile)) ⌝ }
-    ensures root { λ r. ⌜ r .root ≡ climbed (firstDomain (v .seed)) leaf (recovered (firstDomain (v .seed)) (v .profile .shape .width) (v .profile .shape .chains) leaf row (spec.valuesIn (v .profile) (now (signature .entry)))) (spec.siblingsIn (v .profile) (now (signature .entry))) (v .profile .height) ⌝ }
-    ensures steps { λ r. ⌜ r .steps ≡ stepsLeft (v .profile .shape .width) (take (v .profile .shape .chains) row) ⌝ }
+// The root that a signature leads to under the cabinet's seed, with the codeword in a row, and the chain steps made.
+fn recover_root(v: Verifier, leaf: u32, row: [u8; 40], signature: &[u8]) -> RootFound
+    requires { ⌜
+        InLimits (v .profile .shape) × (v .profile .height ≤ 10) × (length (now signature) ≡ signatureLength (v .profile))
+    ⌝ }
+    ensures root { λ r. ⌜
+        r .root ≡ recoveredRoot (firstDomain (v .seed)) (chainsOf (v .profile .shape)) (v .profile .height) leaf row
+        (spec.valuesIn (v .profile) (now (signature .entry))) (spec.siblingsIn (v .profile) (now (signature .entry)))
+    ⌝ }
+    ensures steps { λ r. ⌜ r .steps ≡ stepsLeft (chainsOf (v .profile .shape)) row ⌝ }
 {
     let p = v.profile;
     let shape = p.shape;
-    let width = shape.width;
-    let chains = shape.chains;
+    let chains = chains_of(shape);
     let height = p.height;
     let seed = v.seed;
-    let h = first_hasher(seed);
-    let siblings = 20 + 16 * (chains as usize);
-    let found = recover_key(h, Leaf(leaf), row, width, chains, &signature[20..siblings]);
-    let key = found.key;
-    let steps = found.steps;
-    let root = climb_path(h, leaf, key, height, signature, siblings);
-    Found {
-        root: root,
-        steps: steps,
-    }
+    let hasher = first_hasher(seed);
+    let at = 20 + 16 * (shape.chains as usize);
+    let values = &signature[20..at];
+    let siblings = &signature[at..];
+    tree::recover_root(hasher, chains, height, leaf, row, values, siblings)
 }
 
 // Check: whether the signature of the message leads to the cabinet's root.
