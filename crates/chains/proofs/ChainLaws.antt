@@ -21,7 +21,8 @@ module _ (d : Domain) (leaf chain : ℕ) where
       q ∙ rw (one, here, p)
 
   -- a walk from a to b and then from b to c is the walk from a to c
-  walked-add : (low m n : ℕ) (value : List ℕ) → walked d leaf chain low (m + n) value ≡ walked d leaf chain (low + m) n (walked d leaf chain low m value)
+  walked-add : (low m n : ℕ) (value : List ℕ)
+      → walked d leaf chain low (m + n) value ≡ walked d leaf chain (low + m) n (walked d leaf chain low m value)
   unfolding walked
   walked-add low m zero value = rw add-zero
   walked-add low m (suc n) value = rw (add-suc m n, walked-add low m n value, ← add-assoc low m n)

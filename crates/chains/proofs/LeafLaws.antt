@@ -10,14 +10,21 @@ use Rattle.sha256.specs.Digest.{wordBytes}
 use Rattle.sha256.specs.Running.{addState, finished, hashed}
 use Rattle.sha256.specs.declared.running.Hash.{Hash}
 use Rattle.sha256.proofs.Joined.{more-taken}
+use Rattle.profile.specs.Checks.{InLimits}
+use Rattle.profile.specs.declared.Shape.{Shape}
 use Rattle.tweak.specs.Tweak.{leafKeyAddress, seedBlock}
 use Rattle.tweak.specs.declared.Domain.{Domain}
 use Rattle.tweak.proofs.TweakLaws.{length-address, length-seed-block, length-tweaked, tweak-ended}
-use Rattle.chains.specs.Leaves.{keyOfTops, leafKey}
+use Rattle.chains.specs.Leaves.{chainsOf, ChainsFit, keyOfTops, leafKey}
+use Rattle.chains.specs.declared.Chains.{Chains}
 
-pub length-leaf-key : (d : Domain) (secret : List ℕ) (w l leaf : ℕ) → length (leafKey d secret w l leaf) ≡ 16
+pub length-leaf-key : (d : Domain) (chains : Chains) (secret : List ℕ) (leaf : ℕ) → length (leafKey d chains secret leaf) ≡ 16
 unfolding leafKey keyOfTops
-length-leaf-key d secret w l leaf = length-tweaked d _ _
+length-leaf-key d chains secret leaf = length-tweaked d _ _
+
+-- a shape within its limits has chains that fit
+pub chains-fit : (shape : Shape) → InLimits shape → ChainsFit (chainsOf shape)
+chains-fit shape limits = record { few = limits .few-chains; some = omega (arith, limits .wide); narrow = limits .narrow }
 
 -- what the running hash has taken after c tops, f 0, f 1, ..
 abbrev pub taken : (d : Domain) (leaf : ℕ) → (ℕ → List ℕ) → ℕ → List ℕ
@@ -30,8 +37,8 @@ module _ (d : Domain) (leaf : ℕ) (f : ℕ → List ℕ) where
   no-top p e = e ∙ rw (p, append-nil)
 
   -- a top more
-  pub top-more : (c n : ℕ) {top : List ℕ} {h next : Hash} → length (d .seed) ≡ 16 → n ≤ 40 → c < n → ((i : ℕ) → i < n → length (f i) ≡ 16)
-      → h ≡ hashed (taken d leaf f c) → top ≡ f c → next ≡ addState h top → next ≡ hashed (taken d leaf f (c + 1))
+  pub top-more : (c n : ℕ) {top : List ℕ} {h next : Hash} → length (d .seed) ≡ 16 → n ≤ 40 → c < n
+      → ((i : ℕ) → i < n → length (f i) ≡ 16) → h ≡ hashed (taken d leaf f c) → top ≡ f c → next ≡ addState h top → next ≡ hashed (taken d leaf f (c + 1))
   top-more c n long most low each e s absorbed =
       let front = seedBlock (d .seed) ++ leafKeyAddress d leaf in
       let before : length front ≡ 86 =

@@ -1,10 +1,11 @@
 // The chains of one leaf: its key, the values that a signature shows, and the key from these.
 ghost use mathlib.Core.Path.{_≡_};
 ghost use mathlib.Core.List.{_++_};
-ghost use Prim.Native.Nat.{_+_, _-_, _*_, _≤_};
+ghost use Prim.Native.Nat.{_+_, _*_, _≤_};
 ghost use lib.ListN.{length, take, drop};
 ghost use Rattle.tweak.specs.Tweak.{Seeded};
-ghost use Rattle.chains.specs.Leaves.{revealed, leafKey, recovered, stepsLeft};
+ghost use Rattle.chains.specs.Leaves.{ChainsFit, revealed, leafKey, recovered, stepsLeft};
+use super::Chains;
 use super::steps::chain_value;
 use super::steps::walk;
 use octets::read_16;
@@ -18,17 +19,17 @@ use tweak::end;
 use tweak::leaf_key_address;
 
 // The leaf key. Each top goes into the hash as it is made.
-pub fn key_of_leaf(h: Hasher, leaf: Leaf, secret: &[u8; 16], width: u32, chains: u32) -> [u8; 16]
-    requires { ⌜ Seeded h ⌝ }
-    requires { ⌜ (1 ≤ width) × (chains ≤ 40) ⌝ }
-    ensures { λ r. ⌜ r ≡ leafKey (h .domain) (now (secret .entry)) width chains (leaf .0) ⌝ }
+pub fn key_of_leaf(hasher: Hasher, chains: Chains, secret: &[u8; 16], leaf: Leaf) -> [u8; 16]
+    requires { ⌜ Seeded hasher ⌝ }
+    requires { ⌜ ChainsFit chains ⌝ }
+    ensures { λ r. ⌜ r ≡ leafKey (hasher .domain) chains (now (secret .entry)) (leaf .0) ⌝ }
 {
-    let d = h.domain;
+    let d = hasher.domain;
     let address = leaf_key_address(d, leaf);
-    let mut hash = begin(h, address);
+    let mut hash = begin(hasher, address);
     let mut c = 0;
-    while c < chains {
-        let top = chain_value(h, leaf, Chain(c), secret, width - 1);
+    while c < chains.count {
+        let top = chain_value(hasher, leaf, Chain(c), secret, chains.width - 1);
         let next = absorb(hash, top);
         hash = next;
         c += 1;
@@ -36,24 +37,27 @@ pub fn key_of_leaf(h: Hasher, leaf: Leaf, secret: &[u8; 16], width: u32, chains:
     end(hash)
 }
 
-// Writes the values that a codeword shows, from index `at` on.
+// Writes the values that a row shows, from index `at` on.
 pub fn write_values(
-    h: Hasher,
-    leaf: Leaf,
+    hasher: Hasher,
+    chains: Chains,
     secret: &[u8; 16],
+    leaf: Leaf,
     row: [u8; 40],
-    chains: u32,
     out: &mut [u8],
     at: usize,
 )
-    requires { ⌜ Seeded h ⌝ }
-    requires { ⌜ (chains ≤ 40) × (at + 16 * chains ≤ length (now out)) ⌝ }
-    ensures { λ _. ⌜ now (out .exit) ≡ take at (now (out .entry)) ++ revealed (h .domain) (now (secret .entry)) (leaf .0) chains row ++ drop (at + 16 * chains) (now (out .entry)) ⌝ }
+    requires { ⌜ Seeded hasher ⌝ }
+    requires { ⌜ ChainsFit chains × (at + 16 * chains .count ≤ length (now out)) ⌝ }
+    ensures { λ _. ⌜
+        now (out .exit) ≡ take at (now (out .entry)) ++ revealed (hasher .domain) chains (now (secret .entry)) (leaf .0) row
+        ++ drop (at + 16 * chains .count) (now (out .entry))
+    ⌝ }
 {
     let mut c: u32 = 0;
-    while c < chains {
+    while c < chains.count {
         let height = row[c as usize] as u32;
-        let value = chain_value(h, leaf, Chain(c), secret, height);
+        let value = chain_value(hasher, leaf, Chain(c), secret, height);
         write_16(out, at + 16 * (c as usize), value);
         c += 1;
     }
@@ -66,28 +70,21 @@ pub struct Key {
 }
 
 // The leaf key from the values, and the steps made, those of each chain added up.
-pub fn recover_key(
-    h: Hasher,
-    leaf: Leaf,
-    row: [u8; 40],
-    width: u32,
-    chains: u32,
-    values: &[u8],
-) -> Key
-    requires { ⌜ Seeded h ⌝ }
-    requires { ⌜ (1 ≤ width) × (width ≤ 16) × (chains ≤ 40) × (16 * chains ≤ length (now values)) ⌝ }
-    ensures key { λ r. ⌜ r .key ≡ recovered (h .domain) width chains (leaf .0) row (now (values .entry)) ⌝ }
-    ensures steps { λ r. ⌜ r .steps ≡ stepsLeft width (take chains row) ⌝ }
+pub fn recover_key(hasher: Hasher, chains: Chains, leaf: Leaf, row: [u8; 40], values: &[u8]) -> Key
+    requires { ⌜ Seeded hasher ⌝ }
+    requires { ⌜ ChainsFit chains × (16 * chains .count ≤ length (now values)) ⌝ }
+    ensures key { λ r. ⌜ r .key ≡ recovered (hasher .domain) chains (leaf .0) row (now (values .entry)) ⌝ }
+    ensures steps { λ r. ⌜ r .steps ≡ stepsLeft chains row ⌝ }
 {
-    let d = h.domain;
+    let d = hasher.domain;
     let address = leaf_key_address(d, leaf);
-    let mut hash = begin(h, address);
+    let mut hash = begin(hasher, address);
     let mut steps = 0;
     let mut c: u32 = 0;
-    while c < chains {
+    while c < chains.count {
         let height = row[c as usize] as u32;
         let value = read_16(values, 16 * (c as usize));
-        let walked = walk(h, leaf, Chain(c), height, width - 1, value);
+        let walked = walk(hasher, leaf, Chain(c), height, chains.width - 1, value);
         let top = walked.value;
         let next = absorb(hash, top);
         hash = next;

@@ -12,23 +12,23 @@ use tweak::chain_step_address;
 use tweak::tweaked_hash;
 
 // The value at height 0, from the secret seed.
-fn chain_start(h: Hasher, leaf: Leaf, chain: Chain, secret: &[u8; 16]) -> [u8; 16]
-    requires { ⌜ Seeded h ⌝ }
-    ensures { λ r. ⌜ r ≡ chainHead (h .domain) (leaf .0) (chain .0) (now (secret .entry)) ⌝ }
+fn chain_start(hasher: Hasher, leaf: Leaf, chain: Chain, secret: &[u8; 16]) -> [u8; 16]
+    requires { ⌜ Seeded hasher ⌝ }
+    ensures { λ r. ⌜ r ≡ chainHead (hasher .domain) (leaf .0) (chain .0) (now (secret .entry)) ⌝ }
 {
-    let d = h.domain;
+    let d = hasher.domain;
     let address = chain_start_address(d, leaf, chain);
-    tweaked_hash(h, address, *secret)
+    tweaked_hash(hasher, address, *secret)
 }
 
 // One step, by the height before it.
-fn chain_step(h: Hasher, leaf: Leaf, chain: Chain, height: Height, value: [u8; 16]) -> [u8; 16]
-    requires { ⌜ Seeded h ⌝ }
-    ensures { λ r. ⌜ r ≡ tweakedHash (h .domain) (chainStepAddress (h .domain) (leaf .0) (chain .0) (height .0)) value ⌝ }
+fn chain_step(hasher: Hasher, leaf: Leaf, chain: Chain, height: Height, value: [u8; 16]) -> [u8; 16]
+    requires { ⌜ Seeded hasher ⌝ }
+    ensures { λ r. ⌜ r ≡ tweakedHash (hasher .domain) (chainStepAddress (hasher .domain) (leaf .0) (chain .0) (height .0)) value ⌝ }
 {
-    let d = h.domain;
+    let d = hasher.domain;
     let address = chain_step_address(d, leaf, chain, height);
-    tweaked_hash(h, address, value)
+    tweaked_hash(hasher, address, value)
 }
 
 // A value, and the steps that led to it.
@@ -38,9 +38,9 @@ pub struct Walked {
 }
 
 // The steps from one height up to another, counted one by one.
-pub fn walk(h: Hasher, leaf: Leaf, chain: Chain, low: u32, high: u32, value: [u8; 16]) -> Walked
-    requires { ⌜ Seeded h ⌝ }
-    ensures value { λ r. ⌜ r .value ≡ walked (h .domain) (leaf .0) (chain .0) low (high - low) value ⌝ }
+pub fn walk(hasher: Hasher, leaf: Leaf, chain: Chain, low: u32, high: u32, value: [u8; 16]) -> Walked
+    requires { ⌜ Seeded hasher ⌝ }
+    ensures value { λ r. ⌜ r .value ≡ walked (hasher .domain) (leaf .0) (chain .0) low (high - low) value ⌝ }
     ensures steps { λ r. ⌜ r .steps ≡ high - low ⌝ }
 {
     let mut v = value;
@@ -49,7 +49,7 @@ pub fn walk(h: Hasher, leaf: Leaf, chain: Chain, low: u32, high: u32, value: [u8
     while k < high {
         let before = k;
         k += 1;
-        let next = chain_step(h, leaf, chain, Height(before), v);
+        let next = chain_step(hasher, leaf, chain, Height(before), v);
         v = next;
         steps += 1;
     }
@@ -60,11 +60,11 @@ pub fn walk(h: Hasher, leaf: Leaf, chain: Chain, low: u32, high: u32, value: [u8
 }
 
 // The value of a chain at a height, from the secret seed.
-pub fn chain_value(h: Hasher, leaf: Leaf, chain: Chain, secret: &[u8; 16], height: u32) -> [u8; 16]
-    requires { ⌜ Seeded h ⌝ }
-    ensures { λ r. ⌜ r ≡ chainValue (h .domain) (now (secret .entry)) (leaf .0) (chain .0) height ⌝ }
+pub fn chain_value(hasher: Hasher, leaf: Leaf, chain: Chain, secret: &[u8; 16], height: u32) -> [u8; 16]
+    requires { ⌜ Seeded hasher ⌝ }
+    ensures { λ r. ⌜ r ≡ chainValue (hasher .domain) (now (secret .entry)) (leaf .0) (chain .0) height ⌝ }
 {
-    let start = chain_start(h, leaf, chain, secret);
-    let walked = walk(h, leaf, chain, 0, height, start);
+    let start = chain_start(hasher, leaf, chain, secret);
+    let walked = walk(hasher, leaf, chain, 0, height, start);
     walked.value
 }

@@ -14,20 +14,20 @@ use Rattle.counts.specs.Counts.{count}
 use Rattle.counts.specs.Table.{tableLength, tableCauses}
 use Rattle.counts.proofs.Room.{table-numbered}
 use Rattle.codewords.specs.Operations.{rowOf}
+use Rattle.codewords.proofs.RowLaws.{row-valid}
 use Rattle.tweak.specs.Tweak.{firstDomain}
 use Rattle.tweak.specs.declared.Domain.{Domain}
-use Rattle.chains.specs.Leaves.{leafKeyOf, revealed}
-use Rattle.one_time.specs.Operations.{revealedBy, recoveredBy, stepsOf}
-use Rattle.one_time.proofs.RecoverLaws.{steps-below, recovers-revealed}
-use Rattle.merkle.specs.Nodes.{path}
-use Rattle.tree.specs.Tree.{rootOf}
+use Rattle.chains.specs.Leaves.{chainsOf, revealed}
+use Rattle.one_time.specs.Operations.{stepsOf}
+use Rattle.one_time.proofs.RecoverLaws.{steps-below}
+use Rattle.tree.specs.Tree.{rootOf, siblingsOf}
+use Rattle.tree.proofs.WayLaws.{recovers-root}
 use Rattle.signature.specs.Signature.{signatureLength}
 use Rattle.signature.proofs.Parts.{Parts}
-use Rattle.verifier.specs.Verifying.{withAccepted, numberIn, recoveredRoot, rootAlong, rootIn}
+use Rattle.verifier.specs.Verifying.{withAccepted, numberIn, rootAlong, rootIn}
 use Rattle.verifier.specs.Operations.{causesBeforeRoot, verifyCode, verifierAfter, stepsMade}
 use Rattle.verifier.specs.declared.Verifier.{Verifier}
 use Rattle.claims.specs.Orders.{Issued, ownCheck}
-use Rattle.claims.proofs.Climb.{climbs}
 use Rattle.claims.proofs.Judged.{judged-by-root}
 use Rattle.claims.proofs.LeafLaws.{leaf-inside, Free, CabinetOf}
 use Rattle.claims.proofs.Made.{numberOf, Made, made-below, made-read}
@@ -47,7 +47,8 @@ module _ (p : Profile) (seed secret : List ℕ) (leaf : ℕ) (one : Issued) (mad
   abbrev n : ℕ
   n = numberOf p seed secret leaf (made .r) (one .message)
 
-  back : Parts p leaf (made .r) (revealed d secret leaf (p .shape .chains) (rowOf (p .shape) n)) (path d (leafKeyOf d p secret) (p .height) leaf) (one .signature)
+  back : Parts p leaf (made .r) (revealed d (chainsOf (p .shape)) secret leaf (rowOf (p .shape) n))
+      (siblingsOf d (chainsOf (p .shape)) secret (p .height) leaf) (one .signature)
   back = made-read p seed secret leaf one made
 
   below : n < count (p .shape)
@@ -58,11 +59,10 @@ module _ (p : Profile) (seed secret : List ℕ) (leaf : ℕ) (one : Issued) (mad
   made-number = rw (back .own-leaf, back .own-random, of .same-profile, of .same-seed, of .same-root)
 
   made-root : rootIn v (one .message) (one .signature) ≡ v .root
-  unfolding rootAlong recoveredRoot recoveredBy revealedBy
+  unfolding rootAlong
   made-root =
-      rw
-      (back .own-leaf, made-number, of .same-profile, of .same-seed, of .same-root, back .own-values, back .own-siblings, recovers-revealed d p secret leaf n below)
-      (climbs d p secret leaf (made .in-tree))
+      rw (back .own-leaf, made-number, of .same-profile, of .same-seed, of .same-root, back .own-values, back .own-siblings)
+      (recovers-root d (chainsOf (p .shape)) secret (p .height) leaf (rowOf (p .shape) n) (made .in-tree) (row-valid (p .shape) n below .lengths .digits))
 
   module _ (work : List ℕ) (free : Free v leaf) (long : tableLength (p .shape) ≤ length work) where
     before : firstCause (causesBeforeRoot v (ownCheck one work)) ≡ 0

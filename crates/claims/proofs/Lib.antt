@@ -2,7 +2,6 @@
 pub mod Accepted
 pub mod AcceptedOnce
 pub mod Bits
-pub mod Climb
 pub mod GateCount
 pub mod InOrder
 pub mod Judged

@@ -23,9 +23,8 @@ use Rattle.counts.proofs.Room.{table-numbered}
 use Rattle.codewords.specs.Operations.{rowOf}
 use Rattle.tweak.specs.Tweak.{firstDomain}
 use Rattle.tweak.specs.declared.Domain.{Domain}
-use Rattle.chains.specs.Leaves.{leafKeyOf, revealed}
-use Rattle.merkle.specs.Nodes.{path}
-use Rattle.tree.specs.Tree.{rootOf}
+use Rattle.chains.specs.Leaves.{chainsOf, revealed}
+use Rattle.tree.specs.Tree.{rootOf, siblingsOf}
 use Rattle.message.specs.Message.{messageNumber, countTooSmall}
 use Rattle.signature.specs.Signature.{outsideText, signatureLength}
 use Rattle.message.proofs.NumberLaws.{number-fits}
@@ -64,7 +63,8 @@ module _ (p : Profile) (seed secret : List ℕ) where
     -- its parts, read back from its bytes: a leaf below 2 ^ h has four bytes
     pub made-read :
         let row = rowOf (p .shape) (numberOf leaf (made .r) (one .message)) in
-        Parts p leaf (made .r) (revealed d secret leaf (p .shape .chains) row) (path d (leafKeyOf d p secret) (p .height) leaf) (one .signature)
+        Parts p leaf (made .r) (revealed d (chainsOf (p .shape)) secret leaf row)
+        (siblingsOf d (chainsOf (p .shape)) secret (p .height) leaf) (one .signature)
     made-read =
         let four : leaf < 2 ^ 32 = omega (arith, next-fits leaf (p .height) (profile-passed p (made .profile) .low) (made .in-tree)) in
         rw (made .bytes) (signature-parts d p secret leaf (made .r) (rowOf (p .shape) (numberOf leaf (made .r) (one .message))) (made .sixteen) four)

@@ -8,7 +8,7 @@ use Rattle.counts.specs.Counts.{count}
 use Rattle.counts.specs.Table.{countCode}
 use Rattle.codewords.specs.Codeword.{codeword, rank}
 use Rattle.codewords.specs.Operations.{unrankCode, rankCode}
-use Rattle.chains.specs.Leaves.{stepsLeft}
+use Rattle.chains.specs.Leaves.{chainsOf, stepsLeft}
 
 -- l chains of width w with sum s
 abbrev shape : (l w s : ℕ) → Shape
@@ -39,7 +39,7 @@ trials =
     -- l = 1, w = 16, s = 15: one row, no step
     ∷ record { given = count (shape 1 16 15) ∷ []; said = 1 ∷ [] }
     ∷ record { given = codeword 16 1 15 0; said = 15 ∷ [] }
-    ∷ record { given = stepsLeft 16 (codeword 16 1 15 0) ∷ []; said = 0 ∷ [] }
+    ∷ record { given = stepsLeft (chainsOf (shape 1 16 15)) (codeword 16 1 15 0) ∷ []; said = 0 ∷ [] }
     -- l = 4, w = 2, s = 2
     ∷ record { given = count (shape 4 2 2) ∷ []; said = 6 ∷ [] }
     ∷ record { given = codeword 2 4 2 2; said = 0 ∷ 1 ∷ 1 ∷ 0 ∷ [] }

@@ -3,8 +3,7 @@ use mathlib.Core.Path.{_≡_}
 use mathlib.Core.List.{List, _++_}
 use Prim.Native.Nat.{ℕ, _<_}
 use native.Mathlib.Omega.{arith}
-use lib.ListN.{getD, take, List·getD-append}
-use lib.Seq.{take-at}
+use lib.ListN.{getD, List·getD-append}
 use Rattle.profile.specs.declared.Shape.{Shape}
 use Rattle.counts.specs.Counts.{count}
 use Rattle.codewords.specs.Codeword.{IsCodeword}
@@ -19,6 +18,3 @@ module _ (p : Shape) (n : ℕ) (below : n < count p) where
   module _ (more : List ℕ) where
     pub row-at : (c : ℕ) → c < p .chains → getD (rowOf p n ++ more) c 0 ≡ getD (rowOf p n) c 0
     row-at c h = List·getD-append (rowOf p n) more 0 c (omega (arith, row-valid .lengths .chains))
-
-    pub row-front : take (p .chains) (rowOf p n ++ more) ≡ rowOf p n
-    row-front = take-at (rowOf p n) more (p .chains) (row-valid .lengths .chains)

@@ -1,8 +1,8 @@
--- The climb from a leaf key along the leaf's own siblings passes the nodes above the leaf and ends at the root.
+-- The climb from a leaf along the leaf's own siblings passes the nodes above the leaf and ends at the root.
 use mathlib.Core.Path.{_≡_, refl, sym, ap, _∙_}
 use mathlib.Core.Bool.{Bool, true, false, cond}
 use mathlib.Core.Logic.{_≢_}
-use mathlib.Core.List.{List, _++_}
+use mathlib.Core.List.{List, [], _++_, append-nil}
 use Prim.Native.Nat.{ℕ, zero, suc, _+_, _-_, _*_, _/_, _%_, _^_, _<_, _≤_}
 use native.Mathlib.Nat.{div-one, div-eq-of-lt}
 use native.Mathlib.Numerals.{add-one}
@@ -26,7 +26,8 @@ both-children d height f j = by (eqb (j % 2) 0) refl
     above = parentOf d height (j / 2)
 
     by : (left : Bool) → eqb (j % 2) 0 ≡ left
-        → cond left (above (f j) (f (cond left (j + 1) (j - 1)))) (above (f (cond left (j + 1) (j - 1))) (f j)) ≡ above (f (2 * (j / 2))) (f (2 * (j / 2) + 1))
+        → cond left (above (f j) (f (cond left (j + 1) (j - 1)))) (above (f (cond left (j + 1) (j - 1))) (f j))
+        ≡ above (f (2 * (j / 2))) (f (2 * (j / 2) + 1))
     by true e = let even : 2 * (j / 2) ≡ j = omega (arith, eqb-true (j % 2) 0 e) in rw even
     by false e =
         let odd : j % 2 ≢ 0 = eqb-false (j % 2) 0 e in
@@ -65,3 +66,7 @@ module _ (d : Domain) (leaves : ℕ → List ℕ) (each : (i : ℕ) → length (
 
     pub climbed-root : leaf < 2 ^ h → climbedTo h ≡ node d leaves h 0
     climbed-root low = climbed-node h (omega arith) ∙ ap (node d leaves h) (div-eq-of-lt low)
+
+  -- along the siblings with nothing behind them
+  pub climbed-path : (h leaf : ℕ) → leaf < 2 ^ h → climbed d leaf (leaves leaf) (path d leaves h leaf) h ≡ node d leaves h 0
+  climbed-path h leaf low = rw append-nil at (climbed-root h leaf [] low)

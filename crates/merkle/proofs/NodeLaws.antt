@@ -5,7 +5,6 @@ use Prim.Native.Nat.{ℕ, zero, suc, _+_, _-_, _*_, _/_, _%_, _^_, _≤_}
 use native.Mathlib.Numerals.{add-one}
 use native.Mathlib.Omega.{arith}
 use lib.ListN.{length, take, drop, length-append}
-use lib.Seq.{drop-drop}
 use Rattle.sha256.specs.Digest.{wordBytes}
 use Rattle.sha256.specs.Running.{addState, finished, hashed}
 use Rattle.sha256.specs.declared.running.Hash.{Hash}
@@ -58,9 +57,9 @@ module _ (d : Domain) (height index : ℕ) (own other : List ℕ) where
   unfolding climbedOnce
   right-climbed odd e = e ∙ rw (right-odd index odd)
 
--- one height further on the climb along the siblings that stand from index `at` on
-pub climbed-next : (d : Domain) (leaf : ℕ) (key all : List ℕ) (at k index : ℕ) {value other next : List ℕ} → index ≡ leaf / 2 ^ k
-    → value ≡ climbed d leaf key (drop at all) k → other ≡ take 16 (drop (at + 16 * k) all)
-    → next ≡ climbedOnce d (k + 1) index value other → next ≡ climbed d leaf key (drop at all) (k + 1)
+-- one height further on the climb
+pub climbed-next : (d : Domain) (leaf : ℕ) (key siblings : List ℕ) (k index : ℕ) {value other next : List ℕ} → index ≡ leaf / 2 ^ k
+    → value ≡ climbed d leaf key siblings k → other ≡ take 16 (drop (16 * k) siblings)
+    → next ≡ climbedOnce d (k + 1) index value other → next ≡ climbed d leaf key siblings (k + 1)
 unfolding climbed
-climbed-next d leaf key all at k index i p o q = q ∙ rw (i, p, o, add-one, drop-drop)
+climbed-next d leaf key siblings k index i p o q = q ∙ rw (i, p, o, add-one)

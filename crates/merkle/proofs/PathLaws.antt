@@ -25,5 +25,6 @@ module _ (d : Domain) (leaves : ℕ → List ℕ) (leaf : ℕ) (o : List ℕ) wh
   path-next each h k index {v = v} {out = out} {out′ = out′} fits low p q s e put =
       let f : ℕ → List ℕ = λ j. node d leaves j (sibling (leaf / 2 ^ j)) in
       let here : v ≡ f k = s ∙ rw (q, p) in
+      let long : (j : ℕ) → j < h → length (f j) ≡ 16 = λ j _. length-node d leaves each j (sibling (leaf / 2 ^ j)) in
       rw zero-add at
-      (write-next f 16 h (λ j below. length-node d leaves each j (sibling (leaf / 2 ^ j))) 0 o (omega arith) k {v = v} {out = out} {out′ = out′} low here (rw zero-add e) (rw zero-add put))
+      (write-next f 16 h long 0 o (omega arith) k {v = v} {out = out} {out′ = out′} low here (rw zero-add e) (rw zero-add put))

@@ -1,7 +1,7 @@
 // Hash trees over any leaves of 16 bytes: a node from its children, and the climb from a leaf along siblings.
 ghost use mathlib.Core.Path.{_≡_};
-ghost use Prim.Native.Nat.{_+_, _*_, _^_, _≤_, _<_};
-ghost use lib.ListN.{length, drop};
+ghost use Prim.Native.Nat.{_*_, _^_, _≤_, _<_};
+ghost use lib.ListN.{length};
 ghost use Rattle.tweak.specs.Tweak.{Seeded};
 ghost use Rattle.merkle.specs.Nodes.{parentOf, sibling as siblingOf, climbedOnce, climbed};
 use octets::read_16;
@@ -43,24 +43,17 @@ fn climb_once(hasher: Hasher, height: u32, index: u32, own: [u8; 16], other: [u8
     }
 }
 
-// The climb from a leaf's value along the siblings that stand from index `at` on.
-pub fn climb_path(
-    hasher: Hasher,
-    leaf: u32,
-    key: [u8; 16],
-    height: u32,
-    siblings: &[u8],
-    at: usize,
-) -> [u8; 16]
+// The climb from a leaf's value along siblings, from the bottom.
+pub fn climb_path(hasher: Hasher, leaf: u32, key: [u8; 16], height: u32, siblings: &[u8]) -> [u8; 16]
     requires { ⌜ Seeded hasher ⌝ }
-    requires { ⌜ at + 16 * height ≤ length (now siblings) ⌝ }
-    ensures { λ r. ⌜ r ≡ climbed (hasher .domain) leaf key (drop at (now (siblings .entry))) height ⌝ }
+    requires { ⌜ 16 * height ≤ length (now siblings) ⌝ }
+    ensures { λ r. ⌜ r ≡ climbed (hasher .domain) leaf key (now (siblings .entry)) height ⌝ }
 {
     let mut value = key;
     let mut index = leaf;
     let mut k: u32 = 0;
     while k < height {
-        let other = read_16(siblings, at + 16 * (k as usize));
+        let other = read_16(siblings, 16 * (k as usize));
         let next = climb_once(hasher, k + 1, index, value, other);
         value = next;
         index /= 2;

@@ -17,7 +17,8 @@ use Rattle.profile.specs.Checks.{InLimits, profileCauses, leafBeyond}
 use Rattle.profile.specs.declared.Profile.{Profile}
 use Rattle.profile.proofs.Limits.{profile-numbered, profile-limits}
 use Rattle.tweak.specs.Tweak.{firstDomain}
-use Rattle.chains.specs.Leaves.{revealed, leafKeyOf, recovered, stepsLeft}
+use Rattle.chains.specs.Leaves.{chainsOf, ChainsFit, revealed, leafKeyOf, recovered, stepsLeft}
+use Rattle.chains.proofs.LeafLaws.{chains-fit}
 use Rattle.one_time.specs.Operations.{leafKeyCode, LeafKeys, revealedBy, Reveals, recoveredBy, stepsOf, Recovers}
 use Rattle.one_time.specs.Placing.{Places}
 use Rattle.one_time.proofs.PlaceAnswer.{place-some, place-grants}
@@ -39,40 +40,47 @@ module _ (p : Profile) (leaf : ℕ) (o : Outcome) (e : outcomeCode o ≡ leafKey
     leaf-key-granted q key k = let zero : leafKeyCode p leaf ≡ 0 = sym e ∙ ap outcomeCode q in record { code = e; key = rw zero k }
 
 -- Reveal, once the codeword is placed or refused
-module _ {p : Profile} {leaf n : ℕ} {work row work′ row′ : List ℕ} {r : Outcome} (values : List ℕ) (places : Places p leaf n (ltb (length values) (16 * p .shape .chains)) 6 work row work′ row′ r) where
-  pub reveal-room : r ≡ Granted → (p .shape .chains ≤ 40) × (0 + 16 * p .shape .chains ≤ length values)
+module _ {p : Profile} {leaf n : ℕ} {work row work′ row′ : List ℕ} {r : Outcome} (values : List ℕ)
+    (places : Places p leaf n (ltb (length values) (16 * p .shape .chains)) 6 work row work′ row′ r) where
+  pub reveal-room : r ≡ Granted → ChainsFit (chainsOf (p .shape)) × (0 + 16 * p .shape .chains ≤ length values)
   reveal-room q =
       let grants = place-grants places refl q in
-      (grants .limits .few-chains, omega (arith, ltb-false (length values) (16 * p .shape .chains) (grants .sized)))
+      (chains-fit (p .shape) (grants .limits), omega (arith, ltb-false (length values) (16 * p .shape .chains) (grants .sized)))
 
   pub reveal-refused : (seed secret : List ℕ) {x : Refusal} → r ≡ Refused x → Reveals p seed secret leaf n work values work′ values r
   reveal-refused seed secret q = record { code = places .code; table = places .table; written = rw (place-some places q) }
 
-  pub reveal-granted : (seed secret : List ℕ) {values′ : List ℕ} → r ≡ Granted → values′ ≡ take 0 values ++ revealed (firstDomain seed) secret leaf (p .shape .chains) row′ ++ drop (0 + 16 * p .shape .chains) values
+  pub reveal-granted : (seed secret : List ℕ) {values′ : List ℕ} → r ≡ Granted
+      → values′
+      ≡ take 0 values ++ revealed (firstDomain seed) (chainsOf (p .shape)) secret leaf row′ ++ drop (0 + 16 * p .shape .chains) values
       → Reveals p seed secret leaf n work values work′ values′ r
   unfolding revealedBy
   reveal-granted seed secret q w =
       let grants = place-grants places refl q in
+      let shown = revealed-row (p .shape) n (drop (p .shape .chains) row) (grants .below) (firstDomain seed) secret leaf in
       record {
         code = places .code;
         table = places .table;
-        written = rw (grants .none) (w ∙ rw (zero-add, grants .placed, revealed-row (p .shape) n (drop (p .shape .chains) row) (grants .below) (firstDomain seed) secret leaf));
+        written = rw (grants .none) (w ∙ rw (zero-add, grants .placed, shown));
       }
 
 -- Recover, once the codeword is placed or refused
-module _ {p : Profile} {leaf n : ℕ} {work row work′ row′ : List ℕ} {r : Outcome} (values : List ℕ) (places : Places p leaf n (not (eqb (length values) (16 * p .shape .chains))) 13 work row work′ row′ r) where
-  pub recover-room : r ≡ Granted → (1 ≤ p .shape .width) × (p .shape .width ≤ 16) × (p .shape .chains ≤ 40) × (16 * p .shape .chains ≤ length values)
+module _ {p : Profile} {leaf n : ℕ} {work row work′ row′ : List ℕ} {r : Outcome} (values : List ℕ)
+    (places : Places p leaf n (not (eqb (length values) (16 * p .shape .chains))) 13 work row work′ row′ r) where
+  pub recover-room : r ≡ Granted → ChainsFit (chainsOf (p .shape)) × (16 * p .shape .chains ≤ length values)
   recover-room q =
       let grants = place-grants places refl q in
-      omega (arith, grants .limits, eqb-true (length values) (16 * p .shape .chains) (not-false _ (grants .sized)))
+      (chains-fit (p .shape) (grants .limits), omega (arith, eqb-true (length values) (16 * p .shape .chains) (not-false _ (grants .sized))))
 
-  pub recover-refused : (seed : List ℕ) {x : Refusal} → r ≡ Refused x → Recovers p seed leaf n values work work′ (record { outcome = r; key = replicate 16 0; steps = 0 })
+  pub recover-refused : (seed : List ℕ) {x : Refusal} → r ≡ Refused x
+      → Recovers p seed leaf n values work work′ (record { outcome = r; key = replicate 16 0; steps = 0 })
   recover-refused seed q =
       let some = place-some places q in
       record { code = places .code; key = rw some; steps = rw some; table = places .table }
 
-  pub recover-granted : (seed : List ℕ) {key : List ℕ} {steps : ℕ} → r ≡ Granted → key ≡ recovered (firstDomain seed) (p .shape .width) (p .shape .chains) leaf row′ values
-      → steps ≡ stepsLeft (p .shape .width) (take (p .shape .chains) row′) → Recovers p seed leaf n values work work′ (record { outcome = r; key = key; steps = steps })
+  pub recover-granted : (seed : List ℕ) {key : List ℕ} {steps : ℕ} → r ≡ Granted
+      → key ≡ recovered (firstDomain seed) (chainsOf (p .shape)) leaf row′ values → steps ≡ stepsLeft (chainsOf (p .shape)) row′
+      → Recovers p seed leaf n values work work′ (record { outcome = r; key = key; steps = steps })
   unfolding recoveredBy stepsOf
   recover-granted seed q k made =
       let grants = place-grants places refl q in

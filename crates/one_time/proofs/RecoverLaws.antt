@@ -11,21 +11,21 @@ use Rattle.codewords.specs.Operations.{rowOf}
 use Rattle.codewords.proofs.RowLaws.{row-valid}
 use Rattle.one_time.proofs.StepLaws.{steps-codeword}
 use Rattle.tweak.specs.declared.Domain.{Domain}
-use Rattle.chains.specs.Leaves.{leafKeyOf}
+use Rattle.chains.specs.Leaves.{chainsOf, leafKeyOf}
 use Rattle.chains.proofs.LeafRecover.{length-revealed, recovered-revealed}
 use Rattle.one_time.specs.Operations.{revealedBy, recoveredBy, stepsOf}
 
-pub steps-below : (p : Shape) (n : ℕ) → n < count p → stepsOf p n ≡ p .chains * (p .width - 1) - p .sum
+pub steps-below : (shape : Shape) (n : ℕ) → n < count shape → stepsOf shape n ≡ shape .chains * (shape .width - 1) - shape .sum
 unfolding stepsOf
-steps-below p n below = steps-codeword (p .width) (p .chains) (p .sum) (rowOf p n) (row-valid p n below)
+steps-below shape n below = steps-codeword (shape .width) (shape .chains) (shape .sum) (rowOf shape n) (row-valid shape n below)
 
 module _ (d : Domain) (p : Profile) (secret : List ℕ) (leaf n : ℕ) where
   pub length-revealedBy : length (revealedBy d p secret leaf n) ≡ 16 * p .shape .chains
   unfolding revealedBy
-  length-revealedBy = length-revealed d secret leaf (p .shape .chains) (rowOf (p .shape) n)
+  length-revealedBy = length-revealed d (chainsOf (p .shape)) secret leaf (rowOf (p .shape) n)
 
   pub recovers-revealed : n < count (p .shape) → recoveredBy d p leaf n (revealedBy d p secret leaf n) ≡ leafKeyOf d p secret leaf
   unfolding recoveredBy revealedBy
   recovers-revealed below =
-      recovered-revealed d secret leaf (p .shape .width) (p .shape .chains) (rowOf (p .shape) n)
+      recovered-revealed d (chainsOf (p .shape)) secret leaf (rowOf (p .shape) n)
       (λ c h. omega (arith, row-valid (p .shape) n below .lengths .digits c h))

@@ -15,7 +15,7 @@ use Rattle.counts.specs.Table.{tableCauses, tableAfter}
 use Rattle.codewords.specs.Operations.{rowOf}
 use Rattle.tweak.specs.Tweak.{firstDomain}
 use Rattle.tweak.specs.declared.Domain.{Domain}
-use Rattle.chains.specs.Leaves.{revealed, leafKeyOf, recovered, stepsLeft}
+use Rattle.chains.specs.Leaves.{chainsOf, revealed, leafKeyOf, recovered, stepsLeft}
 use Rattle.one_time.specs.declared.LeafKey.{LeafKey}
 use Rattle.one_time.specs.declared.Recovered.{Recovered}
 
@@ -43,13 +43,14 @@ revealCode p leaf n work values = placeCode p leaf n (ltb (length values) (16 * 
 
 -- the values that Reveal shows
 unfoldable pub revealedBy : Domain → Profile → (secret : List ℕ) (leaf n : ℕ) → List ℕ
-revealedBy d p secret leaf n = revealed d secret leaf (p .shape .chains) (rowOf (p .shape) n)
+revealedBy d p secret leaf n = revealed d (chainsOf (p .shape)) secret leaf (rowOf (p .shape) n)
 
 -- what Reveal answers and leaves
 pub record Reveals (p : Profile) (seed secret : List ℕ) (leaf n : ℕ) (work values work′ values′ : List ℕ) (r : Outcome) : Type 0 where
   pub code : outcomeCode r ≡ revealCode p leaf n work values
   pub table : work′ ≡ tableAfter (revealCode p leaf n work values) (p .shape) work
-  pub written : values′ ≡ cond (eqb (revealCode p leaf n work values) 0) (revealedBy (firstDomain seed) p secret leaf n ++ drop (16 * p .shape .chains) values) values
+  pub written : values′
+      ≡ cond (eqb (revealCode p leaf n work values) 0) (revealedBy (firstDomain seed) p secret leaf n ++ drop (16 * p .shape .chains) values) values
 
 -- "Recover …: profile checks, 5; 13 values not 16 × l bytes; 11, 7"
 abbrev pub recoverCode : Profile → (leaf n : ℕ) (values work : List ℕ) → ℕ
@@ -57,11 +58,11 @@ recoverCode p leaf n values work = placeCode p leaf n (not (eqb (length values) 
 
 -- the leaf key that Recover finds
 unfoldable pub recoveredBy : Domain → Profile → (leaf n : ℕ) (values : List ℕ) → List ℕ
-recoveredBy d p leaf n values = recovered d (p .shape .width) (p .shape .chains) leaf (rowOf (p .shape) n) values
+recoveredBy d p leaf n values = recovered d (chainsOf (p .shape)) leaf (rowOf (p .shape) n) values
 
 -- "A chain step is one type 0 hash; the steps reported are those made": the sum over the chains
 unfoldable pub stepsOf : Shape → (n : ℕ) → ℕ
-stepsOf p n = stepsLeft (p .width) (rowOf p n)
+stepsOf shape n = stepsLeft (chainsOf shape) (rowOf shape n)
 
 -- what Recover answers and leaves; refused, the key is zero, and "Steps are 0 when refused"
 pub record Recovers (p : Profile) (seed : List ℕ) (leaf n : ℕ) (values work work′ : List ℕ) (r : Recovered) : Type 0 where

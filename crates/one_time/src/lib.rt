@@ -7,6 +7,7 @@ ghost use Rattle.numbers.specs.Number.{value};
 ghost use Rattle.counts.specs.Table.{leavesTable};
 ghost use Rattle.one_time.specs.Operations.{leafKeyCode, LeafKeys, ownCauses, Reveals, Recovers};
 ghost use Rattle.one_time.specs.Placing.{Places};
+use chains::chains_of;
 use chains::leaves::key_of_leaf;
 use chains::leaves::recover_key;
 use chains::leaves::write_values;
@@ -65,7 +66,10 @@ fn place_row(
     row: &mut [u8],
 ) -> Outcome
     requires { ⌜ (leavesTable (code refusal) ≡ false) × (length (now row) ≡ 40) ⌝ }
-    ensures { λ r. ⌜ Places p leaf (value number) wrong (code refusal) (now (table .entry)) (now (row .entry)) (now (table .exit)) (now (row .exit)) r ⌝ }
+    ensures { λ r. ⌜
+        Places p leaf (value number) wrong (code refusal)
+        (now (table .entry)) (now (row .entry)) (now (table .exit)) (now (row .exit)) r
+    ⌝ }
 {
     let shape = p.shape;
     let height = p.height;
@@ -87,10 +91,11 @@ pub fn leaf_key(p: Profile, seed: [u8; 16], secret: &[u8; 16], leaf: u32) -> Lea
         },
         Outcome::Granted => {
             let shape = p.shape;
-            let h = first_hasher(seed);
+            let chains = chains_of(shape);
+            let hasher = first_hasher(seed);
             LeafKey {
                 outcome: outcome,
-                key: key_of_leaf(h, Leaf(leaf), secret, shape.width, shape.chains),
+                key: key_of_leaf(hasher, chains, secret, Leaf(leaf)),
             }
         }
     }
@@ -106,19 +111,23 @@ pub fn one_time_sign(
     table: &mut [u32],
     values: &mut [u8],
 ) -> Outcome
-    ensures { λ r. ⌜ Reveals p seed (now (secret .entry)) leaf (value number) (now (table .entry)) (now (values .entry)) (now (table .exit)) (now (values .exit)) r ⌝ }
+    ensures { λ r. ⌜
+        Reveals p seed (now (secret .entry)) leaf (value number)
+        (now (table .entry)) (now (values .entry)) (now (table .exit)) (now (values .exit)) r
+    ⌝ }
 {
     let shape = p.shape;
-    let chains = shape.chains as usize;
-    let short = values.len() < 16 * chains;
+    let count = shape.chains as usize;
+    let short = values.len() < 16 * count;
     let cause = Refusal::OutputTooShort;
     let mut row = [0u8; 40];
     let outcome = place_row(p, leaf, number, short, cause, table, &mut row);
     match outcome {
         Outcome::Refused(_) => outcome,
         Outcome::Granted => {
-            let h = first_hasher(seed);
-            write_values(h, Leaf(leaf), secret, row, shape.chains, values, 0);
+            let chains = chains_of(shape);
+            let hasher = first_hasher(seed);
+            write_values(hasher, chains, secret, Leaf(leaf), row, values, 0);
             outcome
         }
     }
@@ -133,11 +142,13 @@ pub fn one_time_recover(
     values: &[u8],
     table: &mut [u32],
 ) -> Recovered
-    ensures { λ r. ⌜ Recovers p seed leaf (value number) (now (values .entry)) (now (table .entry)) (now (table .exit)) r ⌝ }
+    ensures { λ r. ⌜
+        Recovers p seed leaf (value number) (now (values .entry)) (now (table .entry)) (now (table .exit)) r
+    ⌝ }
 {
     let shape = p.shape;
-    let chains = shape.chains as usize;
-    let other = values.len() != 16 * chains;
+    let count = shape.chains as usize;
+    let other = values.len() != 16 * count;
     let cause = Refusal::SignatureLength;
     let mut row = [0u8; 40];
     let outcome = place_row(p, leaf, number, other, cause, table, &mut row);
@@ -148,8 +159,9 @@ pub fn one_time_recover(
             steps: 0,
         },
         Outcome::Granted => {
-            let h = first_hasher(seed);
-            let found = recover_key(h, Leaf(leaf), row, shape.width, shape.chains, values);
+            let chains = chains_of(shape);
+            let hasher = first_hasher(seed);
+            let found = recover_key(hasher, chains, Leaf(leaf), row, values);
             let key = found.key;
             let steps = found.steps;
             Recovered {

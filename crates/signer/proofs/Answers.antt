@@ -30,10 +30,9 @@ use Rattle.codewords.proofs.RowLaws.{row-front}
 use Rattle.codewords.proofs.TableOperation.{early-code, none-before, answer-after, table-after, granted-before}
 use Rattle.tweak.specs.Tweak.{firstDomain}
 use Rattle.tweak.specs.declared.Domain.{Domain}
-use Rattle.chains.specs.Leaves.{leafKeyOf, revealed}
+use Rattle.chains.specs.Leaves.{chainsOf, revealed}
 use Rattle.chains.proofs.RowFront.{revealed-front}
-use Rattle.merkle.specs.Nodes.{path}
-use Rattle.tree.specs.Tree.{rootOf}
+use Rattle.tree.specs.Tree.{rootOf, siblingsOf}
 use Rattle.message.specs.Message.{messageNumber, countTooSmall}
 use Rattle.message.proofs.NumberLaws.{number-fits}
 use Rattle.signer.specs.Signing.{leafToSign, keyNumber, signatureOf, keySignature}
@@ -67,14 +66,14 @@ module _ (key : SigningKey) (r message : List ℕ) (large : countTooSmall (count
   p = key .profile .shape
 
   pub signature-is : {d : Domain} {row siblings : List ℕ} {k : ℕ} → d ≡ firstDomain (key .seed) → k ≡ keyNumber key r message → row ≡ rowOf p k ++ more
-      → siblings ≡ path d (leafKeyOf d (key .profile) (key .secret)) (key .profile .height) (leafToSign key)
-      → take (signatureLength (key .profile)) made ≡ joinedParts (leafToSign key) r (revealed d (key .secret) (leafToSign key) (p .chains) row) siblings
+      → siblings ≡ siblingsOf d (chainsOf p) (key .secret) (key .profile .height) (leafToSign key)
+      → take (signatureLength (key .profile)) made ≡ joinedParts (leafToSign key) r (revealed d (chainsOf p) (key .secret) (leafToSign key) row) siblings
       → take (signatureLength (key .profile)) made ≡ keySignature key r message
   unfolding keySignature signatureOf
   signature-is {d} {row} domain number placed way parts =
       let n = keyNumber key r message in
       let front : take (p .chains) row ≡ rowOf p n = rw (placed, number) (row-front p n (key-number-fits key r message large) more) in
-      parts ∙ rw (revealed-front d (leafToSign key) (p .chains) row front (key .secret), way, domain)
+      parts ∙ rw (revealed-front (chainsOf p) row front d (key .secret) (leafToSign key), way, domain)
 
 -- the causes before 19: those of the table, then those of the order
 module _ (key : SigningKey) (call : SigningCall) {n m : ℕ} (checked : n ≡ firstCause (tableCauses (key .profile) (length (call .work))))

@@ -1,4 +1,3 @@
 -- The laws that belong to no one function.
 pub mod Answers
 pub mod SignatureLaws
-pub mod WayLaws

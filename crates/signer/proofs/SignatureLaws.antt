@@ -7,25 +7,28 @@ use Rattle.profile.specs.declared.Profile.{Profile}
 use Rattle.signature.specs.Signature.{signatureLength}
 use Rattle.signature.proofs.Parts.{Parts, length-joined, joined-parts}
 use Rattle.tweak.specs.declared.Domain.{Domain}
-use Rattle.chains.specs.Leaves.{leafKeyOf, revealed}
-use Rattle.chains.proofs.LeafLaws.{length-leaf-key}
+use Rattle.chains.specs.Leaves.{chainsOf, revealed}
+use Rattle.chains.specs.declared.Chains.{Chains}
 use Rattle.chains.proofs.LeafRecover.{length-revealed}
-use Rattle.merkle.specs.Nodes.{path}
-use Rattle.merkle.proofs.ClimbLaws.{length-path}
+use Rattle.tree.specs.Tree.{siblingsOf}
+use Rattle.tree.proofs.WayLaws.{length-siblings}
 use Rattle.signer.specs.Signing.{signatureOf}
 
 module _ (d : Domain) (p : Profile) (secret : List ℕ) (leaf : ℕ) (r row : List ℕ) (sixteen : length r ≡ 16) where
+  abbrev chains : Chains
+  chains = chainsOf (p .shape)
+
   abbrev values : List ℕ
-  values = revealed d secret leaf (p .shape .chains) row
+  values = revealed d chains secret leaf row
 
   abbrev siblings : List ℕ
-  siblings = path d (leafKeyOf d p secret) (p .height) leaf
+  siblings = siblingsOf d chains secret (p .height) leaf
 
   all-values : length values ≡ 16 * p .shape .chains
-  all-values = length-revealed d secret leaf (p .shape .chains) row
+  all-values = length-revealed d chains secret leaf row
 
   all-siblings : length siblings ≡ 16 * p .height
-  all-siblings = length-path d (leafKeyOf d p secret) (length-leaf-key d secret (p .shape .width) (p .shape .chains)) (p .height) leaf
+  all-siblings = length-siblings d chains secret (p .height) leaf
 
   pub length-signature : length (signatureOf d p secret leaf r row) ≡ signatureLength p
   unfolding signatureOf

@@ -8,9 +8,8 @@ use Rattle.signing_key.specs.declared.SigningKey.{SigningKey}
 use Rattle.codewords.specs.Operations.{rowOf}
 use Rattle.tweak.specs.Tweak.{firstDomain}
 use Rattle.tweak.specs.declared.Domain.{Domain}
-use Rattle.chains.specs.Leaves.{leafKeyOf, revealed}
-use Rattle.merkle.specs.Nodes.{path}
-use Rattle.tree.specs.Tree.{rootOf}
+use Rattle.chains.specs.Leaves.{chainsOf, revealed}
+use Rattle.tree.specs.Tree.{rootOf, siblingsOf}
 use Rattle.message.specs.Message.{messageNumber}
 
 -- "sign uses the marked leaf"
@@ -25,7 +24,7 @@ keyNumber key r message =
 -- "l values, h siblings from the bottom", behind the leaf and R: the values that a row shows of a leaf's chains, and the path up from the leaf
 unfoldable pub signatureOf : Domain → Profile → (secret : List ℕ) (leaf : ℕ) (r row : List ℕ) → List ℕ
 signatureOf d p secret leaf r row =
-    joinedParts leaf r (revealed d secret leaf (p .shape .chains) row) (path d (leafKeyOf d p secret) (p .height) leaf)
+    joinedParts leaf r (revealed d (chainsOf (p .shape)) secret leaf row) (siblingsOf d (chainsOf (p .shape)) secret (p .height) leaf)
 
 -- the signature that a key makes of a message: with its marked leaf and the row of the message's number, in layer 0 and tree 0
 unfoldable pub keySignature : SigningKey → (r message : List ℕ) → List ℕ

@@ -7,17 +7,15 @@ ghost use Rattle.refusal.specs.Code.{outcomeCode, thenFirst};
 ghost use Rattle.octets.specs.Bytes.{toBytes};
 ghost use Rattle.profile.specs.Checks.{InLimits};
 ghost use Rattle.tweak.specs.Tweak.{Seeded};
-ghost use Rattle.chains.specs.Leaves.{leafKeyOf, revealed};
-ghost use Rattle.merkle.specs.Nodes.{path};
-ghost use Rattle.tree.specs.Tree.{rootOf};
+ghost use Rattle.chains.specs.Leaves.{chainsOf, revealed};
+ghost use Rattle.tree.specs.Tree.{rootOf, siblingsOf};
 ghost use Rattle.signature.specs.Signature.{joinedParts, signatureLength};
 ghost use Rattle.signer.specs.Operations.{SigningCall, signCauses, Signs};
-use chains::leaves::key_of_leaf;
+use chains::chains_of;
 use chains::leaves::write_values;
 use codewords::unranking::write_codeword;
 use counts::table::fill_past;
 use counts::table::table_outcome;
-use merkle::climb_path;
 use message::count_too_small;
 use message::message_number;
 use octets::copy;
@@ -32,7 +30,7 @@ use signing_key::SigningKey;
 use signing_key::clear;
 use signing_key::mark_stands;
 use signing_key::with_counter;
-use tree::write_path;
+use tree::Way;
 use tweak::Hasher;
 use tweak::Leaf;
 use tweak::first_hasher;
@@ -64,31 +62,19 @@ fn write_leaf(out: &mut [u8], leaf: u32)
     out[3] = bytes[3];
 }
 
-// The siblings on the way up from a leaf, from the bottom, and the root above them.
-struct Way {
-    siblings: [u8; 160],
-    root: [u8; 16],
-}
-
-// The way up from a leaf. Each leaf is hashed once: the siblings cover all other leaves, and the root is climbed from them.
-fn way_up(h: Hasher, p: Profile, secret: &[u8; 16], leaf: u32) -> Way
-    requires { ⌜ Seeded h ⌝ }
+// The way up from a leaf of the tree of a profile.
+fn way_up(hasher: Hasher, p: Profile, secret: &[u8; 16], leaf: u32) -> Way
+    requires { ⌜ Seeded hasher ⌝ }
     requires { ⌜ InLimits (p .shape) × (p .height ≤ 10) × (leaf < 2 ^ p .height) ⌝ }
-    ensures siblings { λ r. ⌜ take (16 * p .height) (r .siblings) ≡ path (h .domain) (leafKeyOf (h .domain) p (now (secret .entry))) (p .height) leaf ⌝ }
-    ensures root { λ r. ⌜ r .root ≡ rootOf (h .domain) p (now (secret .entry)) ⌝ }
+    ensures siblings { λ r. ⌜
+        take (16 * p .height) (r .siblings) ≡ siblingsOf (hasher .domain) (chainsOf (p .shape)) (now (secret .entry)) (p .height) leaf
+    ⌝ }
+    ensures root { λ r. ⌜ r .root ≡ rootOf (hasher .domain) p (now (secret .entry)) ⌝ }
 {
     let shape = p.shape;
-    let width = shape.width;
-    let chains = shape.chains;
+    let chains = chains_of(shape);
     let height = p.height;
-    let mut siblings = [0u8; 160];
-    write_path(h, secret, width, chains, height, leaf, &mut siblings);
-    let own = key_of_leaf(h, Leaf(leaf), secret, width, chains);
-    let root = climb_path(h, leaf, own, height, &siblings, 0);
-    Way {
-        siblings: siblings,
-        root: root,
-    }
+    tree::way_up(hasher, chains, secret, height, leaf)
 }
 
 // Makes a signature: the leaf, R, the values that the codeword shows, and the siblings. The longest has 820 bytes.
@@ -102,21 +88,25 @@ fn make_signature(
     siblings: [u8; 160],
 ) -> [u8; 820]
     requires { ⌜ Seeded hasher ⌝ }
-    requires { ⌜ (p .shape .chains ≤ 40) × (p .height ≤ 10) ⌝ }
-    ensures { λ made. ⌜ take (signatureLength p) made ≡ joinedParts leaf r (revealed (hasher .domain) (now (secret .entry)) leaf (p .shape .chains) row) (take (16 * p .height) siblings) ⌝ }
+    requires { ⌜ InLimits (p .shape) × (p .height ≤ 10) ⌝ }
+    ensures { λ made. ⌜
+        take (signatureLength p) made
+        ≡ joinedParts leaf r (revealed (hasher .domain) (chainsOf (p .shape)) (now (secret .entry)) leaf row) (take (16 * p .height) siblings)
+    ⌝ }
 {
     let shape = p.shape;
-    let chains = shape.chains;
+    let chains = chains_of(shape);
+    let count = shape.chains;
     let height = p.height;
     let mut made = [0u8; 820];
     write_leaf(&mut made, leaf);
     write_16(&mut made, 4, r);
-    write_values(hasher, Leaf(leaf), secret, row, chains, &mut made, 20);
+    write_values(hasher, chains, secret, Leaf(leaf), row, &mut made, 20);
     copy(
         &siblings,
         16 * (height as usize),
         &mut made,
-        20 + 16 * (chains as usize),
+        20 + 16 * (count as usize),
     );
     made
 }

@@ -21,16 +21,17 @@ use Rattle.counts.specs.Table.{tableLength, tableCauses, leavesTable}
 use Rattle.counts.specs.Filling.{FillsPast}
 use Rattle.counts.proofs.Answer.{count-value, table-held}
 use Rattle.counts.proofs.Room.{table-early, table-passed}
-use Rattle.chains.specs.Leaves.{stepsLeft}
 use Rattle.codewords.specs.Operations.{rowOf}
 use Rattle.codewords.proofs.RowLaws.{row-front}
 use Rattle.codewords.proofs.TableOperation.{early-code, none-before, answer-after, table-after, refused-before, granted-before}
 use Rattle.tweak.specs.Tweak.{firstDomain}
-use Rattle.chains.proofs.RowFront.{recovered-front}
+use Rattle.chains.specs.Leaves.{chainsOf, stepsLeft}
+use Rattle.chains.proofs.RowFront.{recovered-front, steps-left-front}
+use Rattle.tree.specs.Tree.{recoveredRoot}
 use Rattle.message.specs.Message.{countTooSmall}
 use Rattle.message.proofs.NumberLaws.{number-fits}
 use Rattle.window.specs.Window.{passed}
-use Rattle.verifier.specs.Verifying.{withAccepted, numberIn, rowIn, recoveredRoot, rootAlong, rootIn, stepsIn, sameBytes}
+use Rattle.verifier.specs.Verifying.{withAccepted, numberIn, rowIn, rootAlong, rootIn, stepsIn, sameBytes}
 use Rattle.verifier.specs.Operations.{VerifyingCall, verifyCauses, causesBeforeRoot, verifyCode, verifierAfter, stepsMade, Verifies}
 use Rattle.verifier.specs.Judging.{Ready, judgeCauses, judgeCode, judgeSteps, Judges}
 use Rattle.verifier.specs.declared.Verifier.{Verifier}
@@ -97,16 +98,16 @@ module _ (v : Verifier) (message signature : List ℕ) where
   -- the root and the steps found over a row that begins with that of the order's number
   module _ (row : List ℕ) (placed : take (v .profile .shape .chains) row ≡ rowIn v message signature) {leaf : ℕ} (own : leaf ≡ leafIn signature) where
     pub top-recovered : {top : List ℕ}
-        → top ≡ recoveredRoot (firstDomain (v .seed)) (v .profile) leaf row (valuesIn (v .profile) signature) (siblingsIn (v .profile) signature)
+        → top
+        ≡ recoveredRoot (firstDomain (v .seed)) (chainsOf (v .profile .shape)) (v .profile .height) leaf row (valuesIn (v .profile) signature)
+        (siblingsIn (v .profile) signature)
         → top ≡ rootIn v message signature
     unfolding rootAlong recoveredRoot
     top-recovered climb =
-        let shape = v .profile .shape in
-        let d = firstDomain (v .seed) in
-        climb ∙ rw (own, recovered-front d (leafIn signature) (shape .chains) row placed (shape .width) (valuesIn (v .profile) signature))
+        climb ∙ rw (own, recovered-front (chainsOf (v .profile .shape)) row placed (firstDomain (v .seed)) (valuesIn (v .profile) signature) (leafIn signature))
 
-    pub steps-full : {steps : ℕ} → steps ≡ stepsLeft (v .profile .shape .width) (take (v .profile .shape .chains) row) → steps ≡ stepsIn v message signature
-    steps-full made = made ∙ ap (stepsLeft (v .profile .shape .width)) placed
+    pub steps-full : {steps : ℕ} → steps ≡ stepsLeft (chainsOf (v .profile .shape)) row → steps ≡ stepsIn v message signature
+    steps-full made = made ∙ steps-left-front (chainsOf (v .profile .shape)) row placed
 
   -- past 19, the comparison of the roots decides: 15 or granted
   module _ {m : ℕ} (none : m ≡ 0) (enough : few ≡ false) {unequal : Bool} (compared : unequal ≡ differs) (o : Outcome) {before : ℕ} (so-far : before ≡ 0)

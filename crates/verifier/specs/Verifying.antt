@@ -5,12 +5,10 @@ use Prim.Native.Nat.{ℕ}
 use lib.Dec.{eqb}
 use Rattle.profile.specs.declared.Profile.{Profile}
 use Rattle.signature.specs.Signature.{leafIn, randomIn, valuesIn, siblingsIn}
-use Rattle.chains.specs.Leaves.{stepsLeft}
 use Rattle.codewords.specs.Operations.{rowOf}
 use Rattle.tweak.specs.Tweak.{firstDomain}
-use Rattle.tweak.specs.declared.Domain.{Domain}
-use Rattle.chains.specs.Leaves.{recovered}
-use Rattle.merkle.specs.Nodes.{climbed}
+use Rattle.chains.specs.Leaves.{chainsOf, stepsLeft}
+use Rattle.tree.specs.Tree.{recoveredRoot}
 use Rattle.message.specs.Message.{messageNumber}
 use Rattle.window.specs.Window.{freshWindow, taken}
 use Rattle.verifier.specs.declared.Verifier.{Verifier}
@@ -31,15 +29,11 @@ numberIn v message signature = messageNumber (v .profile) (leafIn signature) (ra
 abbrev pub rowIn : Verifier → (message signature : List ℕ) → List ℕ
 rowIn v message signature = rowOf (v .profile .shape) (numberIn v message signature)
 
--- "recovered root": the climb along the siblings from the leaf key that the values lead to, each from the height that the row gives
-unfoldable pub recoveredRoot : Domain → Profile → (leaf : ℕ) (row values siblings : List ℕ) → List ℕ
-recoveredRoot d p leaf row values siblings =
-    climbed d leaf (recovered d (p .shape .width) (p .shape .chains) leaf row values) siblings (p .height)
-
 -- the root that a signature leads to under the cabinet's seed, over any row: in layer 0 and tree 0
 unfoldable pub rootAlong : Verifier → (row signature : List ℕ) → List ℕ
 rootAlong v row signature =
-    recoveredRoot (firstDomain (v .seed)) (v .profile) (leafIn signature) row (valuesIn (v .profile) signature) (siblingsIn (v .profile) signature)
+    recoveredRoot (firstDomain (v .seed)) (chainsOf (v .profile .shape)) (v .profile .height) (leafIn signature) row
+    (valuesIn (v .profile) signature) (siblingsIn (v .profile) signature)
 
 -- over the row of the message's number
 abbrev pub rootIn : Verifier → (message signature : List ℕ) → List ℕ
@@ -47,7 +41,7 @@ rootIn v message signature = rootAlong v (rowIn v message signature) signature
 
 -- "A chain step is one type 0 hash; the steps reported are those made": the sum over the chains
 abbrev pub stepsIn : Verifier → (message signature : List ℕ) → ℕ
-stepsIn v message signature = stepsLeft (v .profile .shape .width) (rowIn v message signature)
+stepsIn v message signature = stepsLeft (chainsOf (v .profile .shape)) (rowIn v message signature)
 
 -- whether two byte strings are the same
 unfoldable pub sameBytes : List ℕ → List ℕ → Bool

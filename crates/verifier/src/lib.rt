@@ -10,18 +10,18 @@ ghost use Rattle.profile.specs.Checks.{InLimits};
 ghost use Rattle.signature.specs.Signature.{signatureLength, leafIn, valuesIn, siblingsIn};
 ghost use Rattle.counts.specs.Counts as counts;
 ghost use Rattle.counts.specs.Table.{Holds};
-ghost use Rattle.chains.specs.Leaves.{stepsLeft};
 ghost use Rattle.tweak.specs.Tweak.{firstDomain};
+ghost use Rattle.chains.specs.Leaves.{chainsOf, stepsLeft};
+ghost use Rattle.tree.specs.Tree.{recoveredRoot};
 ghost use Rattle.message.specs.Message.{countTooSmall};
 ghost use Rattle.window.specs.Window as window;
-ghost use Rattle.verifier.specs.Verifying.{withAccepted, numberIn, rowIn, recoveredRoot, sameBytes};
+ghost use Rattle.verifier.specs.Verifying.{withAccepted, numberIn, rowIn, sameBytes};
 ghost use Rattle.verifier.specs.Operations.{verifyCauses, Verifies};
 ghost use Rattle.verifier.specs.Judging.{Ready, Judges};
-use chains::leaves::recover_key;
+use chains::chains_of;
 use codewords::unranking::write_codeword;
 use counts::table::fill_past;
 use counts::table::table_outcome;
-use merkle::climb_path;
 use message::count_too_small;
 use message::message_number;
 use profile::Profile;
@@ -32,8 +32,7 @@ use signature::leaf_in;
 use signature::outside_text;
 use signature::random_in;
 use signature::signature_length;
-use merkle::climb_path;
-use tweak::Leaf;
+use tree::RootFound;
 use tweak::first_hasher;
 use window::Window;
 use window::passed;
@@ -153,41 +152,27 @@ pub fn verify_outcome(checked: Outcome, v: Verifier, text: usize, signature: &[u
         .then(low, Refusal::LeafPassed)
 }
 
-// The root that a signature leads to, and the chain steps made on the way.
-struct RootFound {
-    root: [u8; 16],
-    steps: u32,
-}
-
-// The root above the leaf key that the codeword and the signature's values give, along the signature's siblings.
+// The root that a signature leads to under the cabinet's seed, with the codeword in a row, and the chain steps made.
 fn recover_root(v: Verifier, leaf: u32, row: [u8; 40], signature: &[u8]) -> RootFound
-    requires { ⌜ InLimits (v .profile .shape) × (v .profile .height ≤ 10) × (length (now signature) ≡ signatureLength (v .profile)) ⌝ }
-    ensures root { λ r. ⌜ r .root ≡ recoveredRoot (firstDomain (v .seed)) (v .profile) leaf row (valuesIn (v .profile) (now (signature .entry))) (siblingsIn (v .profile) (now (signature .entry))) ⌝ }
-    ensures steps { λ r. ⌜ r .steps ≡ stepsLeft (v .profile .shape .width) (take (v .profile .shape .chains) row) ⌝ }
+    requires { ⌜
+        InLimits (v .profile .shape) × (v .profile .height ≤ 10) × (length (now signature) ≡ signatureLength (v .profile))
+    ⌝ }
+    ensures root { λ r. ⌜
+        r .root ≡ recoveredRoot (firstDomain (v .seed)) (chainsOf (v .profile .shape)) (v .profile .height) leaf row
+        (valuesIn (v .profile) (now (signature .entry))) (siblingsIn (v .profile) (now (signature .entry)))
+    ⌝ }
+    ensures steps { λ r. ⌜ r .steps ≡ stepsLeft (chainsOf (v .profile .shape)) row ⌝ }
 {
     let p = v.profile;
     let shape = p.shape;
-    let width = shape.width;
-    let chains = shape.chains;
+    let chains = chains_of(shape);
     let height = p.height;
     let seed = v.seed;
     let hasher = first_hasher(seed);
-    let siblings = 20 + 16 * (chains as usize);
-    let found = recover_key(
-        hasher,
-        Leaf(leaf),
-        row,
-        width,
-        chains,
-        &signature[20..siblings],
-    );
-    let key = found.key;
-    let steps = found.steps;
-    let root = climb_path(hasher, leaf, key, height, signature, siblings);
-    RootFound {
-        root: root,
-        steps: steps,
-    }
+    let at = 20 + 16 * (shape.chains as usize);
+    let values = &signature[20..at];
+    let siblings = &signature[at..];
+    tree::recover_root(hasher, chains, height, leaf, row, values, siblings)
 }
 
 // Judges one order behind the outcome of the causes before the table, which is filled where that is granted: 19 by the

@@ -4,14 +4,13 @@ use mathlib.Core.List.{_++_, append-assoc, append-nil}
 use Rattle.octets.specs.Bytes.{toBytes}
 use Rattle.sha256.specs.Digest as sha256
 use Rattle.one_time.specs.Operations.{revealedBy, recoveredBy}
-use Rattle.tree.specs.Tree.{rootOf}
 use Rattle.message.specs.Message.{messageDigest, leafPart}
 use Rattle.signer.specs.Signing.{signatureOf}
 use Rattle.claims.proofs.editions_share.Statement.{statement}
 use Rattle.claims.proofs.editions_share.Tie as tie
 
 returns : tie.Need-returns
-unfolding rootOf revealedBy recoveredBy signatureOf messageDigest leafPart
+unfolding revealedBy recoveredBy signatureOf messageDigest leafPart
 returns c =
     record {
       leaf-key = λ edition d p secret leaf. refl;

@@ -5,13 +5,13 @@ use Rattle.counts.specs.Counts.{sumTo, share, D, count}
 use Rattle.counts.specs.Table.{tableLength, countCauses, countCode}
 use Rattle.codewords.specs.Codeword.{place, codeword, rank, total}
 use Rattle.codewords.specs.Operations.{unrankCode, someAbove, rankCode}
-use Rattle.chains.specs.Leaves.{stepsLeft}
+use Rattle.chains.specs.Leaves.{stepsTo}
 use Rattle.claims.specs.Trial.{trials}
 use Rattle.claims.proofs.trial_values.Statement.{statement}
 use Rattle.claims.proofs.trial_values.Tie as tie
 
 returns : tie.Need-returns
-unfolding trials shapeCauses sumTo share D count tableLength countCauses countCode place codeword rank total stepsLeft unrankCode someAbove rankCode
+unfolding trials shapeCauses sumTo share D count tableLength countCauses countCode place codeword rank total stepsTo unrankCode someAbove rankCode
 returns c = refl
 
 pub trial-values-spec : {M : Type 1} → statement M

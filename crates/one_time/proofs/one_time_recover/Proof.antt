@@ -11,9 +11,11 @@ start c = c .before .before .before .before .before .before .before
 
 recover-key-requires : tie.Need-recover-key-requires
 recover-key-requires c κs =
-    let told = c .before in
+    let made = c .before in
+    let told = made .before in
     let placed = told .before .before .before .before .before in
-    (c .first-hasher .ensures .1, recover-room (now (start placed .args .values)) (placed .place-row .ensures) (told .enum-told2 .given .1))
+    let room = recover-room (now (start placed .args .values)) (placed .place-row .ensures) (told .enum-told2 .given .1) in
+    (c .first-hasher .ensures .1, rw (made .chains-of .ensures) room)
 
 returns : tie.Need-returns
 returns c =
@@ -24,10 +26,14 @@ returns c =
 returns-2 : tie.Need-returns-2
 returns-2 c =
     let found = c .before in
-    let state = found .before in
-    let placed = state .before .before .before .before .before .before in
+    let hashed = found .before in
+    let made = hashed .before in
+    let told = made .before in
+    let placed = told .before .before .before .before .before in
     let a = start placed .args in
-    recover-granted (now (a .values)) (placed .place-row .ensures) (a .seed) (state .before .enum-told2 .given .1) (rw (state .first-hasher .ensures .0) at (found .recover-key .ensures .0)) (found .recover-key .ensures .1)
+    let granted = recover-granted (now (a .values)) (placed .place-row .ensures) (a .seed) (told .enum-told2 .given .1) in
+    granted (rw (hashed .first-hasher .ensures .0, made .chains-of .ensures) at (found .recover-key .ensures .0))
+    (rw (made .chains-of .ensures) at (found .recover-key .ensures .1))
 
 pub one-time-recover-spec : {M : Type 1} → statement M
 one-time-recover-spec =
@@ -36,6 +42,7 @@ one-time-recover-spec =
     (λ c. search needs) (λ c. search needs) (λ c. search needs)
     (λ c κs. (refl, refl))
     (λ c. search needs) (λ c. search needs) (λ c κs. search needs)
+    (λ c κs. search needs)
     recover-key-requires
     (λ c. search needs)
     returns

@@ -11,9 +11,12 @@ start c = c .before .before .before .before .before .before .before
 
 write-values-requires : tie.Need-write-values-requires
 write-values-requires c κs =
-    let told = c .before .before in
+    let hashed = c .before in
+    let made = hashed .before in
+    let told = made .before in
     let placed = told .before .before .before .before .before in
-    (c .before .first-hasher .ensures .1, reveal-room (now (start placed .args .values)) (placed .place-row .ensures) (told .enum-told2 .given .1))
+    let room = reveal-room (now (start placed .args .values)) (placed .place-row .ensures) (told .enum-told2 .given .1) in
+    (hashed .first-hasher .ensures .1, rw (made .chains-of .ensures) room)
 
 returns : tie.Need-returns
 returns c =
@@ -24,10 +27,13 @@ returns c =
 returns-2 : tie.Need-returns-2
 returns-2 c =
     let written = c .before .before in
-    let state = written .before .before in
-    let placed = state .before .before .before .before .before .before in
+    let hashed = written .before .before in
+    let made = hashed .before in
+    let told = made .before in
+    let placed = told .before .before .before .before .before in
     let a = start placed .args in
-    reveal-granted (now (a .values)) (placed .place-row .ensures) (a .seed) (now (a .secret)) (state .before .enum-told2 .given .1) (rw (state .first-hasher .ensures .0) at (written .write-values .ensures))
+    let granted = reveal-granted (now (a .values)) (placed .place-row .ensures) (a .seed) (now (a .secret)) (told .enum-told2 .given .1) in
+    granted (rw (hashed .first-hasher .ensures .0, made .chains-of .ensures) at (written .write-values .ensures))
 
 pub one-time-sign-spec : {M : Type 1} → statement M
 one-time-sign-spec =
@@ -36,6 +42,7 @@ one-time-sign-spec =
     (λ c. search needs) (λ c. search needs) (λ c. search needs)
     (λ c κs. (refl, refl))
     (λ c. search needs) (λ c. search needs) (λ c κs. search needs)
+    (λ c κs. search needs)
     write-values-requires
     (λ c. search needs)
     returns

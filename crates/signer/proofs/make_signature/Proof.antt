@@ -4,7 +4,8 @@ use native.Mathlib.Omega.{arith}
 use borrow.Author.Needs.{needs}
 use denote.Ref.{now}
 use lib.ListN.{length, replicate}
-use Rattle.chains.specs.Leaves.{revealed}
+use Rattle.chains.specs.Leaves.{chainsOf, revealed}
+use Rattle.chains.proofs.LeafLaws.{chains-fit}
 use Rattle.chains.proofs.LeafRecover.{length-revealed}
 use Rattle.signature.proofs.Written.{signature-made}
 use Rattle.signer.proofs.make_signature.Statement.{statement}
@@ -17,8 +18,25 @@ second v = v .before .before .before
 abbrev first : tie.After-write-values → tie.After-write-leaf
 first v = second v .before .before .before
 
+-- the chains of the shape
+abbrev chained : tie.After-write-leaf → tie.After-chains-of
+chained l = l .before .before
+
+abbrev begun : tie.After-write-leaf → tie.Start
+begun l = chained l .before .before
+
 abbrev start : tie.After-write-values → tie.Start
-start v = first v .before .before .before
+start v = begun (first v)
+
+write-values-requires : tie.Need-write-values-requires
+write-values-requires c κs =
+    let second = c .before .before in
+    let first = second .before .before .before in
+    let begin = begun first in
+    let limits = begin .pre .1 .0 in
+    (begin .pre .0,
+    rw (chained first .chains-of .ensures)
+    (chains-fit (begin .args .p .shape) limits, omega (arith, limits .few-chains, first .write-leaf .kept .0, second .write-16 .kept .0)))
 
 longs : (s : tie.Start) → (length (s .args .r) ≡ 16) × (length (s .args .t7) ≡ 160)
 longs s = search needs
@@ -30,7 +48,10 @@ copy-requires : tie.Need-copy-requires
 copy-requires c κs =
     let third = c .before .before .before in
     let begin = start third in
-    (omega (arith, begin .pre, longs begin .1), omega (arith, begin .pre, first third .write-leaf .kept .0, second third .write-16 .kept .0, third .write-values .kept .1 .1 .1 .1 .1 .0))
+    let few = begin .pre .1 .0 .few-chains in
+    let written = third .write-values .kept .1 .1 .1 .1 .1 .0 in
+    (omega (arith, begin .pre .1 .1, longs begin .1),
+    omega (arith, few, begin .pre .1 .1, first third .write-leaf .kept .0, second third .write-16 .kept .0, written))
 
 returns : tie.Need-returns
 returns c =
@@ -39,16 +60,19 @@ returns c =
     let begin = start third in
     let a = begin .args in
     let d = a .hasher .domain in
-    signature-made (a .p) (a .leaf) (a .r) (revealed d (now (a .secret)) (a .leaf) (a .p .shape .chains) (a .row)) (a .t7) (replicate 820 0)
-    (longs begin .0) (length-revealed d (now (a .secret)) (a .leaf) (a .p .shape .chains) (a .row)) (omega (arith, begin .pre, longs begin .1))
-    (first third .write-leaf .ensures) (second third .write-16 .ensures) (third .write-values .ensures) (fourth .copy .ensures)
+    let chains = chainsOf (a .p .shape) in
+    signature-made (a .p) (a .leaf) (a .r) (revealed d chains (now (a .secret)) (a .leaf) (a .row)) (a .t7) (replicate 820 0)
+    (longs begin .0) (length-revealed d chains (now (a .secret)) (a .leaf) (a .row)) (omega (arith, begin .pre .1 .1, longs begin .1))
+    (first third .write-leaf .ensures) (second third .write-16 .ensures)
+    (rw (chained (first third) .chains-of .ensures) at (third .write-values .ensures)) (fourth .copy .ensures)
 
 pub make-signature-spec : {M : Type 1} → statement M
 make-signature-spec =
     tie.close
     (tie.spec
-    (λ c. search needs) (λ c κs. search needs) (λ c. search needs) (λ c κs. search needs) (λ c. search needs)
-    (λ c κs. search needs)
+    (λ c κs. search needs) (λ c. search needs) (λ c κs. search needs) (λ c. search needs) (λ c κs. search needs)
+    (λ c. search needs)
+    write-values-requires
     slice-aggregate-copy
     (λ c. search needs) (λ c. search needs) (λ c. search needs) (λ c. search needs) (λ c. search needs)
     (λ c. search needs)

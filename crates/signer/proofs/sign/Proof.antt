@@ -131,7 +131,7 @@ make-signature-requires : tie.Need-make-signature-requires
 make-signature-requires c κs =
     let n = numbered (c .before .before .before) in
     let known = fits (granted (hasher n)) in
-    (hasher n .first-hasher .ensures .1, (known .limits .few-chains, known .low))
+    (hasher n .first-hasher .ensures .1, (known .limits, known .low))
 
 -- the signature is made
 abbrev placed : tie.After-make-signature → tie.After-write-codeword

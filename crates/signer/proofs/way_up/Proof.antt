@@ -1,22 +1,18 @@
--- `signer::way_up` meets its contract: the siblings are written, and the climb along them ends at the root.
+-- `signer::way_up` meets its contract: the chains and the height are the profile's.
 use borrow.Author.Needs.{needs}
-use denote.Ref.{now}
-use Rattle.signer.proofs.WayLaws.{way-siblings, way-root}
+use Rattle.chains.proofs.LeafLaws.{chains-fit}
 use Rattle.signer.proofs.way_up.Statement.{statement}
 use Rattle.signer.proofs.way_up.Tie as tie
 
+way-up-requires : tie.Need-way-up-requires
+way-up-requires c κs =
+    let start = c .before .before in
+    (start .pre .0, (rw (c .chains-of .ensures) (chains-fit (start .args .p .shape) (start .pre .1 .0)), start .pre .1 .1, start .pre .1 .2))
+
 returns : tie.Need-returns
 returns c =
-    let keyed = c .before .before in
-    let pathed = keyed .before .before in
-    let start = pathed .before .before .before in
-    let a = start .args in
-    let d = a .h .domain in
-    (way-siblings d (a .p) (now (a .secret)) (a .leaf) _ (pathed .write-path .ensures), way-root d (a .p) (now (a .secret)) (a .leaf) _ (start .pre .1 .2) (pathed .write-path .ensures) (keyed .key-of-leaf .ensures) (c .climb-path .ensures))
+    let made = c .before .chains-of .ensures in
+    (rw made at (c .way-up .ensures .0), rw made at (c .way-up .ensures .1))
 
 pub way-up-spec : {M : Type 1} → statement M
-way-up-spec =
-    tie.close
-    (tie.spec
-    (λ c. search needs) (λ c κs. search needs) (λ c κs. search needs) (λ c. search needs) (λ c κs. search needs)
-    returns)
+way-up-spec = tie.close (tie.spec (λ c κs. search needs) way-up-requires returns)

@@ -17,7 +17,7 @@ use Rattle.tree.proofs.+node.{statement}
 use Rattle.tree.proofs.+node.Tie.{close}
 
 abbrev μ-node : Measures 1 node-kinds.ps ℕ
-μ-node κs a = a .1 .1 .1 .1 .0
+μ-node κs a = a .1 .1 .1 .0
 
 -- what `node` is given at the measure t, and what a call of it asks below t
 abbrev node-at : ℕ → In 1 node-kinds.ps
@@ -36,10 +36,10 @@ module _ (t : ℕ) where
 
   -- both children are within their height
   within : (c : node-lts.Else1 (calls t) (node-at t) node.Post) → 2 * c .before .args .index + 1 < 2 ^ (31 - (c .before .args .height - 1))
-  within c = child-within (c .before .args .height) (above c) (c .before .pre .1 .1 .2) (c .before .pre .1 .1 .3)
+  within c = child-within (c .before .args .height) (above c) (c .before .pre .1 .1 .1) (c .before .pre .1 .1 .2)
 
   small : (c : node-lts.Else1 (calls t) (node-at t) node.Post) → c .before .args .index < 2 ^ 31
-  small c = index-small (c .before .args .height) (c .before .pre .1 .1 .3)
+  small c = index-small (c .before .args .height) (c .before .pre .1 .1 .2)
 
   key-of-leaf-requires : node-lts.Need-key-of-leaf-requires (calls t) (node-at t) node.Post
   key-of-leaf-requires c κs = search needs
@@ -47,7 +47,8 @@ module _ (t : ℕ) where
   returns : node-lts.Need-returns (calls t) (node-at t) node.Post
   returns c =
       let a = c .before .before .args in
-      node-leaf (a .hasher .domain) (leafKey (a .hasher .domain) (now (a .secret)) (a .width) (a .chains)) (a .height) (a .index) (c .before .if1 .taken) (c .key-of-leaf .ensures)
+      let leaves = leafKey (a .hasher .domain) (a .chains) (now (a .secret)) in
+      node-leaf (a .hasher .domain) leaves (a .height) (a .index) (c .before .if1 .taken) (c .key-of-leaf .ensures)
 
   sub-below : node-lts.Need-sub-below (calls t) (node-at t) node.Post
   sub-below c = search needs
@@ -56,7 +57,7 @@ module _ (t : ℕ) where
   mul-node c = omega (arith, small c)
 
   node-requires : node-lts.Need-node-requires (calls t) (node-at t) node.Post
-  node-requires c κs = (omega (arith, above c), (c .before .pre .1 .0, omega (arith, above c, within c)))
+  node-requires c κs = (omega (arith, above c), (c .before .pre .1 .0, (c .before .pre .1 .1 .0, omega (arith, above c), omega (arith, within c))))
 
   mul-node-2 : node-lts.Need-mul-node-2 (calls t) (node-at t) node.Post
   mul-node-2 c = omega (arith, small (c .before))
@@ -65,7 +66,7 @@ module _ (t : ℕ) where
   add-node c = omega (arith, small (c .before))
 
   node-requires-2 : node-lts.Need-node-requires-2 (calls t) (node-at t) node.Post
-  node-requires-2 c κs = let e = c .before in (omega (arith, above e), (e .before .pre .1 .0, omega (arith, above e, within e)))
+  node-requires-2 c κs = let e = c .before in (omega (arith, above e), (e .before .pre .1 .0, (e .before .pre .1 .1 .0, omega (arith, above e), omega (arith, within e))))
 
   parent-requires : node-lts.Need-parent-requires (calls t) (node-at t) node.Post
   parent-requires c κs = search needs
@@ -75,7 +76,9 @@ module _ (t : ℕ) where
       let right = c .before in
       let left = right .before in
       let a = left .before .before .args in
-      node-above (a .hasher .domain) (leafKey (a .hasher .domain) (now (a .secret)) (a .width) (a .chains)) (a .height) (a .index) (above (left .before)) (left .node .ensures) (right .node2 .ensures) (c .parent .ensures)
+      let leaves = leafKey (a .hasher .domain) (a .chains) (now (a .secret)) in
+      let made = node-above (a .hasher .domain) leaves (a .height) (a .index) (above (left .before)) in
+      made (left .node .ensures) (right .node2 .ensures) (c .parent .ensures)
 
 pub +node-spec : {M : Type 1} → statement M
 +node-spec =

@@ -1,4 +1,5 @@
--- `tree::write_path` meets its contract. The invariant: the first k siblings are written, and the index is that of the node of the height k above the leaf.
+-- `tree::write_path` meets its contract. The invariant: the first k siblings are written, and the index is that of the node of the height k above the
+-- leaf.
 use mathlib.Core.Path.{_≡_, refl, sym, ap, _∙_}
 use mathlib.Core.List.{_++_}
 use Prim.Native.Nat.{ℕ, _-_, _*_, _/_, _^_, _≤_}
@@ -16,31 +17,35 @@ use Rattle.tree.proofs.write_path.Statement.{statement}
 use Rattle.tree.proofs.write_path.Tie as tie
 
 abbrev Inv-loop : tie.InvT-loop
-Inv-loop hasher secret width chains height leaf out₀ index₀ k₀ out index k =
-    (k ≤ height) × (index ≡ leaf / 2 ^ k) × (length out ≡ length out₀) × (out ≡ path (hasher .domain) (leafKey (hasher .domain) secret width chains) k leaf ++ drop (16 * k) out₀)
+Inv-loop hasher chains secret height leaf out₀ index₀ k₀ out index k =
+    (k ≤ height) × (index ≡ leaf / 2 ^ k) × (length out ≡ length out₀)
+    × (out ≡ path (hasher .domain) (leafKey (hasher .domain) chains secret) k leaf ++ drop (16 * k) out₀)
 
 abbrev μ-loop : tie.MeasureT-loop
-μ-loop hasher secret width chains height leaf out₀ index₀ k₀ out index k = height - k
+μ-loop hasher chains secret height leaf out₀ index₀ k₀ out index k = height - k
 
 loop-holds : tie.Need-loop-holds Inv-loop μ-loop
 loop-holds c =
     let a = c .before .args in
-    (omega arith, sym (div-one (a .leaf)), refl, path-start (a .hasher .domain) (leafKey (a .hasher .domain) (now (a .secret)) (a .width) (a .chains)) (a .leaf) (now (a .out)))
+    let leaves = leafKey (a .hasher .domain) (a .chains) (now (a .secret)) in
+    (omega arith, sym (div-one (a .leaf)), refl, path-start (a .hasher .domain) leaves (a .leaf) (now (a .out)))
 
 sibling-requires : tie.Need-sibling-requires Inv-loop μ-loop
 sibling-requires c κs =
     let at-loop = c .before in
     let start = at-loop .before .before in
     let k = at-loop .loop .k in
-    omega (arith, index-small k (place-within (start .args .leaf) (start .args .height) k (start .pre .1 .2) (start .pre .1 .3) (c .loop-test .taken)))
+    let within = place-within (start .args .leaf) (start .args .height) k (start .pre .1 .1) (start .pre .1 .2) (c .loop-test .taken) in
+    omega (arith, index-small k within)
 
 node-requires : tie.Need-node-requires Inv-loop μ-loop
 node-requires c κs =
     let at-loop = c .before .before in
     let start = at-loop .before .before in
     let k = at-loop .loop .k in
-    let within = sibling-place-within (start .args .leaf) (start .args .height) k (start .pre .1 .2) (start .pre .1 .3) (c .before .loop-test .taken) in
-    (start .pre .0, omega (arith, within, ap sibling (at-loop .loop .inv .1)))
+    let inside = sibling-place-within (start .args .leaf) (start .args .height) k (start .pre .1 .1) (start .pre .1 .2) in
+    let within = inside (c .before .loop-test .taken) in
+    (start .pre .0, (start .pre .1 .0, omega arith, omega (arith, within, ap sibling (at-loop .loop .inv .1))))
 
 loop-again : tie.Need-loop-again Inv-loop μ-loop
 loop-again c =
@@ -50,8 +55,14 @@ loop-again c =
     let at-loop = sided .before .before in
     let start = at-loop .before .before in
     let a = start .args in
+    let d = a .hasher .domain in
     let place = at-loop .loop .inv .1 in
-    (omega arith, ap (λ (i : ℕ). i / 2) place ∙ half-place (a .leaf) (at-loop .loop .k), written .write-16 .kept .0 ∙ at-loop .loop .inv .2, path-next (a .hasher .domain) (leafKey (a .hasher .domain) (now (a .secret)) (a .width) (a .chains)) (a .leaf) (now (a .out)) (length-leaf-key (a .hasher .domain) (now (a .secret)) (a .width) (a .chains)) (a .height) (at-loop .loop .k) (at-loop .loop .index) (start .pre .1 .4) (omega arith) place (sided .sibling .ensures) (valued .node .ensures) (at-loop .loop .inv .3) (written .write-16 .ensures))
+    let up = ap (λ (i : ℕ). i / 2) place ∙ half-place (a .leaf) (at-loop .loop .k) in
+    let next =
+    path-next d (leafKey d (a .chains) (now (a .secret))) (a .leaf) (now (a .out)) (length-leaf-key d (a .chains) (now (a .secret))) (a .height)
+    (at-loop .loop .k) (at-loop .loop .index) (start .pre .1 .3) (omega arith) place in
+    let put = next (sided .sibling .ensures) (valued .node .ensures) (at-loop .loop .inv .3) (written .write-16 .ensures) in
+    (omega arith, up, written .write-16 .kept .0 ∙ at-loop .loop .inv .2, put)
 
 same-length : tie.Need-same-length Inv-loop μ-loop
 same-length c = c .before .loop .inv .2

@@ -10,7 +10,7 @@ returns c =
     let walked = c .before in
     let started = walked .before in
     let a = started .before .args in
-    value-at (a .h .domain) (a .leaf .0) (a .chain .0) (now (a .secret)) (a .height) (started .chain-start .ensures) (walked .walk .ensures .0)
+    value-at (a .hasher .domain) (a .leaf .0) (a .chain .0) (now (a .secret)) (a .height) (started .chain-start .ensures) (walked .walk .ensures .0)
 
 pub chain-value-spec : {M : Type 1} → statement M
 chain-value-spec = tie.close (tie.spec (λ c κs. search needs) (λ c κs. search needs) returns)

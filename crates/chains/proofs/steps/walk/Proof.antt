@@ -10,11 +10,11 @@ use Rattle.chains.proofs.steps.walk.Statement.{statement}
 use Rattle.chains.proofs.steps.walk.Tie as tie
 
 abbrev Inv-loop : tie.InvT-loop
-Inv-loop h leaf chain low high v₀ k₀ steps₀ v k steps =
-    (low ≤ k) × (k - low ≤ high - low) × (steps ≡ k - low) × (v ≡ walked (h .domain) (leaf .0) (chain .0) low (k - low) v₀)
+Inv-loop hasher leaf chain low high v₀ k₀ steps₀ v k steps =
+    (low ≤ k) × (k - low ≤ high - low) × (steps ≡ k - low) × (v ≡ walked (hasher .domain) (leaf .0) (chain .0) low (k - low) v₀)
 
 abbrev μ-loop : tie.MeasureT-loop
-μ-loop h leaf chain low high v₀ k₀ steps₀ v k steps = high - k
+μ-loop hasher leaf chain low high v₀ k₀ steps₀ v k steps = high - k
 
 loop-holds : tie.Need-loop-holds Inv-loop μ-loop
 unfolding walked
@@ -24,7 +24,8 @@ loop-again : tie.Need-loop-again Inv-loop μ-loop
 loop-again c =
     let at-loop = c .before .before in
     let a = at-loop .before .args in
-    (omega arith, omega arith, omega arith, walked-next (a .h .domain) (a .leaf .0) (a .chain .0) (a .low) (at-loop .loop .k) _ _ _ (at-loop .loop .inv .0) (at-loop .loop .inv .3) (c .chain-step .ensures))
+    let next = walked-next (a .hasher .domain) (a .leaf .0) (a .chain .0) (a .low) (at-loop .loop .k) _ _ _ in
+    (omega arith, omega arith, omega arith, next (at-loop .loop .inv .0) (at-loop .loop .inv .3) (c .chain-step .ensures))
 
 returns : tie.Need-returns Inv-loop μ-loop
 returns c =
