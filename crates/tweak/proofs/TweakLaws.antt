@@ -28,14 +28,14 @@ length-address d kind first second third = simp (length-append, length-toBytes)
 pub address-bytes : (d : Domain) (kind first second third : ℕ) {a b c : List ℕ} → d .layer < 256 → kind < 256
     → a ≡ toBytes 4 first → b ≡ toBytes 4 second → c ≡ toBytes 4 third
     → d .layer
-        ∷ d .tree / 256 ^ 7 % 256 ∷ d .tree / 256 ^ 6 % 256 ∷ d .tree / 256 ^ 5 % 256 ∷ d .tree / 256 ^ 4 % 256
-        ∷ d .tree / 256 ^ 3 % 256 ∷ d .tree / 256 ^ 2 % 256 ∷ d .tree / 256 % 256 ∷ d .tree % 256
-        ∷ kind
-        ∷ getD a 0 0 ∷ getD a 1 0 ∷ getD a 2 0 ∷ getD a 3 0
-        ∷ getD b 0 0 ∷ getD b 1 0 ∷ getD b 2 0 ∷ getD b 3 0
-        ∷ getD c 0 0 ∷ getD c 1 0 ∷ getD c 2 0 ∷ getD c 3 0
-        ∷ []
-        ≡ address d kind first second third
+    ∷ d .tree / 256 ^ 7 % 256 ∷ d .tree / 256 ^ 6 % 256 ∷ d .tree / 256 ^ 5 % 256 ∷ d .tree / 256 ^ 4 % 256
+    ∷ d .tree / 256 ^ 3 % 256 ∷ d .tree / 256 ^ 2 % 256 ∷ d .tree / 256 % 256 ∷ d .tree % 256
+    ∷ kind
+    ∷ getD a 0 0 ∷ getD a 1 0 ∷ getD a 2 0 ∷ getD a 3 0
+    ∷ getD b 0 0 ∷ getD b 1 0 ∷ getD b 2 0 ∷ getD b 3 0
+    ∷ getD c 0 0 ∷ getD c 1 0 ∷ getD c 2 0 ∷ getD c 3 0
+    ∷ []
+    ≡ address d kind first second third
 unfolding address toBytes
 address-bytes d kind first second third hl hk ea eb ec =
     let whole : d .tree / 1 ≡ d .tree = div-one (d .tree) in
