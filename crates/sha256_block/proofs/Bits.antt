@@ -97,6 +97,9 @@ majority zero x y z hx hy =
     let ey : y ≡ 0 = omega arith in
     rw (ex, ey)
 majority (suc k) x y z hx hy =
-    join (vote x y z) (most x y z)
-    (vote-half x y z ∙ majority k (x / 2) (y / 2) (z / 2) (half-below (2 ^ k) x (rw (pow-suc 2 k) at hx)) (half-below (2 ^ k) y (rw (pow-suc 2 k) at hy)) ∙ sym (most-half x y z))
-    (vote-last x y z ∙ digits vote most refl refl refl refl refl refl refl refl (x % 2) (y % 2) (z % 2) (omega arith) (omega arith) (omega arith) ∙ sym (most-last x y z))
+    let lx = half-below (2 ^ k) x (rw (pow-suc 2 k) at hx) in
+    let ly = half-below (2 ^ k) y (rw (pow-suc 2 k) at hy) in
+    join (vote x y z) (most x y z) (vote-half x y z ∙ majority k (x / 2) (y / 2) (z / 2) lx ly ∙ sym (most-half x y z))
+    (vote-last x y z
+    ∙ digits vote most refl refl refl refl refl refl refl refl (x % 2) (y % 2) (z % 2) (omega arith) (omega arith) (omega arith)
+    ∙ sym (most-last x y z))

@@ -17,7 +17,8 @@ use Rattle.counts.proofs.NextCell.{row-small}
 use Rattle.counts.specs.Counts.{sumTo, share, D, count}
 use Rattle.counts.specs.Table.{rows, tableLength, Holds}
 use Rattle.codewords.specs.Codeword.{place as search-from, codeword}
-use Rattle.codewords.proofs.PlaceLaws.{one-more, next-within, one-less, behind-within, behind-few, from-few, less-left, left-within, share-at, share-within, not-above}
+use Rattle.codewords.proofs.PlaceLaws.{one-more, next-within, one-less, behind-within, behind-few, from-few}
+use Rattle.codewords.proofs.PlaceLaws.{less-left, left-within, share-at, share-within, not-above}
 use Rattle.codewords.proofs.SearchLaws.{still, skipped, searched, found, number-next, row-next, holds, too-small, taken-off}
 use Rattle.codewords.proofs.unranking.write_codeword.Statement.{statement}
 use Rattle.codewords.proofs.unranking.write_codeword.Tie as tie

@@ -17,7 +17,8 @@ returns c =
     let a = b .before in
     let given = a .before .args in
     words-added (given .x) (given .y) (a .wrapping-add-u32 .ensures) (b .wrapping-add-u322 .ensures) (cs .wrapping-add-u323 .ensures)
-    (d .wrapping-add-u324 .ensures) (e .wrapping-add-u325 .ensures) (f .wrapping-add-u326 .ensures) (g .wrapping-add-u327 .ensures) (c .wrapping-add-u328 .ensures)
+    (d .wrapping-add-u324 .ensures) (e .wrapping-add-u325 .ensures) (f .wrapping-add-u326 .ensures)
+    (g .wrapping-add-u327 .ensures) (c .wrapping-add-u328 .ensures)
 
 pub add-words-spec : {M : Type 1} → statement M
 add-words-spec =
