@@ -36,6 +36,11 @@ def given_just(name, *given):
     return lambda case: case.func.__name__ == name and case.args[1:] in given
 
 
+def granted(case):
+    """Where no cause is laid."""
+    return given_just("single", ([],))(case)
+
+
 def laid(*causes):
     """Where just these causes are laid."""
     return given_just("single", (causes,))

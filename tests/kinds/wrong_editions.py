@@ -7,16 +7,16 @@ import hashlib
 from editions import MOST_WORD, RIGHT_LAST, last_of, line_to, other, with_last
 from operations import EDITED, ORDERS, numbers_told, parameters
 from signatures import EDITIONS, profile_causes
-from wrong import another_number, given_just, laid, leaving, named, shown_instead, told_before
+from wrong import another_number, given_just, granted, laid, leaving, named, shown_instead, told_before
 from wrong_orders import BY_RULE, by_number, right_digest, right_number, window_of
 from zarosnik import first_cause
 
 NO_EDITION = 3
 
 
-def granted(case):
+def digests_seen(case):
     """Where orders are granted, or were signed in the other edition."""
-    return case.args[1:] == ([],) or named("crossed", "high_leaf")(case)
+    return granted(case) or named("crossed", "high_leaf")(case)
 
 
 # Another digest. A rule gives what it is taken of: in edition 2 from R, public seed, root, leaf and
@@ -234,7 +234,7 @@ def right():
 
 def wrong():
     for what, operation, function in wrong_digests():
-        yield f"digest: {what}", operation, function, granted
+        yield f"digest: {what}", operation, function, digests_seen
     for operation in EDITED:
         for what, function, where in [*wrong_numbers(), *wrong_turns(operation)]:
             yield what, operation, function, where

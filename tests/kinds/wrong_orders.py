@@ -19,7 +19,7 @@ from signatures import (
     signature_of,
     with_leaf,
 )
-from wrong import anywhere, given_just, is_scant, laid, leaving, named, told_before
+from wrong import anywhere, given_just, granted, is_scant, laid, leaving, named, told_before
 from zarosnik import MOST_BITS, first_bits, number_bits, table_length
 
 # What an order is answered with once its turn has come for the count.
@@ -231,6 +231,11 @@ def wrong_refusals(operation):
         yield "steps told after 19", leaving(steps_told, 19), (19,)
 
 
+def bits_seen(case):
+    """At each number of bits, and at counts far above 2^128."""
+    return granted(case) or named("edge", "earlier")(case)
+
+
 def right():
     for operation in ORDERS:
         yield "nothing", operation, BY_RULE[operation](by_number(right_number)), anywhere
@@ -241,7 +246,7 @@ def wrong():
     low = [(shape,) for shape in shapes.edges() if count_of(Profile(*shape, 0, 1)) < 1000]
     for operation in ORDERS:
         for what, rule in RULES.items():
-            yield what, operation, BY_RULE[operation](rule), named("edge", "earlier")
+            yield what, operation, BY_RULE[operation](rule), bits_seen
         for what, rule in limits():
             yield what, operation, BY_RULE[operation](rule), given_just("edge", *low)
         for what, function, causes in wrong_refusals(operation):
