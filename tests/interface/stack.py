@@ -20,10 +20,18 @@ from collections import Counter
 from paths import ROOT, fail, say
 
 from archived import archive_of, archive_parser, shared_object
-from operations import MOST_HASHED, TABLE, length_of, parameters, unit_of
-from keys import frame_length
+from operations import MOST_HASHED, ORDERS, TABLE, length_of, parameters, unit_of
+from keys import right_frame
 from sheets import right_sheet
-from signatures import GATE, GATE_2, LEAST_COUNT, Profile, count_of, signature_length
+from signatures import (
+    GATE,
+    GATE_2,
+    LEAST_COUNT,
+    Profile,
+    count_of,
+    reserved_key,
+    signature_length,
+)
 from zarosnik import number_words, table_length
 
 PAINTS = (0xA5, 0x5A)
@@ -71,7 +79,7 @@ class Caller:
             "message": text,
             "signature": signature,
             "sheet": right_sheet(p, signature, text),
-            "frame": bytes(frame_length(p)),
+            "frame": right_frame(reserved_key(p, bytes(16), bytes(16), 0)),
         }
         self.memory = {name: memory(name, content) for name, content in slices.items()}
         for name in {q.name for operation in TABLE for q in parameters(operation)} - slices.keys():
@@ -109,24 +117,18 @@ class Caller:
             self.taken[operation] = max(self.taken[operation], taken)
 
     def granted(self):
-        """Every function; where the count is too small, an order is refused by 19."""
+        """Every function; where the count is too small, an order is refused by 19. What Count has
+        filled and Reveal, Sign and the writers have written, the others read."""
         count = count_of(self.p)
         order = 0 if count >= LEAST_COUNT else 19
-        self.call("hash", 0)
-        self.call("count", 0)
         self.memory["number"][:] = number_words(count // 2)
-        for operation in ("unrank", "rank", "compare", "leaf_key", "root"):
-            self.call(operation, 0)
-        for operation in ("one_time_sign", "one_time_recover"):
-            self.call(operation, 0)
-        self.call("reserve", 0)
-        for operation in ("sign", "verify"):
-            self.call(operation, order)
+        for operation in TABLE:
+            self.call(operation, order if operation in ORDERS else 0)
+            if operation == "count":
+                self.memory["number"][:] = number_words(count // 2)
         if order == 0:
             self.memory["message"][0] ^= 1
             self.call("verify", 15)
-        for operation in ("write_sheet", "read_sheet", "write_key", "read_key"):
-            self.call(operation, 0)
 
     def refused(self):
         """By the last cause of each, on what the granted calls left."""
