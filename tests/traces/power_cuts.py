@@ -18,7 +18,6 @@ A disk that loses what fsync has waited for is not tried. Desks that are wrong i
 caught: WRONG.
 """
 
-import ctypes
 import os
 import random
 import signal
@@ -34,6 +33,7 @@ from paths import ROOT, TESTS, fail, say
 import sheets
 import signatures
 from archived import archive_of, archive_parser, shared_object
+from calls import by_name, load
 from header import INCLUDE, WARNINGS
 from keys import read_key, right_frame
 from signatures import EDITIONS, Profile, SigningKey, Verifier
@@ -205,7 +205,7 @@ class Life:
         self.key = SigningKey(p, pick.randbytes(16), pick.randbytes(16), next_leaf, 0)
         root = signatures.root_of(p, self.key.seed, self.key.secret)
         self.cabinet = Verifier(p, self.key.seed, root, 0, 0)
-        self.words = ctypes.c_uint32(0), ctypes.c_uint32(0)
+        self.words = 0, 0
         self.last, self.orders, self.lost, self.put_back = next_leaf - 1, 0, 0, 0
         folder.mkdir(exist_ok=True)
         self.put(right_frame(self.key))
@@ -300,22 +300,11 @@ class Life:
         self.orders += 1
 
     def verify(self, text, signature):
-        p, words = self.key.profile, table_length(*SHAPE[::2])
-        made, table = ctypes.c_uint32(), (ctypes.c_uint32 * words)()
-        outcome = self.library.zarosnik_verify(
-            *map(ctypes.c_uint32, p),
-            self.cabinet.seed,
-            self.cabinet.root,
-            *map(ctypes.byref, self.words),
-            text,
-            ctypes.c_size_t(len(text)),
-            signature,
-            ctypes.c_size_t(len(signature)),
-            table,
-            ctypes.c_size_t(words),
-            ctypes.byref(made),
-        )
-        return outcome, made.value, *(word.value for word in self.words)
+        given = {"message": text, "signature": signature, "table": table_length(*SHAPE[::2])}
+        verifier = self.cabinet._replace(highest=self.words[0], marks=self.words[1])
+        outcome, left = by_name(self.library, "verify", verifier, **given)
+        self.words = left["highest_leaf"], left["marks"]
+        return outcome, left["steps"], *self.words
 
 
 class Trial:
@@ -461,7 +450,7 @@ def main():
     pick = random.Random(options.seed)
     with tempfile.TemporaryDirectory() as name:
         folder = Path(name)
-        library = ctypes.CDLL(shared_object(archive, folder))
+        library = load(shared_object(archive, folder))
         try:
             try_right(library, archive, folder, pick)
         except Caught as how:
