@@ -1,8 +1,7 @@
 """Shows that tests/interface/compare.py sees a wrong library: makes one function wrong at a time, around
 the right one, and looks in that test's cases for a call that differs or ends the process.
 
-    python3 tests/interface/mutants.py                  proves the library, writes the archive first
-    python3 tests/interface/mutants.py --archive FILE   takes this one
+    python3 tests/interface/mutants.py [--archive FILE]
 
 What is wrong is a rule, as a maker may misread it, or the way in which a function is called: the
 modules of tests/kinds/ below say it. A function that is wrong for one kind of calls alone, one length,

@@ -1,8 +1,7 @@
 """Measures the stack that each function of the C interface takes, and holds it to the bound that
 docs/INTERFACE.md states.
 
-    python3 tests/interface/stack.py                  proves the library and writes the archive first
-    python3 tests/interface/stack.py --archive FILE   takes this one
+    python3 tests/interface/stack.py [--archive FILE]
 
 Each function is called at the gate profile in both editions, and at the largest l, w and h with sums
 at which most is to be done, in edition 2: granted and, where a refusal comes late, refused. It runs

@@ -3,8 +3,7 @@ that goes from reserve to sign, through cuts and restarts from its stored frame,
 orders, by two routes, at a cabinet that starts fresh and goes from check to check. Point 6 has it
 so in either edition, the cabinet's being the key's.
 
-    python3 tests/traces/arrivals.py --archive FILE    the library in this archive, some seconds
-    python3 tests/traces/arrivals.py                   proves the library and writes the archive first
+    python3 tests/traces/arrivals.py [--archive FILE]
 
 All leaves are reserved and all orders signed and checked through C. Key and cabinet are the two
 words each that the library hands back. Beside the key stands which leaves were reserved and which

@@ -1,8 +1,7 @@
 """Kills the desk of examples/store.c at every step and at any time, starts it again from what is
 stored, and finds that no leaf signs twice and that a cabinet accepts every order handed out.
 
-    python3 tests/traces/power_cuts.py                   proves the library and writes the archive first
-    python3 tests/traces/power_cuts.py --archive FILE    takes this one
+    python3 tests/traces/power_cuts.py [--archive FILE]
     python3 tests/traces/power_cuts.py --seed N          draws other keys, times and cuts
 
 The desk is built as it stands; power_cuts.c goes between it and what it calls, and tells after a

@@ -1,8 +1,7 @@
 """Runs every test vector of the folder vectors/ through the C interface, by the archive that C
 programs link, and compares the answer, the states and all memory lent.
 
-    python3 tests/vectors/vectors.py                  proves the library and writes the archive first
-    python3 tests/vectors/vectors.py --archive PATH   takes this archive
+    python3 tests/vectors/vectors.py [--archive FILE]
 
 Fails where a call differs, and where something has no vector: a family, an operation granted, each
 of its refusals, a number of a profile that would be the gate's if it were cut, or a kind of calls of the modules of tests/kinds/, of which the vectors have all but
