@@ -2,8 +2,7 @@
 header's functions, it needs nothing from outside but functions that copy, fill and compare memory, and
 it has no writable data.
 
-    python3 tests/interface/archive.py                   proves the library and writes the archive first
-    python3 tests/interface/archive.py --archive FILE    takes this one
+    python3 tests/interface/archive.py [--archive FILE]
 
 A compiler may put a call of memcpy, memmove, memset or memcmp wherever a program copies, fills or
 compares memory; every C library has these four, also one without an operating system.

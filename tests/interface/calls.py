@@ -6,10 +6,11 @@ import ctypes
 
 from answers import answer, arguments, profile_of
 from memory import Memory, Placed, region
-from operations import TABLE, content, parameters, unit_of
+from operations import LENT, TABLE, content, length_of, parameters, unit_of, value_in
 
 # No call has more.
 POINTERS = 8
+STALE = 0xA5
 
 
 def load(shared_object):
@@ -102,3 +103,24 @@ def call(pick, operation, thing=None, **given):
     outcome, left = answer(operation, values)
     memory = laid_out(operation, given, left, pick.randbytes)
     return Call(operation, values, outcome, left, memory, pick.randrange(16))
+
+
+def by_name(library, operation, thing=None, **given):
+    """Makes one call with no memory guarded: its answer, and what it leaves, by name. A slice that it
+    may write is given as its length; what stands in it and in answers before is STALE."""
+    given, values, written = arguments(operation, thing, given), [], {}
+    for p in parameters(operation):
+        if p.by_value:
+            values.append(given[p.name])
+            continue
+        if p.name in given and p.name not in LENT[operation]:
+            data = content(p.name, given[p.name])
+        else:
+            data = bytes([STALE]) * (unit_of(p.name) * given.get(p.name, length_of(p.name)))
+        memory = (ctypes.c_uint8 * len(data)).from_buffer_copy(data)
+        values.append(memory)
+        values += [len(data) // unit_of(p.name)] * p.has_length
+        if not p.read_only:
+            written[p.name] = memory
+    outcome = getattr(library, f"zarosnik_{operation}")(*values)
+    return outcome, {name: value_in(name, bytes(memory)) for name, memory in written.items()}

@@ -27,11 +27,13 @@ from paths import fail, say
 
 import shapes
 from archived import archive_of, archive_parser, shared_object
-from calls import ORDERS, load
-from cases import caused, edge, subsets
-from inputs import CAUSES, CUTS, Inputs
+from calls import load
+from cases import caused, edge
+from causes import CUTS, subsets
+from inputs import Inputs
+from operations import CAUSES, ORDERS, content
 from signatures import EDITIONS, GATE, Profile, count_cause
-from zarosnik import number_bits, number_words, row_of, ways
+from zarosnik import number_bits, row_of, ways
 
 LIMITS = list(itertools.product(range(1, 41), range(2, 17)))
 # A shape is searched where it has at most so many rows: with "at most"; with "less", whose lists
@@ -231,11 +233,12 @@ def ask_counts(library, pick, found):
     for (l, w), size in [*found.items(), (GATE[:2], GATE_COUNT)]:
         p = Profile(l, w, middle(l, w), 0, 1)
         call = Inputs(pick, "count", profile=p).count()
-        call.arguments["number"].leave(number_words(size))
+        call.memory["number"].leave(content("number", size))
         calls += made(library, call)
         for number in range(size + 1 if (l, w) in found else 0):
             inputs = Inputs(pick, "unrank", profile=p)
-            call = inputs.calls.unrank(p, number, inputs.table(), inputs.lent("row", l))
+            given = {"number": number, "table": inputs.table(), "row": inputs.lent("row", l)}
+            call = inputs.call(p, **given)
             hold(call.outcome == (0 if number < size else 7), f"drawn otherwise: {call}")
             calls += made(library, call)
     return calls

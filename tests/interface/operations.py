@@ -123,3 +123,13 @@ def content(name, value):
     words = number_words(value) if name in NUMBERS else value
     words = words if isinstance(words, list) else [words]
     return array("Q" if unit_of(name) == 8 else "I", words).tobytes()
+
+
+def value_in(name, data):
+    """The same the other way."""
+    if unit_of(name) == 1:
+        return data
+    words = list(array("Q" if unit_of(name) == 8 else "I", data))
+    if name in NUMBERS:
+        return sum(word << 32 * place for place, word in enumerate(words))
+    return words if name in ("table", "profile") else words[0]

@@ -2,8 +2,7 @@
 seed, in Leaf key, Root, Reveal and Write key, and in Sign but through the digest of the order, which
 is public. In Read key branches depend on the seed's digits in the stored key, and nothing else does.
 
-    python3 tests/interface/secret_seed.py                   proves the library and writes the archive first
-    python3 tests/interface/secret_seed.py --archive PATH    takes this archive
+    python3 tests/interface/secret_seed.py [--archive FILE]
 
 Runs secret_seed.c under valgrind's memcheck with the secret seed marked as undefined. Memcheck must
 report nothing, of Read key branches alone, and what the calls give is compared with the independent

@@ -1,8 +1,7 @@
 """Measures the stack that each function of the C interface takes, and holds it to the bound that
 docs/INTERFACE.md states.
 
-    python3 tests/interface/stack.py                  proves the library and writes the archive first
-    python3 tests/interface/stack.py --archive FILE   takes this one
+    python3 tests/interface/stack.py [--archive FILE]
 
 Each function is called at the gate profile in both editions, and at the largest l, w and h with sums
 at which most is to be done, in edition 2: granted and, where a refusal comes late, refused. It runs
@@ -20,10 +19,18 @@ from collections import Counter
 from paths import ROOT, fail, say
 
 from archived import archive_of, archive_parser, shared_object
-from calls import PROTOTYPES, parameters
-from keys import frame_length
+from operations import MOST_HASHED, ORDERS, TABLE, length_of, parameters, unit_of
+from keys import right_frame
 from sheets import right_sheet
-from signatures import GATE, GATE_2, LEAST_COUNT, Profile, count_of, signature_length
+from signatures import (
+    GATE,
+    GATE_2,
+    LEAST_COUNT,
+    Profile,
+    count_of,
+    reserved_key,
+    signature_length,
+)
 from zarosnik import number_words, table_length
 
 PAINTS = (0xA5, 0x5A)
@@ -50,12 +57,9 @@ def built(archive, folder):
     return library
 
 
-def octets(content):
-    return (ctypes.c_uint8 * len(content))(*content)
-
-
-def words(content):
-    return (ctypes.c_uint32 * len(content))(*content)
+def memory(name, content):
+    kind = {1: ctypes.c_uint8, 4: ctypes.c_uint32, 8: ctypes.c_size_t}[unit_of(name)]
+    return (kind * len(content))(*content)
 
 
 class Caller:
@@ -66,25 +70,19 @@ class Caller:
         self.p = p
         self.taken = Counter()
         signature, text = bytes(signature_length(p)), bytes(range(200))
-        self.memory = {
-            "data": octets(bytes(65535)),
-            "table": words([0] * table_length(p.l, p.s)),
-            "number": words([0] * 5),
-            "first": words([0] * 5),
-            "second": words([0] * 5),
-            "row": octets(bytes(p.l)),
-            "values": octets(bytes(16 * p.l)),
-            "message": octets(text),
-            "signature": octets(signature),
-            "sheet": octets(right_sheet(p, signature, text)),
-            "frame": octets(bytes(frame_length(p))),
-            "profile": words([0] * 5),
+        slices = {
+            "data": bytes(MOST_HASHED),
+            "table": [0] * table_length(p.l, p.s),
+            "row": bytes(p.l),
+            "values": bytes(16 * p.l),
+            "message": text,
+            "signature": signature,
+            "sheet": right_sheet(p, signature, text),
+            "frame": right_frame(reserved_key(p, bytes(16), bytes(16), 0)),
         }
-        sizes = ("message_written", "sheet_written", "frame_written")
-        self.memory |= {name: (ctypes.c_size_t * 1)() for name in sizes}
-        self.memory |= {name: words([0]) for name in ("order", "looked", "steps", "line")}
-        self.memory |= {name: octets(bytes(32)) for name in ("digest", "public_seed", "root", "r")}
-        self.memory |= {name: octets(bytes(32)) for name in ("secret_seed", "key")}
+        self.memory = {name: memory(name, content) for name, content in slices.items()}
+        for name in {q.name for operation in TABLE for q in parameters(operation)} - slices.keys():
+            self.memory[name] = memory(name, [0] * length_of(name))
 
     def arguments(self, operation):
         """Every call begins with the last leaf reserved, or left to reserve, and with every leaf
@@ -93,14 +91,15 @@ class Caller:
         values = {**self.p._asdict(), "leaf": last, "next_leaf": last + 1, "mark": 1}
         state = {"next_leaf": last, "mark": 0} if operation == "reserve" else {"mark": 1}
         state |= {"highest_leaf": 0, "marks": 2}
-        self.memory |= {"next_leaf": words([0])}
-        self.memory |= {name: words([number]) for name, number in state.items()}
-        for name, by_value, _, has_length in parameters(operation):
-            if by_value:
+        for name, number in state.items():
+            self.memory[name][0] = number
+        for parameter in parameters(operation):
+            name = parameter.name
+            if parameter.by_value:
                 yield values[name]
                 continue
             yield ctypes.addressof(self.memory[name])
-            if has_length:
+            if parameter.has_length:
                 yield len(self.memory[name])
 
     def call(self, operation, expected):
@@ -117,28 +116,22 @@ class Caller:
             self.taken[operation] = max(self.taken[operation], taken)
 
     def granted(self):
-        """Every function; where the count is too small, an order is refused by 19."""
+        """Every function; where the count is too small, an order is refused by 19. What Count has
+        filled and Reveal, Sign and the writers have written, the others read."""
         count = count_of(self.p)
         order = 0 if count >= LEAST_COUNT else 19
-        self.call("hash", 0)
-        self.call("count", 0)
         self.memory["number"][:] = number_words(count // 2)
-        for operation in ("unrank", "rank", "compare", "leaf_key", "root"):
-            self.call(operation, 0)
-        for operation in ("one_time_sign", "one_time_recover"):
-            self.call(operation, 0)
-        self.call("reserve", 0)
-        for operation in ("sign", "verify"):
-            self.call(operation, order)
+        for operation in TABLE:
+            self.call(operation, order if operation in ORDERS else 0)
+            if operation == "count":
+                self.memory["number"][:] = number_words(count // 2)
         if order == 0:
             self.memory["message"][0] ^= 1
             self.call("verify", 15)
-        for operation in ("write_sheet", "read_sheet", "write_key", "read_key"):
-            self.call(operation, 0)
 
     def refused(self):
         """By the last cause of each, on what the granted calls left."""
-        self.memory["data"] = octets(bytes(65536))
+        self.memory["data"] = memory("data", bytes(MOST_HASHED + 1))
         self.memory["number"][:] = [0xFFFFFFFF] * 5
         self.memory["sheet"][-1] = 0
         self.memory["frame"][-1] = 0
@@ -147,7 +140,7 @@ class Caller:
             self.call(operation, 7)
         for operation in ("read_sheet", "read_key"):
             self.call(operation, 17)
-        self.memory |= {name: octets(self.memory[name][:-1]) for name in ("sheet", "frame")}
+        self.memory |= {n: memory(n, self.memory[n][:-1]) for n in ("sheet", "frame")}
         for operation in ("write_sheet", "write_key"):
             self.call(operation, 6)
         self.memory["row"][0] ^= 1
@@ -166,9 +159,9 @@ def main():
     with tempfile.TemporaryDirectory() as folder:
         library = built(archive, folder)
         taken = [measured(library, p) for p in PROFILES]
-    if any(profile.keys() != PROTOTYPES.keys() for profile in taken):
+    if any(profile.keys() != TABLE.keys() for profile in taken):
         fail("not every function was called")
-    for operation in PROTOTYPES:
+    for operation in TABLE:
         numbers = ", ".join(f"{profile[operation]}" for profile in taken)
         say(f"zarosnik_{operation}: {numbers} bytes")
     shown = "; ".join("l {}, w {}, s {}, h {}, edition {}".format(*p) for p in PROFILES)

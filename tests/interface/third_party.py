@@ -21,7 +21,6 @@ org.bouncycastle.pqc.crypto.sphincsplus, parameters sha2_128f_simple and sha2_12
 rule of FIPS 205 and gives the same values.
 """
 
-import ctypes
 import hashlib
 import subprocess
 import tempfile
@@ -32,8 +31,9 @@ from paths import ROOT, TESTS, fail, say
 import signatures
 import zarosnik
 from archived import archive_of, archive_parser, shared_object
-from signatures import Profile, signature_length
-from zarosnik import number_words, table_length
+from calls import by_name, load
+from signatures import Profile, Verifier, signature_length
+from zarosnik import table_length
 
 TRIAL = ROOT / "crates" / "trial" / "stdout"
 
@@ -152,127 +152,64 @@ def hold_trial():
     return made
 
 
-class Library:
-    """The functions of the archive. Numbers of a profile are passed in 32 bits."""
-
-    def __init__(self, archive, folder):
-        self.functions = ctypes.CDLL(shared_object(archive, folder))
-
-    def call(self, name, *arguments):
-        """Numbers, lengths (a `size_t`) and memory in order; the number that it answers with."""
-        function = getattr(self.functions, f"zarosnik_{name}")
-        function.restype = ctypes.c_uint32
-        return function(*[ctypes.c_uint32(a) if isinstance(a, int) else a for a in arguments])
-
-
-def memory(data):
-    return (ctypes.c_uint8 * len(data)).from_buffer_copy(data)
-
-
-def words(numbers):
-    return (ctypes.c_uint32 * len(numbers))(*numbers)
-
-
-def lent(slice_):
-    """A slice is a pointer and a length."""
-    return slice_, ctypes.c_size_t(len(slice_))
-
-
-def seed_memory(seeds):
-    return [memory(bytes.fromhex(seed)) for seed in seeds]
+def seeds_of(pair):
+    return dict(zip(("public_seed", "secret_seed"), map(bytes.fromhex, pair)))
 
 
 def hold_hash(library):
     made = 0
     for data, digest in DIGESTS:
-        found = memory(bytes(32))
-        message = memory(data + b"\0")
-        outcome = library.call("hash", message, ctypes.c_size_t(len(data)), found)
-        made += equal(f"zarosnik_hash of {data}", (outcome, bytes(found).hex()), (0, digest))
+        outcome, left = by_name(library, "hash", data=data)
+        made += equal(f"zarosnik_hash of {data}", (outcome, left["digest"].hex()), (0, digest))
     return made
 
 
 def hold_keys(library):
     made = 0
     for s, edition in SUMS:
-        for seeds, leaf, key in LEAF_KEYS:
-            p, found = Profile(CHAINS, WIDTH, s, 10, edition), memory(bytes(16))
-            outcome = library.call("leaf_key", *p, *seed_memory(seeds), leaf, found)
-            made += equal(f"zarosnik_leaf_key, {leaf}", (outcome, bytes(found).hex()), (0, key))
-        for seeds, height, root in ROOTS:
-            p, found = Profile(CHAINS, WIDTH, s, height, edition), memory(bytes(16))
-            outcome = library.call("root", *p, *seed_memory(seeds), found)
-            made += equal(f"zarosnik_root, {height}", (outcome, bytes(found).hex()), (0, root))
+        for pair, leaf, key in LEAF_KEYS:
+            p = Profile(CHAINS, WIDTH, s, 10, edition)
+            outcome, left = by_name(library, "leaf_key", p, **seeds_of(pair), leaf=leaf)
+            made += equal(f"zarosnik_leaf_key, {leaf}", (outcome, left["key"].hex()), (0, key))
+        for pair, height, root in ROOTS:
+            p = Profile(CHAINS, WIDTH, s, height, edition)
+            outcome, left = by_name(library, "root", p, **seeds_of(pair))
+            made += equal(f"zarosnik_root, {height}", (outcome, left["root"].hex()), (0, root))
     return made
 
 
 def hold_values(library):
     """Gather gives the row's number, Reveal the values, Recover from these the leaf key."""
-    table = words([0] * table_length(CHAINS, SIGNING.s))
-    number = words([0] * 5)
-    outcome = library.call("rank", *SIGNING[:3], *lent(memory(ROW)), *lent(table), number)
-    made = equal("zarosnik_rank", (outcome, list(number)), (0, number_words(NUMBER)))
-    values = memory(bytes(16 * CHAINS))
-    place = (SIGNED_LEAF, number)
-    outcome = library.call(
-        "one_time_sign", *SIGNING, *seed_memory(FIRST), *place, *lent(table), *lent(values)
-    )
-    made += equal("zarosnik_one_time_sign", (outcome, bytes(values).hex()), (0, VALUES))
-    key, steps = memory(bytes(16)), words([0])
-    given = memory(bytes.fromhex(VALUES))
-    outcome = library.call(
-        "one_time_recover",
-        *SIGNING,
-        seed_memory(FIRST)[0],
-        *place,
-        *lent(given),
-        *lent(table),
-        key,
-        steps,
-    )
+    words, seeds = table_length(CHAINS, SIGNING.s), seeds_of(FIRST)
+    outcome, left = by_name(library, "rank", SIGNING, row=ROW, table=words)
+    made = equal("zarosnik_rank", (outcome, left["number"]), (0, NUMBER))
+    given = {**seeds, "leaf": SIGNED_LEAF, "number": NUMBER, "table": words}
+    outcome, left = by_name(library, "one_time_sign", SIGNING, **given, values=16 * CHAINS)
+    made += equal("zarosnik_one_time_sign", (outcome, left["values"].hex()), (0, VALUES))
+    given["values"] = bytes.fromhex(VALUES)
+    outcome, left = by_name(library, "one_time_recover", SIGNING, **given)
     expected = (0, LEAF_KEYS[2][2], CHAINS * (WIDTH - 1) - SIGNING.s)
-    found = (outcome, bytes(key).hex(), steps[0])
+    found = (outcome, left["key"].hex(), left["steps"])
     return made + equal("zarosnik_one_time_recover", found, expected)
 
 
 def hold_order(library):
     """Sign gives the reserved leaf's siblings, and a cabinet with their root takes the order."""
     p = Profile(CHAINS, WIDTH, 262, SIGNED_HEIGHT, 2)
-    table = words([0] * table_length(p.l, p.s))
-    text, signature = memory(b"sill level 2.4 m"), memory(bytes(signature_length(p)))
-    next_leaf, mark, r = words([SIGNED_LEAF]), words([0]), memory(bytes(16))
-    outcome = library.call("reserve", *p, next_leaf, mark)
-    found = (outcome, next_leaf[0], mark[0])
+    words, text, seeds = table_length(p.l, p.s), b"sill level 2.4 m", seeds_of(FIRST)
+    outcome, left = by_name(library, "reserve", p, next_leaf=SIGNED_LEAF, mark=0)
+    found = outcome, left["next_leaf"], left["mark"]
     made = equal("zarosnik_reserve", found, (0, SIGNED_LEAF + 1, 1))
-    outcome = library.call(
-        "sign",
-        *p,
-        *seed_memory(FIRST),
-        next_leaf[0],
-        mark,
-        r,
-        *lent(text),
-        *lent(table),
-        *lent(signature),
-    )
-    made += equal("zarosnik_sign", (outcome, mark[0]), (0, 0))
-    siblings = bytes(signature)[-16 * p.h :].hex()
+    given = {**seeds, **left, "r": bytes(16), "message": text, "table": words}
+    outcome, left = by_name(library, "sign", p, **given, signature=signature_length(p))
+    made += equal("zarosnik_sign", (outcome, left["mark"]), (0, 0))
+    siblings = left["signature"][-16 * p.h :].hex()
     made += equal("siblings of zarosnik_sign", siblings, SIBLINGS)
-    highest, marks, steps = words([0]), words([0]), words([0])
-    root = memory(bytes.fromhex(ROOTS[1][2]))
-    outcome = library.call(
-        "verify",
-        *p,
-        seed_memory(FIRST)[0],
-        root,
-        highest,
-        marks,
-        *lent(text),
-        *lent(signature),
-        *lent(table),
-        steps,
-    )
-    return made + equal("zarosnik_verify", (outcome, highest[0], marks[0]), (0, SIGNED_LEAF, 1))
+    verifier = Verifier(p, seeds["public_seed"], bytes.fromhex(ROOTS[1][2]), 0, 0)
+    given = {"message": text, "signature": left["signature"], "table": words}
+    outcome, left = by_name(library, "verify", verifier, **given)
+    found = outcome, left["highest_leaf"], left["marks"]
+    return made + equal("zarosnik_verify", found, (0, SIGNED_LEAF, 1))
 
 
 def lines_of_values():
@@ -305,7 +242,7 @@ def main():
     if options.jar:
         made += compute_anew(options.jar.resolve())
     with tempfile.TemporaryDirectory() as folder:
-        library = Library(archive, folder)
+        library = load(shared_object(archive, folder))
         for hold in (hold_hash, hold_keys, hold_values, hold_order):
             made += hold(library)
     say(f"{made} comparisons, no difference")

@@ -1,8 +1,7 @@
 """Runs every call of the second header, include/zarosnik_types.h, over the archive, as C11 and as
 C++17, in both editions, and compares what it writes with the independent implementation.
 
-    python3 tests/interface/typed_calls.py                   proves the library and writes the archive first
-    python3 tests/interface/typed_calls.py --archive FILE    takes this one
+    python3 tests/interface/typed_calls.py [--archive FILE]
 
 tests/interface/typed_calls.c makes the calls. What they take and must give is written here, as arrays, into a file
 expected.h that it includes. No two fields have the same value, so a call that exchanged two would show.

@@ -1,45 +1,22 @@
-"""Operations made wrong in the edition of the profile, for tests/interface/mutants.py: Sign and
-Check by another digest, every operation with 22 for other numbers or out of its turn, and Read
-sheet by another end of frame 01, also for one kind of tests/kinds/editions.py alone.
+"""Operations made wrong in the edition of the profile: Sign and Check by another digest, every
+operation with 22 for other numbers or out of its turn, and Read sheet by another end of frame 01.
 """
 
-import ctypes
 import hashlib
 
-from editions import (
-    MOST_WORD,
-    RIGHT_LAST,
-    SHEETS,
-    TRIED,
-    last_of,
-    line_to,
-    other,
-    told,
-    with_last,
-)
-from calls import EDITED, ORDERS, parameters
-from inputs import CAUSES
+from editions import MOST_WORD, RIGHT_LAST, last_of, line_to, other, with_last
+from operations import EDITED, ORDERS, numbers_told, parameters
 from signatures import EDITIONS, profile_causes
-from wrong_orders import (
-    BY_RULE,
-    MOST_SHEET,
-    MOST_TABLE,
-    by_number,
-    content,
-    profile_of,
-    put,
-    right_digest,
-    right_number,
-    window_of,
-)
+from wrong import another_number, given_just, granted, laid, leaving, named, shown_instead, told_before
+from wrong_orders import BY_RULE, by_number, right_digest, right_number, window_of
 from zarosnik import first_cause
 
 NO_EDITION = 3
 
-# Something wrong must be seen in cases of some kinds, each with what such a case is given besides
-# the operation. In these, orders are granted, or were signed in the other edition.
-GRANTED = [("single", ([],)), *(("crossed", (edition,)) for edition in EDITIONS)]
-GRANTED += [("high_leaf", (edition,)) for edition in EDITIONS]
+
+def digests_seen(case):
+    """Where orders are granted, or were signed in the other edition."""
+    return granted(case) or named("crossed", "high_leaf")(case)
 
 
 # Another digest. A rule gives what it is taken of: in edition 2 from R, public seed, root, leaf and
@@ -126,65 +103,46 @@ def wrong_digests():
 
 def as_edition(number_for):
     """Every edition as another."""
-
-    def wrong(right, given):
-        return right(*(given.values | {"edition": number_for(given["edition"])}).values())
-
-    return wrong
+    return lambda right, given: right(edition=number_for(given["edition"]))
 
 
 def taken_as(edition, number):
     return as_edition(lambda given: number if given == edition else given)
 
 
-def another_refusal(right, given):
-    outcome = right(*given.values.values())
-    return 4 if outcome == 22 else outcome
-
-
 def wrong_numbers():
     """What is wrong, the wrong function, and where it must be seen."""
-    anywhere = [("edition", (edition,)) for edition in TRIED]
+    anywhere = named("edition")
     for edition, number in [(0, 1), (3, 2), (MOST_WORD, 1)]:
-        where = [("edition", (edition,))]
-        yield f"edition {edition} taken as {number}", taken_as(edition, number), where
+        what = f"edition {edition} taken as {number}"
+        yield what, taken_as(edition, number), given_just("edition", (edition,))
     for edition in EDITIONS:
-        where = [("edition", (edition,))]
-        yield f"edition {edition} refused", taken_as(edition, NO_EDITION), where
+        refused = taken_as(edition, NO_EDITION)
+        yield f"edition {edition} refused", refused, given_just("edition", (edition,))
     every = as_edition(lambda edition: edition if edition in EDITIONS else 1)
     yield "every edition taken", every, anywhere
     yield "every edition above 2 taken", as_edition(lambda edition: min(edition, 2)), anywhere
     yield "one bit of the edition", as_edition(lambda edition: 2 - edition % 2), anywhere
-    yield "4 for 22", another_refusal, anywhere
+    yield "4 for 22", another_number(22, 4), anywhere
 
 
 # 22 out of its turn.
 
 
-def told_before(cause):
-    def wrong(right, given):
-        outcome = right(*given.values.values())
-        return 22 if outcome == cause and given["edition"] not in EDITIONS else outcome
-
-    return wrong
-
-
 def told_behind(operation, cause):
     """A cause that comes later goes first, as it shows where the edition is made right. Where it
     does not hold, all that was written then is put back."""
-    written = [
-        name for name, by_value, read_only, _ in parameters(operation) if not by_value | read_only
-    ]
+    written = [p.name for p in parameters(operation) if not p.by_value and not p.read_only]
 
     def wrong(right, given):
-        outcome = right(*given.values.values())
+        outcome = right()
         if outcome != 22:
             return outcome
-        before = {name: content(given, name, MOST_TABLE) for name in written}
-        if right(*(given.values | {"edition": 1}).values()) == cause:
+        before = {name: given.content(name) for name in written}
+        if right(edition=1) == cause:
             return cause
         for name, data in before.items():
-            put(given, name, data)
+            given.put(name, data)
         return outcome
 
     return wrong
@@ -192,13 +150,13 @@ def told_behind(operation, cause):
 
 def wrong_turns(operation):
     """The same. Both causes must be laid."""
-    causes = list(dict.fromkeys(map(abs, CAUSES[operation])))
+    causes = numbers_told(operation)
     at = causes.index(22)
     for cause in causes[:at]:
-        yield f"22 before {cause}", told_before(cause), [("single", ((cause, 22),))]
+        early = told_before(cause, 22, lambda given: given["edition"] not in EDITIONS)
+        yield f"22 before {cause}", early, laid(cause, 22)
     for cause in causes[at + 1 :]:
-        where = [("single", ((22, cause),))]
-        yield f"22 behind {cause}", told_behind(operation, cause), where
+        yield f"22 behind {cause}", told_behind(operation, cause), laid(22, cause)
 
 
 # Another end of frame 01. A rule says whether it is taken, by the edition expected and the digits
@@ -209,16 +167,15 @@ def read_by(takes):
     """Read sheet by a rule: the right function is given a sheet that it judges so."""
 
     def wrong(right, given):
-        p, sheet = profile_of(given), content(given, "sheet", MOST_SHEET)
+        p, sheet = given.profile(), given.content("sheet")
         if first_cause(profile_causes(p)) or len(sheet) < given.size("sheet"):
-            return right(*given.values.values())
+            return right()
         last = last_of(p, sheet)
         if last is None or takes(p.edition, last) != bool(line_to(p.edition, last)):
-            return right(*given.values.values())
+            return right()
         shown = with_last(p, sheet, RIGHT_LAST[p.edition] if takes(p.edition, last) else "FF")
-        memory = (ctypes.c_uint8 * len(shown)).from_buffer_copy(shown)
-        place = {"sheet": ctypes.addressof(memory), "sheet_len": len(shown)}
-        return right(*(given.values | place).values())
+        place, _kept = shown_instead("sheet", shown)
+        return right(**place)
 
     return wrong
 
@@ -234,10 +191,6 @@ def also(edition, lasts):
 
 def instead(lasts):
     return lambda e, last: last == lasts[e]
-
-
-def right_but_for(kind):
-    return lambda e, last: right_last(e, last) != ((e, last) == kind)
 
 
 BYTES = [f"{byte:02X}" for byte in range(256)]
@@ -263,36 +216,29 @@ ENDS = {
 def other_line(by):
     """Another line told where just the end of frame 01 is wrong."""
 
-    def wrong(right, given):
-        outcome, line = right(*given.values.values()), given.words("line")
-        if outcome == 17 and line[0] == 2:
-            line[0] += by
-        return outcome
+    def change(given):
+        line = given.words("line")
+        line[0] += by * (line[0] == 2)
 
-    return wrong
+    return leaving(change, 17)
 
 
-def right_editions():
-    """As they are to be, made in the way of the wrong ones: nothing is to be seen."""
+def right():
     for operation in EDITED:
-        later = CAUSES[operation][CAUSES[operation].index(22) :]
-        where = [("single", ((22, cause),)) for cause in later]
-        yield operation, told_behind(operation, None), where + [("single", ((22,),))]
-    yield "read_sheet", read_by(right_last), [("last", kind) for kind in SHEETS]
+        causes = numbers_told(operation)
+        later = [((22, cause),) for cause in causes[causes.index(22) :]]
+        where = given_just("single", *later, ((22,),))
+        yield "nothing", operation, told_behind(operation, None), where
+    yield "nothing", "read_sheet", read_by(right_last), named("last")
 
 
-def wrong_editions():
-    """What is wrong, with which operation, the wrong function, and where it must be seen."""
-    for what, operation, wrong in wrong_digests():
-        yield f"digest: {what}", operation, wrong, GRANTED
+def wrong():
+    for what, operation, function in wrong_digests():
+        yield f"digest: {what}", operation, function, digests_seen
     for operation in EDITED:
-        for what, wrong, where in [*wrong_numbers(), *wrong_turns(operation)]:
-            yield what, operation, wrong, where
-    ends = [("last", kind) for kind in SHEETS]
+        for what, function, where in [*wrong_numbers(), *wrong_turns(operation)]:
+            yield what, operation, function, where
     for what, takes in ENDS.items():
-        yield what, "read_sheet", read_by(takes), ends
+        yield what, "read_sheet", read_by(takes), named("last")
     for by in (-1, 1):
-        yield f"line {2 + by} for 2", "read_sheet", other_line(by), ends
-    for kind in SHEETS:
-        what = f"wrong for {told(*kind)} alone"
-        yield what, "read_sheet", read_by(right_but_for(kind)), [("last", kind)]
+        yield f"line {2 + by} for 2", "read_sheet", other_line(by), named("last")

@@ -1,90 +1,49 @@
-"""Write key and Read key made wrong, for tests/interface/mutants.py: with other frames, another
-number of bytes or another rule for a slice, by another rule for a line, for the numbers of a
-profile, for the mark or for what is given, with refusals out of their turn, and wrong for one kind
-of tests/kinds/stored_keys.py alone.
+"""Write key and Read key made wrong: with other frames, another number of bytes or another rule for a
+slice, by another rule for a line, for the numbers of a profile, for the mark or for what is given, and
+with refusals out of their turn.
 """
 
-import ctypes
-
 from keys import NO_KEY, frame_bytes, frame_length, key_in, right_frame
+from operations import PROFILE_CAUSES
 from sheets import FIRST, hex_line, line_bytes
 from signatures import EDITIONS, Profile, SigningKey, mark_counts, profile_causes
-from stored_keys import (
-    BEHIND,
-    MARK_DIGITS,
-    READ_KINDS,
-    counter_kinds,
-    counters_of,
-    told,
-    told_frame,
-)
-from wrong_keys import COUNTING, put_state, right_counts, wrong_turns
-from wrong_orders import content, profile_of, put
+from stored_keys import mark_in
+from wrong import MOST, Writer, anywhere, leaving, refused_instead, wrong_turns
+from wrong_keys import COUNTING, KINDS, put_state, right_counts
 from zarosnik import first_cause
-
-# No frame that a test gives is longer, unless its length passes 32 bits.
-MOST_FRAME = 256
 
 
 # Write key.
 
 
-def count_of(given):
-    return ctypes.c_size_t.from_address(given["frame_written"])
-
-
 def key_of(given):
     """What the frame is made of."""
-    seeds = content(given, "public_seed"), content(given, "secret_seed")
-    return SigningKey(profile_of(given), *seeds, given["next_leaf"], given["mark"])
+    seeds = given.content("public_seed"), given.content("secret_seed")
+    return SigningKey(given.profile(), *seeds, given["next_leaf"], given["mark"])
 
 
-def restore(given, before):
-    put(given, "frame", before)
-    count_of(given).value = 0
+WRITER = Writer("frame", lambda given: right_frame(key_of(given)))
 
 
-def write_by(line_of=right_frame, needed=lambda p, line: len(line)):
-    """By a rule, which gives the line of a key, and by another, which gives the length that the
-    slice must have. What does not fit is left out."""
+def framed(change, editions=EDITIONS):
+    """Other bytes in the frame, from the right ones, in these editions."""
 
-    def wrong(right, given):
-        before = content(given, "frame", MOST_FRAME)
-        outcome = right(*given.values.values())
-        if outcome not in (0, 6):
-            return outcome
-        line = line_of(key_of(given))
-        restore(given, before)
-        if given.size("frame") < needed(profile_of(given), line):
-            return 6
-        put(given, "frame", line[: given.size("frame")])
-        count_of(given).value = len(line)
-        return 0
+    def line_of(given):
+        line = right_frame(key_of(given))
+        changed = hex_line(change(bytes.fromhex(line.decode())))
+        return changed if given["edition"] in editions else line
 
-    return wrong
-
-
-def framed(change):
-    """Other bytes in the frame, from the profile and the right ones."""
-
-    def line_of(key):
-        return hex_line(change(key.profile, bytes.fromhex(right_frame(key).decode())))
-
-    return write_by(line_of)
-
-
-def spelt(change):
-    return write_by(lambda key: change(right_frame(key)))
+    return WRITER.by(line_of)
 
 
 def marked_by(digit_of):
     """Another byte for the mark, by the height, the next leaf and the mark."""
 
-    def line_of(key):
-        mark = bytes([digit_of(key.profile.h, key.next, key.mark)])
-        return hex_line(frame_bytes(*key[:4], mark))
+    def line_of(given):
+        mark = bytes([digit_of(given["h"], given["next_leaf"], given["mark"])])
+        return hex_line(frame_bytes(*key_of(given)[:4], mark))
 
-    return write_by(line_of)
+    return WRITER.by(line_of)
 
 
 def exchanged(frame, one, other):
@@ -93,46 +52,43 @@ def exchanged(frame, one, other):
     return frame[:a] + frame[c:d] + frame[b:c] + frame[a:b] + frame[d:]
 
 
-def leaf_reserved(key):
+def leaf_reserved(given):
     """Before the mark the leaf that it is for."""
+    key = key_of(given)
     counted = mark_counts(key)
     return hex_line(frame_bytes(*key[:3], key.next - counted, bytes([counted])))
 
 
-def only_in(edition, change):
-    return framed(lambda p, f: change(f) if p.edition == edition else f)
-
-
 FRAMES = {
-    "l and w exchanged": framed(lambda p, f: exchanged(f, (1, 2), (2, 3))),
-    "w and h exchanged": framed(lambda p, f: exchanged(f, (2, 3), (3, 4))),
-    "s before h": framed(lambda p, f: exchanged(f, (3, 4), (4, 6))),
-    "s least byte first": framed(lambda p, f: exchanged(f, (4, 5), (5, 6))),
-    "one byte for s": framed(lambda p, f: f[:4] + f[5:]),
-    "the seeds exchanged": framed(lambda p, f: exchanged(f, (6, 22), (22, 38))),
-    "the public seed twice": framed(lambda p, f: f[:22] + f[6:22] + f[38:]),
-    "no secret seed": framed(lambda p, f: f[:22] + bytes(16) + f[38:]),
-    "the next leaf's least byte first": framed(lambda p, f: f[:38] + f[41:37:-1] + f[42:]),
-    "two bytes of the next leaf": framed(lambda p, f: f[:38] + bytes(2) + f[40:]),
-    "the mark before the next leaf": framed(lambda p, f: exchanged(f, (38, 42), (42, 43))),
-    "no mark's byte": framed(lambda p, f: f[:42] + f[43:]),
-    "kind 01": framed(lambda p, f: b"\1" + f[1:]),
-    "kind 06": framed(lambda p, f: b"\6" + f[1:]),
-    "no kind": framed(lambda p, f: f[1:]),
-    "no last byte in edition 2": only_in(2, lambda f: f[:-1]),
-    "01 for edition 2": only_in(2, lambda f: f[:-1] + b"\1"),
-    "02 in edition 1": only_in(1, lambda f: f + b"\2"),
-    "01 in edition 1": only_in(1, lambda f: f + b"\1"),
-    "02 before the mark": only_in(2, lambda f: f[:42] + b"\2" + f[42:43]),
-    "lower-case digits": spelt(lambda line: line.lower()),
-    "0D for 0A": spelt(lambda line: line[:-1] + b"\r"),
-    "0D 0A for 0A": spelt(lambda line: line[:-1] + b"\r\n"),
-    "no 0A": spelt(lambda line: line[:-1]),
-    "0A twice": spelt(lambda line: line + b"\n"),
-    "a zero byte behind 0A": spelt(lambda line: line + b"\0"),
-    "a sheet's first line": spelt(lambda line: hex_line(FIRST) + line),
-    "the low digit first": spelt(lambda line: line[1::-1] + line[2:]),
-    "the leaf reserved for the next leaf": write_by(leaf_reserved),
+    "l and w exchanged": framed(lambda f: exchanged(f, (1, 2), (2, 3))),
+    "w and h exchanged": framed(lambda f: exchanged(f, (2, 3), (3, 4))),
+    "s before h": framed(lambda f: exchanged(f, (3, 4), (4, 6))),
+    "s least byte first": framed(lambda f: exchanged(f, (4, 5), (5, 6))),
+    "one byte for s": framed(lambda f: f[:4] + f[5:]),
+    "the seeds exchanged": framed(lambda f: exchanged(f, (6, 22), (22, 38))),
+    "the public seed twice": framed(lambda f: f[:22] + f[6:22] + f[38:]),
+    "no secret seed": framed(lambda f: f[:22] + bytes(16) + f[38:]),
+    "the next leaf's least byte first": framed(lambda f: f[:38] + f[41:37:-1] + f[42:]),
+    "two bytes of the next leaf": framed(lambda f: f[:38] + bytes(2) + f[40:]),
+    "the mark before the next leaf": framed(lambda f: exchanged(f, (38, 42), (42, 43))),
+    "no mark's byte": framed(lambda f: f[:42] + f[43:]),
+    "kind 01": framed(lambda f: b"\1" + f[1:]),
+    "kind 06": framed(lambda f: b"\6" + f[1:]),
+    "no kind": framed(lambda f: f[1:]),
+    "no last byte in edition 2": framed(lambda f: f[:-1], [2]),
+    "01 for edition 2": framed(lambda f: f[:-1] + b"\1", [2]),
+    "02 in edition 1": framed(lambda f: f + b"\2", [1]),
+    "01 in edition 1": framed(lambda f: f + b"\1", [1]),
+    "02 before the mark": framed(lambda f: f[:42] + b"\2" + f[42:43], [2]),
+    "lower-case digits": WRITER.changed(lambda line: line.lower()),
+    "0D for 0A": WRITER.changed(lambda line: line[:-1] + b"\r"),
+    "0D 0A for 0A": WRITER.changed(lambda line: line[:-1] + b"\r\n"),
+    "no 0A": WRITER.changed(lambda line: line[:-1]),
+    "0A twice": WRITER.changed(lambda line: line + b"\n"),
+    "a zero byte behind 0A": WRITER.changed(lambda line: line + b"\0"),
+    "a sheet's first line": WRITER.changed(lambda line: hex_line(FIRST) + line),
+    "the low digit first": WRITER.changed(lambda line: line[1::-1] + line[2:]),
+    "the leaf reserved for the next leaf": WRITER.by(leaf_reserved),
     "the mark as its last byte": marked_by(lambda h, n, m: m % 256),
     "an idle mark as 01": marked_by(lambda h, n, m: int(m == 1)),
     "always 00 for the mark": marked_by(lambda h, n, m: 0),
@@ -141,81 +97,30 @@ FRAMES = {
 }
 
 
-def counting(rule):
-    """Another number of bytes, from the right one."""
-
-    def wrong(right, given):
-        outcome = right(*given.values.values())
-        if outcome == 0:
-            count_of(given).value = rule(given, count_of(given).value)
-        return outcome
-
-    return wrong
-
-
-def half_counted(right, given):
-    """Four of the eight bytes are written."""
-    high = ctypes.c_uint32.from_address(given["frame_written"] + 4)
-    before = high.value
-    outcome = right(*given.values.values())
-    high.value = before
-    return outcome
-
-
-def needed_told(right, given):
-    outcome = right(*given.values.values())
-    if outcome == 6:
-        count_of(given).value = frame_length(profile_of(given))
-    return outcome
-
-
-def what_fits_written(right, given):
-    """Up to the slice's end, and 6."""
-    outcome = right(*given.values.values())
-    if outcome == 6:
-        put(given, "frame", right_frame(key_of(given))[: given.size("frame")])
-    return outcome
-
-
-def longer_refused(right, given):
-    before = content(given, "frame", MOST_FRAME)
-    outcome = right(*given.values.values())
-    if outcome == 0 and given.size("frame") > frame_length(profile_of(given)):
-        restore(given, before)
-        return 6
-    return outcome
-
-
 def refused_where(cause, holds):
-    """A key that is written is refused."""
+    """A key that is written is refused, by the height, the next leaf and the mark."""
+    return refused_instead(
+        "frame", cause, lambda given: holds(given["h"], given["next_leaf"], given["mark"])
+    )
 
-    def wrong(right, given):
-        before = content(given, "frame", MOST_FRAME)
-        outcome = right(*given.values.values())
-        if outcome == 0 and holds(given["h"], given["next_leaf"], given["mark"]):
-            restore(given, before)
-            return cause
-        return outcome
 
-    return wrong
+def needing(length_of):
+    return WRITER.by(needed=lambda given, line: length_of(len(line)))
+
+
+def longer(given):
+    return given.size("frame") > frame_length(given.profile())
 
 
 WRITES = {
-    "one more counted": counting(lambda given, count: count + 1),
-    "one less counted": counting(lambda given, count: count - 1),
-    "nothing counted": counting(lambda given, count: 0),
-    "the frame's bytes counted": counting(lambda given, count: count // 2),
-    "the slice's length counted": counting(lambda given, count: given.size("frame")),
-    "edition 1's length counted": counting(lambda given, count: 87),
-    "edition 2's length counted": counting(lambda given, count: 89),
-    "four bytes of the count": half_counted,
-    "the length needed told after 6": needed_told,
-    "a byte too few taken": write_by(needed=lambda p, line: len(line) - 1),
-    "a byte more asked for": write_by(needed=lambda p, line: len(line) + 1),
-    "edition 1's length asked for": write_by(needed=lambda p, line: 87),
-    "edition 2's length asked for": write_by(needed=lambda p, line: 89),
-    "a longer slice refused": longer_refused,
-    "written up to the slice's end by 6": what_fits_written,
+    "the frame's bytes counted": WRITER.counting(lambda given, count: count // 2),
+    "edition 1's length counted": WRITER.counting(lambda given, count: 87),
+    "edition 2's length counted": WRITER.counting(lambda given, count: 89),
+    "a byte too few taken": needing(lambda size: size - 1),
+    "a byte more asked for": needing(lambda size: size + 1),
+    "edition 1's length asked for": needing(lambda size: 87),
+    "edition 2's length asked for": needing(lambda size: 89),
+    "a longer slice refused": refused_instead("frame", 6, longer),
     "12 for a spent key": refused_where(12, lambda h, n, m: n > 2**h),
     "12 for a next leaf of 2^h": refused_where(12, lambda h, n, m: n == 2**h),
     "17 for an idle mark": refused_where(17, lambda h, n, m: m == 1 != right_counts(h, n, m)),
@@ -229,18 +134,18 @@ WRITES = {
 
 def put_key(given, key, line):
     given.words("profile")[:] = list(key.profile)
-    put(given, "public_seed", key.seed)
-    put(given, "secret_seed", key.secret)
+    given.put("public_seed", key.seed)
+    given.put("secret_seed", key.secret)
     put_state(given, key[3:])
     given.words("line")[0] = line
 
 
 def read_by(key_of_frame, line=1):
     def wrong(right, given):
-        outcome = right(*given.values.values())
-        if given.size("frame") > MOST_FRAME:
+        outcome = right()
+        if given.size("frame") > MOST["frame"]:
             return outcome
-        key = key_of_frame(content(given, "frame", MOST_FRAME))
+        key = key_of_frame(given.content("frame"))
         put_key(given, *((NO_KEY, line) if key is None else (key, 0)))
         return 17 if key is None else 0
 
@@ -327,17 +232,12 @@ def given_as(change):
     return read_by(key_of_frame)
 
 
-def raw_mark(frame):
-    """The mark as it stands."""
-    return int(frame[MARK_DIGITS[0] : MARK_DIGITS[-1] + 1])
-
-
 def marked(rule):
     """Another mark, by the height, the next leaf and the mark that stands there."""
 
     def key_of_frame(frame):
         key = right_key(frame)
-        return key and key._replace(mark=int(rule(key.profile.h, key.next, raw_mark(frame))))
+        return key and key._replace(mark=int(rule(key.profile.h, key.next, mark_in(frame))))
 
     return read_by(key_of_frame)
 
@@ -458,144 +358,61 @@ READS = {
 }
 
 
-def line_told(right, given):
-    """1 where it is granted."""
-    outcome = right(*given.values.values())
+def line_told(given):
     given.words("line")[0] = 1
-    return outcome
 
 
-def what_was_read(right, given):
+def bytes_in(given):
+    """Those of a whole line with the profile, or None."""
+    data = right_line(given.content("frame"))
+    return data if data and len(data) in (43, 44) else None
+
+
+def what_was_read(given):
     """By 17 too, what stands at the right places."""
-    outcome = right(*given.values.values())
-    data = line_bytes(content(given, "frame", MOST_FRAME)[:86])
-    if outcome == 17 and data and len(data) == 43:
+    data = line_bytes(given.content("frame")[:86])
+    if data and len(data) == 43:
         p = Profile(*data[1:3], int.from_bytes(data[4:6], "big"), data[3], 1)
         state = int.from_bytes(data[38:42], "big"), data[42]
         put_key(given, SigningKey(p, data[6:22], data[22:38], *state), 1)
-    return outcome
 
 
 def profile_told(right, given):
     """The profile's own refusal for 17."""
-    outcome = right(*given.values.values())
-    data = right_line(content(given, "frame", MOST_FRAME))
-    if outcome == 17 and data and len(data) in (43, 44):
+    outcome, data = right(), bytes_in(given)
+    if outcome == 17 and data:
         p = Profile(*data[1:3], int.from_bytes(data[4:6], "big"), data[3], 1)
         return first_cause(profile_causes(p)) or 17
     return outcome
 
 
-READS |= {"line 1 where granted": line_told, "what was read given with 17": what_was_read}
+READS |= {"line 1 where granted": leaving(line_told, 0)}
+READS |= {"what was read given with 17": leaving(what_was_read, 17)}
 READS |= {"the profile's refusal for 17": profile_told}
-
-
-# Wrong for one kind alone.
-
-
-def written_wrong(kind):
-    """Another mark is written for a next leaf and a mark of this kind."""
-
-    def wrong(right, given):
-        outcome = right(*given.values.values())
-        counter = given["next_leaf"], given["mark"]
-        if outcome == 0 and kind in counter_kinds(profile_of(given), *counter):
-            given.flip("frame", MARK_DIGITS[-1])
-        return outcome
-
-    return wrong
-
-
-def read_wrong(kind):
-    """The same of a mark that is read."""
-
-    def wrong(right, given):
-        outcome = right(*given.values.values())
-        if outcome == 0:
-            p, mark = Profile(*given.words("profile")), raw_mark(content(given, "frame"))
-            if kind in counter_kinds(p, given.words("next_leaf")[0], mark):
-                given.words("mark")[0] ^= 1
-        return outcome
-
-    return wrong
-
-
-def taken_where(holds):
-    """A frame that is refused is taken where this holds of it; what is given stays zero."""
-
-    def wrong(right, given):
-        outcome = right(*given.values.values())
-        if outcome == 17 and holds(content(given, "frame", MOST_FRAME)):
-            given.words("line")[0] = 0
-            return 0
-        return outcome
-
-    return wrong
-
-
-def refused_frame(kind):
-    """Whether a frame may be of this kind, by what is told apart here."""
-    edition, what, detail = kind
-    length = 87 if edition == 1 else 89
-    if what == "cut to":
-        return lambda frame: len(frame) == detail
-    if what == "no digit at":
-        return lambda frame: len(frame) == length and line_bytes(2 * frame[detail:][:1]) is None
-    if what == "behind it":
-        return lambda frame: frame.endswith(b"\n" + (BEHIND[detail] or frame[:length]))
-    if what == "kind":
-        return lambda frame: len(frame) == length and frame.startswith(detail.encode())
-    if what == "mark":
-        return lambda frame: len(frame) == length and frame[84:86] == detail.encode()
-    if what == "behind the mark":
-        return lambda frame: frame[86:] == detail.encode() + b"\n"
-    return None
-
-
-def wrong_kinds():
-    """Of stored keys those of which a frame is told by its length or some of its bytes."""
-    for operation, made in [("write_key", written_wrong), ("read_key", read_wrong)]:
-        for kind in counters_of(operation):
-            yield f"wrong for {told(kind)} alone", operation, made(kind), (operation, kind)
-    for kind, answer in READ_KINDS.items():
-        holds = refused_frame(kind) if answer == 17 else None
-        if holds:
-            what = f"taken: {told_frame(kind)}"
-            yield what, "read_key", taken_where(holds), ("read_key", kind)
 
 
 # Out of turn, and other numbers.
 
 
 def frame_too_short(given):
-    return given.size("frame") < frame_length(profile_of(given))
+    return given.size("frame") < frame_length(given.profile())
 
 
-TURNS = {"write_key": [(6, frame_too_short, [1, 2, 3, 4, 22])]}
-NUMBERS = {
-    "write_key": [(6, 5), (6, 13)],
-    "read_key": [(17, number) for number in (1, 4, 5, 6, 13, 22)],
-}
+def right():
+    yield "nothing", "write_key", WRITER.by(), anywhere
+    yield "nothing", "read_key", read_by(right_key), anywhere
+    yield "nothing", "read_key", loosely(lambda l, w, s, h: False), anywhere
 
 
-def right_frames():
-    """As they are to be, made in the way of the wrong ones: nothing is to be seen."""
-    yield "write_key", write_by()
-    yield "read_key", read_by(right_key)
-    yield "read_key", loosely(lambda l, w, s, h: False)
-
-
-def wrong_frames():
-    """What is wrong, with which operation, the wrong function, and where it must be seen, as by
-    tests/kinds/wrong_keys.py."""
+def wrong():
     for what, counts in COUNTING.items():
         written = marked_by(lambda h, n, m, counts=counts: int(counts(h, n, m)))
-        yield what, "write_key", written, "kinds"
-    for what, wrong in (FRAMES | WRITES).items():
-        yield what, "write_key", wrong, "kinds"
-    for what, wrong in (LINES | READS).items():
-        yield what, "read_key", wrong, "kinds"
-    for what, holds in LIMITS.items():
-        yield what, "read_key", loosely(holds), "kinds"
-    yield from wrong_turns(TURNS, NUMBERS)
-    yield from wrong_kinds()
+        yield what, "write_key", written, KINDS
+    for what, function in (FRAMES | dict(WRITER.wrong_counts()) | WRITES).items():
+        yield what, "write_key", function, KINDS
+    limits = {what: loosely(holds) for what, holds in LIMITS.items()}
+    for what, function in (LINES | READS | limits).items():
+        yield what, "read_key", function, KINDS
+    turns = [(6, frame_too_short, PROFILE_CAUSES)]
+    yield from wrong_turns("write_key", turns, [(6, 5), (6, 13)])
+    yield from wrong_turns("read_key", [], [(17, number) for number in (1, 4, 5, 6, 13, 22)])

@@ -1,14 +1,14 @@
-"""Reserve and Sign made wrong in a key's next leaf and its mark, for tests/interface/mutants.py: by
-another rule for a mark that counts, for what is reserved or signed with or for what is left, with
-refusals out of their turn, and wrong for one kind of tests/kinds/stored_keys.py alone. Write key and Read
-key are made wrong in tests/kinds/wrong_frames.py.
+"""Reserve and Sign made wrong in a key's next leaf and its mark: by another rule for a mark that
+counts, for what is reserved or signed with or for what is left, and with refusals out of their turn.
+Write key and Read key are made wrong in wrong_frames.py.
 """
 
-from inputs import CAUSES
+from operations import CAUSES, PROFILE_CAUSES
 from signatures import with_table
-from stored_keys import MOST_WORD, counter_kinds, counters_of, told
-from wrong_orders import is_scant, profile_of, put
+from stored_keys import MOST_WORD
+from wrong import anywhere, is_scant, laid, leaving, named, wrong_turns
 
+KINDS = named("counter", "key_slice", "stored")
 MOST_HEIGHT = 10
 
 
@@ -54,7 +54,7 @@ def put_state(given, state):
 def reserve_by(rule):
     def wrong(right, given):
         before = state_of(given)
-        outcome = right(*given.values.values())
+        outcome = right()
         if outcome not in (0, 21, 12):
             return outcome
         refused, *after = rule(given["h"], *before)
@@ -74,7 +74,7 @@ def reserving(counts):
     return reserve_by(lambda h, n, m: right_reserve(h, n, m, counts))
 
 
-def leaving(outcome, left):
+def counter_left(outcome, left):
     """Something else is left with an outcome."""
 
     def rule(h, n, m):
@@ -105,23 +105,23 @@ RESERVES = {
     "12 from 2^h + 1 on": spent_from(lambda h: 2**h + 1),
     "12 from 1,024 leaves on": spent_from(lambda h: 2**10),
     "no 12": spent_from(lambda h: 2**33),
-    "the next leaf stays": leaving(0, lambda h, n, m: (n, 1)),
-    "the next leaf rises by 2": leaving(0, lambda h, n, m: (n + 2, 1)),
-    "the next leaf falls": leaving(0, lambda h, n, m: (n - 1, 1)),
-    "no mark set": leaving(0, lambda h, n, m: (n + 1, 0)),
-    "the mark stays": leaving(0, lambda h, n, m: (n + 1, m)),
-    "the mark rises": leaving(0, lambda h, n, m: (n + 1, m + 1)),
-    "2 for the mark": leaving(0, lambda h, n, m: (n + 1, 2)),
-    "all ones for the mark": leaving(0, lambda h, n, m: (n + 1, MOST_WORD)),
-    "one byte of the mark": leaving(0, lambda h, n, m: (n + 1, m >> 8 << 8 | 1)),
-    "the mark beside the bits": leaving(0, lambda h, n, m: (n + 1, m | 1)),
-    "nothing left": leaving(0, lambda h, n, m: (n, m)),
-    "the next leaf rises by 21": leaving(21, lambda h, n, m: (n + 1, m)),
-    "the mark is cleared by 21": leaving(21, lambda h, n, m: (n, 0)),
-    "the next leaf rises by 12": leaving(12, lambda h, n, m: (n + 1, m)),
-    "the mark is set by 12": leaving(12, lambda h, n, m: (n, 1)),
-    "the mark is cleared by 12": leaving(12, lambda h, n, m: (n, 0)),
-    "the next leaf falls to 2^h by 12": leaving(12, lambda h, n, m: (2**h, m)),
+    "the next leaf stays": counter_left(0, lambda h, n, m: (n, 1)),
+    "the next leaf rises by 2": counter_left(0, lambda h, n, m: (n + 2, 1)),
+    "the next leaf falls": counter_left(0, lambda h, n, m: (n - 1, 1)),
+    "no mark set": counter_left(0, lambda h, n, m: (n + 1, 0)),
+    "the mark stays": counter_left(0, lambda h, n, m: (n + 1, m)),
+    "the mark rises": counter_left(0, lambda h, n, m: (n + 1, m + 1)),
+    "2 for the mark": counter_left(0, lambda h, n, m: (n + 1, 2)),
+    "all ones for the mark": counter_left(0, lambda h, n, m: (n + 1, MOST_WORD)),
+    "one byte of the mark": counter_left(0, lambda h, n, m: (n + 1, m >> 8 << 8 | 1)),
+    "the mark beside the bits": counter_left(0, lambda h, n, m: (n + 1, m | 1)),
+    "nothing left": counter_left(0, lambda h, n, m: (n, m)),
+    "the next leaf rises by 21": counter_left(21, lambda h, n, m: (n + 1, m)),
+    "the mark is cleared by 21": counter_left(21, lambda h, n, m: (n, 0)),
+    "the next leaf rises by 12": counter_left(12, lambda h, n, m: (n + 1, m)),
+    "the mark is set by 12": counter_left(12, lambda h, n, m: (n, 1)),
+    "the mark is cleared by 12": counter_left(12, lambda h, n, m: (n, 0)),
+    "the next leaf falls to 2^h by 12": counter_left(12, lambda h, n, m: (2**h, m)),
 }
 
 
@@ -133,7 +133,7 @@ def sign_as(right, given, next_leaf, mark):
     """The right function with another next leaf and mark; the mark stays where it refuses."""
     before = given.words("mark")[0]
     given.words("mark")[0] = mark
-    outcome = right(*(given.values | {"next_leaf": next_leaf % 2**32}).values())
+    outcome = right(next_leaf=next_leaf % 2**32)
     if outcome:
         given.words("mark")[0] = before
     return outcome
@@ -145,7 +145,7 @@ def signing(counts):
         # of a height that no tree has there is no other rule
         counted = (counts if h <= MOST_HEIGHT else right_counts)(h, next_leaf, mark)
         if counted == right_counts(h, next_leaf, mark):
-            return right(*given.values.values())
+            return right()
         return sign_as(right, given, min(max(next_leaf, 1), 2**h), int(counted))
 
     return wrong
@@ -163,77 +163,44 @@ def with_leaf(leaf_of):
 
 def leaf_named(number_of):
     """Another leaf in the signature's first bytes."""
-
-    def wrong(right, given):
-        outcome = right(*given.values.values())
-        if outcome == 0:
-            put(given, "signature", number_of(given["next_leaf"]))
-        return outcome
-
-    return wrong
+    return leaving(lambda given: given.put("signature", number_of(given["next_leaf"])), 0)
 
 
-def mark_left(number, outcomes=(0,)):
-    def wrong(right, given):
-        outcome = right(*given.values.values())
-        if outcome in outcomes:
-            given.words("mark")[0] = number
-        return outcome
+def mark_left(number, *outcomes):
+    def change(given):
+        given.words("mark")[0] = number
 
-    return wrong
+    return leaving(change, *outcomes)
 
 
-def table_left(right, given):
-    """By 20 too."""
-    outcome = right(*given.values.values())
-    if outcome == 20:
-        p, work = profile_of(given), list(given.words("table"))
-        given.words("table")[:] = with_table(p, work)
-    return outcome
+def fill_table(given):
+    given.words("table")[:] = with_table(given.profile(), list(given.words("table")))
 
 
 def scant_first(right, given):
     """19 before 20, with the table."""
-    outcome = right(*given.values.values())
+    outcome = right()
     if outcome == 20 and is_scant(given):
-        table_left(lambda *values: 20, given)
+        fill_table(given)
         return 19
     return outcome
 
 
 SIGNS = {
-    "the mark stays": mark_left(1),
-    "2 for the mark": mark_left(2),
-    "all ones for the mark": mark_left(MOST_WORD),
+    "the mark stays": mark_left(1, 0),
+    "2 for the mark": mark_left(2, 0),
+    "all ones for the mark": mark_left(MOST_WORD, 0),
     "the next leaf signs": with_leaf(lambda h, n: n),
     "the leaf below signs": with_leaf(lambda h, n: n - 2),
     "leaf 0 signs": with_leaf(lambda h, n: 0 if 1 <= n <= 2**h else n - 1),
     "the next leaf is named": leaf_named(lambda n: n.to_bytes(4, "big")),
     "leaf 0 is named": leaf_named(lambda n: bytes(4)),
     "the leaf's least byte first": leaf_named(lambda n: (n - 1).to_bytes(4, "little")),
-    "the table left after 20": table_left,
+    "the table left after 20": leaving(fill_table, 20),
 }
 
 
 # Out of turn, and other numbers.
-
-
-def told_before(cause, later, holds):
-    """A later cause goes first."""
-
-    def wrong(right, given):
-        outcome = right(*given.values.values())
-        return later if outcome == cause and holds(given) else outcome
-
-    return wrong
-
-
-def another_number(cause, number):
-    def wrong(right, given):
-        outcome = right(*given.values.values())
-        return number if outcome == cause else outcome
-
-    return wrong
 
 
 def stands(given):
@@ -250,8 +217,8 @@ def no_leaf_reserved(given):
 
 # The later cause, whether it holds, and the causes that come before it.
 TURNS = {
-    "reserve": [(21, stands, [1, 2, 3, 4, 22]), (12, is_spent, [1, 2, 3, 4, 22])],
-    "sign": [(20, no_leaf_reserved, [1, 2, 3, 4, 22, 5, 16, 6])],
+    "reserve": [(21, stands, PROFILE_CAUSES), (12, is_spent, PROFILE_CAUSES)],
+    "sign": [(20, no_leaf_reserved, [*PROFILE_CAUSES, 5, 16, 6])],
 }
 NUMBERS = {
     "reserve": [(21, 20), (21, 12), (12, 21), (12, 11)],
@@ -259,75 +226,29 @@ NUMBERS = {
 }
 
 
-def laid(*causes):
-    """Where just these causes are laid."""
-    return [("single", (causes,))]
-
-
-def wrong_turns(turns=TURNS, numbers=NUMBERS):
-    for operation, told_later in turns.items():
-        for later, holds, causes in told_later:
-            for cause in causes:
-                wrong = told_before(cause, later, holds)
-                yield f"{later} before {cause}", operation, wrong, laid(cause, later)
-    for operation, pairs in numbers.items():
-        for cause, number in pairs:
-            yield f"{number} for {cause}", operation, another_number(cause, number), laid(cause)
-
-
 def wrong_marks():
     """What refusals of Sign leave. A mark can be cleared where a leaf is reserved, and be set where
     none is."""
     yield "19 before 20", "sign", scant_first, laid(20, 19)
     for cause in CAUSES["sign"]:
-        where = "kinds" if cause == 20 else laid(cause)
-        yield f"the mark is cleared by {cause}", "sign", mark_left(0, (cause,)), where
+        where = KINDS if cause == 20 else laid(cause)
+        yield f"the mark is cleared by {cause}", "sign", mark_left(0, cause), where
         if cause != 19:
-            where = "kinds" if cause == 20 else laid(cause, 20)
-            yield f"the mark is set by {cause}", "sign", mark_left(1, (cause,)), where
+            where = KINDS if cause == 20 else laid(cause, 20)
+            yield f"the mark is set by {cause}", "sign", mark_left(1, cause), where
 
 
-# Wrong for one kind alone.
+def right():
+    yield "nothing", "reserve", reserve_by(right_reserve), anywhere
+    yield "nothing", "sign", signing(right_counts), anywhere
 
 
-def counter_of(operation, given):
-    """The next leaf and the mark that a call of Reserve or Sign is given."""
-    if operation == "reserve":
-        return state_of(given)
-    return given["next_leaf"], given.words("mark")[0]
-
-
-def wrong_with(operation, kind):
-    """Another mark is left with a next leaf and a mark of this kind."""
-
-    def wrong(right, given):
-        p, counter = profile_of(given), counter_of(operation, given)
-        outcome = right(*given.values.values())
-        if outcome in (0, 20, 21, 12) and kind in counter_kinds(p, *counter):
-            given.words("mark")[0] ^= 1
-        return outcome
-
-    return wrong
-
-
-def right_keys():
-    """As they are to be, made in the way of the wrong ones: nothing is to be seen."""
-    yield "reserve", reserve_by(right_reserve)
-    yield "sign", signing(right_counts)
-
-
-def wrong_keys():
-    """What is wrong, with which operation, the wrong function, and where it must be seen: in some
-    cases of the plan, told as in tests/kinds/wrong_editions.py, with the kinds of a next leaf and a mark,
-    or with one of these."""
+def wrong():
     for what, counts in COUNTING.items():
-        yield what, "reserve", reserving(counts), "kinds"
-        yield what, "sign", signing(counts), "kinds"
+        yield what, "reserve", reserving(counts), KINDS
+        yield what, "sign", signing(counts), KINDS
     for operation, made in [("reserve", RESERVES), ("sign", SIGNS)]:
-        for what, wrong in made.items():
-            yield what, operation, wrong, "kinds"
-        for kind in counters_of(operation):
-            what = f"wrong for {told(kind)} alone"
-            yield what, operation, wrong_with(operation, kind), (operation, kind)
-    yield from wrong_turns()
+        for what, function in made.items():
+            yield what, operation, function, KINDS
+        yield from wrong_turns(operation, TURNS[operation], NUMBERS[operation])
     yield from wrong_marks()

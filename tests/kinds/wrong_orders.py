@@ -1,15 +1,12 @@
-"""Sign and Check made wrong in the number of an order and in refusal 19, for
-tests/interface/mutants.py: by another rule for the bits or for 19, with 19 told before a cause that
-comes first or behind one that comes later, and with something changed that 19 must leave as it was,
-or left that it must change.
+"""Sign and Check made wrong in the number of an order and in refusal 19: by another rule for the bits
+or for 19, with 19 told before a cause that comes first or behind one that comes later, and with
+something changed that 19 must leave as it was, or left that it must change.
 """
 
-import ctypes
 import itertools
 
 import shapes
-from calls import ORDERS, STATES
-from inputs import CAUSES
+from operations import CAUSES, ORDERS, STATES
 from signatures import (
     LEAST_COUNT,
     Profile,
@@ -17,31 +14,16 @@ from signatures import (
     count_of,
     order_digest,
     pieces,
-    profile_causes,
     recovered,
     root_of,
     signature_of,
     with_leaf,
 )
-from zarosnik import MOST_BITS, first_bits, first_cause, number_bits, table_length, ways
+from wrong import anywhere, given_just, granted, is_scant, laid, leaving, named, told_before
+from zarosnik import MOST_BITS, first_bits, number_bits, table_length
 
 # What an order is answered with once its turn has come for the count.
 JUDGED = (0, 15, 19)
-# No signature, no right sheet and no table is longer.
-MOST_SIGNATURE, MOST_SHEET, MOST_TABLE = 820, 4096, 4 * 123205
-
-
-def content(given, name, most=MOST_SIGNATURE):
-    """What stands in memory, as far as a profile may need it."""
-    return ctypes.string_at(given[name], min(given.size(name), most))
-
-
-def put(given, name, data):
-    ctypes.memmove(given[name], data, len(data))
-
-
-def leaf_of(given):
-    return int.from_bytes(content(given, "signature")[:4], "big")
 
 
 def window_of(given):
@@ -54,16 +36,6 @@ def put_window(given, window):
         given.words(name)[0] = number
 
 
-def profile_of(given):
-    return Profile(*(given[name] for name in Profile._fields))
-
-
-def is_scant(given):
-    """Whether the profile is within the limits and its count below 256."""
-    p = profile_of(given)
-    return not first_cause(profile_causes(p)) and count_of(p) < LEAST_COUNT
-
-
 def right_digest(given, p, *order):
     return order_digest(p, *order)
 
@@ -74,17 +46,17 @@ def sign_by(rule, digests=(right_digest,)):
     (digest_of,) = digests
 
     def wrong(right, given):
-        leaf, before = given["next_leaf"] - 1, content(given, "signature")
-        outcome = right(*given.values.values())
+        leaf, before = given["next_leaf"] - 1, given.content("signature")
+        outcome = right()
         if outcome not in JUDGED:
             return outcome
-        p, r = profile_of(given), content(given, "r")
-        seeds = content(given, "public_seed"), content(given, "secret_seed")
-        root, text = root_of(p, *seeds), content(given, "message")
-        digest = digest_of(given, p, r, seeds[0], root, leaf, text)
-        refused, number = rule(count_of(p), digest)
+        p, r = given.profile(), given.content("r")
+        seeds = given.content("public_seed"), given.content("secret_seed")
+        root, text = root_of(p, *seeds), given.content("message")
+        refused, number = rule(count_of(p), digest_of(given, p, r, seeds[0], root, leaf, text))
         given.words("mark")[0] = 1 if refused else 0
-        put(given, "signature", before if refused else signature_of(p, *seeds, leaf, r, number))
+        made = before if refused else signature_of(p, *seeds, leaf, r, number)
+        given.put("signature", made)
         return refused
 
     return wrong
@@ -92,10 +64,10 @@ def sign_by(rule, digests=(right_digest,)):
 
 def judge(given, rule, digest_of=right_digest):
     """The refusal of a signature by a rule, or 0, and the steps."""
-    p, signature = profile_of(given), content(given, "signature")
-    seed, root = content(given, "public_seed"), content(given, "root")
-    leaf, end = leaf_of(given), 20 + 16 * p.l
-    digest = digest_of(given, p, signature[4:20], seed, root, leaf, content(given, "message"))
+    p, signature = given.profile(), given.content("signature")
+    seed, root = given.content("public_seed"), given.content("root")
+    leaf, end = given.leaf(), 20 + 16 * p.l
+    digest = digest_of(given, p, signature[4:20], seed, root, leaf, given.content("message"))
     refused, number = rule(count_of(p), digest)
     if refused:
         return refused, 0
@@ -109,14 +81,14 @@ def verify_by(*rules, digests=(right_digest,)):
 
     def wrong(right, given):
         window = window_of(given)
-        outcome = right(*given.values.values())
+        outcome = right()
         if outcome not in JUDGED:
             return outcome
         put_window(given, window)
         for rule, digest_of in itertools.product(rules, digests):
             refused, given.words("steps")[0] = judge(given, rule, digest_of)
             if not refused:
-                window = with_leaf(*window, leaf_of(given))
+                window = with_leaf(*window, given.leaf())
                 break
         put_window(given, window)
         return refused
@@ -170,60 +142,44 @@ def least_byte_first(count, digest):
     return int.from_bytes(digest[:16], "little") >> MOST_BITS - number_bits(count)
 
 
-def rules():
-    smallest, least_signing = (shapes.neighbours(shapes.LEAST_BITS)[side] for side in (0, 1))
-    yield "a bit too many", by_bits(lambda count: number_bits(count) + 1)
-    yield "a bit too many, up to 128", by_bits(lambda count: min(number_bits(count) + 1, MOST_BITS))
-    yield "a bit too many if below the count", by_number(one_more_if_below)
-    yield "a bit too few", by_bits(lambda count: number_bits(count) - 1)
-    yield "127 bits at most", by_bits(lambda count: min(number_bits(count), MOST_BITS - 1))
-    yield "more than 128 bits", by_bits(lambda count: count.bit_length() - 1)
-    yield "whole bytes", by_bits(lambda count: number_bits(count) // 8 * 8)
-    yield "whole words", by_bits(lambda count: number_bits(count) // 32 * 32)
-    yield "bits within a word", by_bits(lambda count: number_bits(count) % 32)
-    yield "the digest's last bits", by_number(lambda count, digest: last_bits(digest, count))
-    yield "the last of 16 bytes", by_number(lambda count, digest: last_bits(digest[:16], count))
-    yield "the second 16 bytes", by_number(lambda count, digest: right_number(count, digest[16:]))
-    yield "the least byte first", by_number(least_byte_first)
-    yield "16 bytes modulo the count", by_number(
+RULES = {
+    "a bit too many": by_bits(lambda count: number_bits(count) + 1),
+    "a bit too many, up to 128": by_bits(lambda count: min(number_bits(count) + 1, MOST_BITS)),
+    "a bit too many if below the count": by_number(one_more_if_below),
+    "a bit too few": by_bits(lambda count: number_bits(count) - 1),
+    "127 bits at most": by_bits(lambda count: min(number_bits(count), MOST_BITS - 1)),
+    "more than 128 bits": by_bits(lambda count: count.bit_length() - 1),
+    "whole bytes": by_bits(lambda count: number_bits(count) // 8 * 8),
+    "whole words": by_bits(lambda count: number_bits(count) // 32 * 32),
+    "bits within a word": by_bits(lambda count: number_bits(count) % 32),
+    "the digest's last bits": by_number(lambda count, digest: last_bits(digest, count)),
+    "the last of 16 bytes": by_number(lambda count, digest: last_bits(digest[:16], count)),
+    "the second 16 bytes": by_number(lambda count, digest: right_number(count, digest[16:])),
+    "the least byte first": by_number(least_byte_first),
+    "16 bytes modulo the count": by_number(
         lambda count, digest: earlier_number(count, digest) % count
-    )
-    yield "16 bytes where these are below the count", by_number(earlier_if_below)
-    yield "the rule of earlier days behind 19", by_number(earlier_number)
-    yield "the rule of earlier days", by_number(earlier_number, least=0)
+    ),
+    "16 bytes where these are below the count": by_number(earlier_if_below),
+    "the rule of earlier days behind 19": by_number(earlier_number),
+    "the rule of earlier days": by_number(earlier_number, least=0),
+}
+
+
+def limits():
+    """Other rules for 19."""
+    below, above = shapes.neighbours(shapes.LEAST_BITS)
     yield "no 19", by_number(right_number, least=0)
-    yield "19 not at 255", by_number(right_number, least=smallest)
+    yield "19 not at 255", by_number(right_number, least=below)
     yield "19 below 128", by_number(right_number, least=128)
-    yield "19 at the least count that signs", by_number(right_number, least=least_signing + 1)
+    yield "19 at the least count that signs", by_number(right_number, least=above + 1)
     yield "19 below 512", by_number(right_number, least=512)
-    yield "7 for 19", by_number(right_number, refusal=7)
-    yield "5 for 19", by_number(right_number, refusal=5)
-
-
-def rule_at(expected):
-    """A bit too few just where the count is this one; a count that must be refused is not."""
-
-    def rule(count, digest):
-        if count != expected:
-            return by_number(right_number)(count, digest)
-        return 0, right_number(count, digest) >> 1
-
-    return rule
 
 
 # Refusal 19 itself.
 
 
-def told_before(cause):
-    def wrong(right, given):
-        outcome = right(*given.values.values())
-        return 19 if outcome == cause and is_scant(given) else outcome
-
-    return wrong
-
-
 def root_judged_first(right, given):
-    outcome = right(*given.values.values())
+    outcome = right()
     if outcome == 19:
         refused, steps = judge(given, by_number(right_number, least=0))
         if refused:
@@ -233,71 +189,67 @@ def root_judged_first(right, given):
 
 
 def no_table(right, given):
-    before = content(given, "table", MOST_TABLE)
-    outcome = right(*given.values.values())
+    before = given.content("table")
+    outcome = right()
     if outcome == 19:
-        put(given, "table", before)
+        given.put("table", before)
     return outcome
 
 
-def last_count_missing(right, given):
-    outcome = right(*given.values.values())
-    if outcome == 19:
-        given.words("table")[table_length(given["l"], given["s"]) - 5] = 0
-    return outcome
+def last_count_missing(given):
+    given.words("table")[table_length(given["l"], given["s"]) - 5] = 0
 
 
-def leaf_used_up(right, given):
-    outcome = right(*given.values.values())
-    if outcome == 19:
-        given.words("mark")[0] = 0
-    return outcome
+def leaf_used_up(given):
+    given.words("mark")[0] = 0
 
 
-def leaf_marked(right, given):
-    outcome = right(*given.values.values())
-    if outcome == 19:
-        put_window(given, with_leaf(*window_of(given), leaf_of(given)))
-    return outcome
+def leaf_marked(given):
+    put_window(given, with_leaf(*window_of(given), given.leaf()))
 
 
-def steps_told(right, given):
-    outcome = right(*given.values.values())
-    if outcome == 19:
-        given.words("steps")[0] = given["l"] * (given["w"] - 1) - given["s"]
-    return outcome
+def steps_told(given):
+    given.words("steps")[0] = given["l"] * (given["w"] - 1) - given["s"]
 
 
 def wrong_refusals(operation):
+    """What is wrong, the function, and the causes with which it must be seen."""
     causes = CAUSES[operation]
     # of a profile outside its limits there is no count
     for cause in causes[causes.index(5) : causes.index(19)]:
-        yield f"19 before {cause}", told_before(cause)
-    yield "no table after 19", no_table
-    yield "a count missing in the table after 19", last_count_missing
+        yield f"19 before {cause}", told_before(cause, 19, is_scant), (cause, 19)
+    for number in (7, 5):
+        rule = by_number(right_number, refusal=number)
+        yield f"{number} for 19", BY_RULE[operation](rule), (19,)
+    yield "no table after 19", no_table, (19,)
+    yield "a count missing in the table after 19", leaving(last_count_missing, 19), (19,)
     if operation == "sign":
-        yield "a leaf used up by 19", leaf_used_up
+        yield "a leaf used up by 19", leaving(leaf_used_up, 19), (19,)
     else:
-        yield "15 before 19", root_judged_first
-        yield "a leaf marked by 19", leaf_marked
-        yield "steps told after 19", steps_told
-        yield "either rule", verify_by(by_number(right_number), by_number(earlier_number))
+        yield "15 before 19", root_judged_first, (19, 15)
+        yield "a leaf marked by 19", leaving(leaf_marked, 19), (19,)
+        yield "steps told after 19", leaving(steps_told, 19), (19,)
 
 
-def right_orders():
-    """Both by the right rule, made in the way of the wrong ones: nothing is to be seen."""
-    return {operation: BY_RULE[operation](by_number(right_number)) for operation in ORDERS}
+def bits_seen(case):
+    """At each number of bits, and at counts far above 2^128."""
+    return granted(case) or named("edge", "earlier")(case)
 
 
-def wrong_orders():
-    """What is wrong, with which operation, the wrong function, and the shape at which alone it is
-    wrong, or None."""
+def right():
     for operation in ORDERS:
-        for what, rule in rules():
-            yield what, operation, BY_RULE[operation](rule), None
-        for what, wrong in wrong_refusals(operation):
-            yield what, operation, wrong, None
-    for operation, shape in itertools.product(ORDERS, shapes.edges()):
-        l, w, s = shape
-        wrong = BY_RULE[operation](rule_at(ways(w, l, s)))
-        yield f"wrong at l = {l}, w = {w}, s = {s} alone", operation, wrong, shape
+        yield "nothing", operation, BY_RULE[operation](by_number(right_number)), anywhere
+
+
+def wrong():
+    # the counts next to 2^8 and 2^9
+    low = [(shape,) for shape in shapes.edges() if count_of(Profile(*shape, 0, 1)) < 1000]
+    for operation in ORDERS:
+        for what, rule in RULES.items():
+            yield what, operation, BY_RULE[operation](rule), bits_seen
+        for what, rule in limits():
+            yield what, operation, BY_RULE[operation](rule), given_just("edge", *low)
+        for what, function, causes in wrong_refusals(operation):
+            yield what, operation, function, laid(*causes)
+    either = verify_by(by_number(right_number), by_number(earlier_number))
+    yield "either rule", "verify", either, named("earlier")

@@ -1,54 +1,25 @@
-"""Write sheet made wrong, for tests/interface/mutants.py: with other lines, another ending or
-another number of bytes, by another rule for what is refused, with refusals out of their turn, and
-wrong for one edition and length of a text, or of the slices, of tests/kinds/written_sheets.py alone.
+"""Write sheet made wrong: with other lines, another ending or another number of bytes, by another rule
+for what is refused, and with refusals out of their turn.
 """
-
-import ctypes
-import itertools
 
 from sheets import frames, hex_line, right_sheet, sheet_length
 from signatures import EDITIONS, signature_length
-from written_sheets import SLICES, TEXTS, kind
-from wrong_orders import MOST_SHEET, content, leaf_of, profile_of, put
-
-# What a call is answered with past the checks of the profile, and once its turn has come for the
-# sheet's slice.
-PAST_PROFILE, JUDGED = (0, 16, 13, 6), (0, 6)
-
-
-def count_of(given):
-    """The number of bytes written, to be read or changed."""
-    return ctypes.c_size_t.from_address(given["sheet_written"])
+from wrong import (
+    Writer,
+    another_number,
+    anywhere,
+    refused_instead,
+    shown_instead,
+    told_before,
+)
 
 
 def order_of(given):
     """What the sheet is made of."""
-    return profile_of(given), content(given, "signature"), content(given, "message")
+    return given.profile(), given.content("signature"), given.content("message")
 
 
-def restore(given, before):
-    put(given, "sheet", before)
-    count_of(given).value = 0
-
-
-def write_by(sheet_of=right_sheet, needed=lambda p, made: len(made)):
-    """Write sheet by a rule, which gives the sheet of a profile, a signature and a text, and by
-    another, which gives the length that the slice must have. What does not fit is left out."""
-
-    def wrong(right, given):
-        before = content(given, "sheet", MOST_SHEET)
-        outcome = right(*given.values.values())
-        if outcome not in JUDGED:
-            return outcome
-        made = sheet_of(*order_of(given))
-        restore(given, before)
-        if given.size("sheet") < needed(profile_of(given), made):
-            return 6
-        put(given, "sheet", made[: given.size("sheet")])
-        count_of(given).value = len(made)
-        return 0
-
-    return wrong
+WRITER = Writer("sheet", lambda given: right_sheet(*order_of(given)))
 
 
 # Other lines. A rule gives their frames from the profile and the right frames, or another line for
@@ -56,11 +27,11 @@ def write_by(sheet_of=right_sheet, needed=lambda p, made: len(made)):
 
 
 def by_frames(frames_of):
-    def sheet_of(p, signature, text):
-        changed = frames_of(p, list(frames(p, signature, text)))
+    def sheet_of(given):
+        changed = frames_of(given.profile(), list(frames(*order_of(given))))
         return b"".join(hex_line(frame) for frame in changed)
 
-    return write_by(sheet_of)
+    return WRITER.by(sheet_of)
 
 
 def each(number, frame_of, editions=EDITIONS):
@@ -87,19 +58,11 @@ def siblings_first(p, lines):
 
 def spelt(line_of):
     """Every frame as another line."""
-
-    def sheet_of(p, signature, text):
-        return b"".join(line_of(frame) for frame in frames(p, signature, text))
-
-    return write_by(sheet_of)
+    return WRITER.by(lambda given: b"".join(map(line_of, frames(*order_of(given)))))
 
 
-def ended(end):
-    """Something changed in the whole sheet."""
-    return write_by(lambda p, signature, text: end(right_sheet(p, signature, text)))
-
-
-def text_as_it_is(p, signature, text):
+def text_as_it_is(given):
+    p, signature, text = order_of(given)
     return right_sheet(p, signature, b"")[:-1] + text + b"\n"
 
 
@@ -127,155 +90,80 @@ SHEETS = {
     "no kind before the text": each(6, lambda f: f[1:]),
     "the text's first byte missing": each(6, lambda f: f[:1] + f[2:]),
     "the text's last byte missing": each(6, lambda f: f[:-1]),
-    "the text not in digits": write_by(text_as_it_is),
+    "the text not in digits": WRITER.by(text_as_it_is),
     "lower-case digits": spelt(lambda f: f.hex().encode() + b"\n"),
     "the low digit first": spelt(lambda f: hex_line(bytes(b >> 4 | b % 16 << 4 for b in f))),
     "0D for 0A": spelt(lambda f: hex_line(f)[:-1] + b"\r"),
     "0D 0A for 0A": spelt(lambda f: hex_line(f)[:-1] + b"\r\n"),
-    "no 0A at the end": ended(lambda sheet: sheet[:-1]),
-    "0A twice at the end": ended(lambda sheet: sheet + b"\n"),
-    "a zero byte at the end": ended(lambda sheet: sheet + b"\0"),
+    "no 0A at the end": WRITER.changed(lambda sheet: sheet[:-1]),
+    "0A twice at the end": WRITER.changed(lambda sheet: sheet + b"\n"),
+    "a zero byte at the end": WRITER.changed(lambda sheet: sheet + b"\0"),
 }
 
 
-# Another number of bytes, from the right one.
-
-
-def counting(rule):
-    def wrong(right, given):
-        outcome = right(*given.values.values())
-        if outcome == 0:
-            count_of(given).value = rule(given, count_of(given).value)
-        return outcome
-
-    return wrong
-
-
-def half_counted(right, given):
-    """Four of the eight bytes are written."""
-    high = ctypes.c_uint32.from_address(given["sheet_written"] + 4)
-    before = high.value
-    outcome = right(*given.values.values())
-    high.value = before
-    return outcome
-
-
-def needed_told(right, given):
-    outcome = right(*given.values.values())
-    if outcome == 6:
-        count_of(given).value = sheet_length(profile_of(given), given.size("message"))
-    return outcome
-
-
 COUNTS = {
-    "one more counted": counting(lambda given, count: count + 1),
-    "one less counted": counting(lambda given, count: count - 1),
-    "nothing counted": counting(lambda given, count: 0),
-    "the slice's length counted": counting(lambda given, count: given.size("sheet")),
-    "the text's length counted": counting(lambda given, count: given.size("message")),
-    "the lines counted": counting(lambda given, count: given["l"] + given["h"] + 5),
-    "four bytes of the count": half_counted,
-    "the length needed told after 6": needed_told,
+    "the text's length counted": lambda given, count: given.size("message"),
+    "the lines counted": lambda given, count: given["l"] + given["h"] + 5,
 }
 
 
 # Other refusals.
 
 
-def told_before(cause, later, holds):
-    """A later cause goes first."""
-
-    def wrong(right, given):
-        outcome = right(*given.values.values())
-        return later if outcome == cause and holds(given) else outcome
-
-    return wrong
-
-
 def signature_differs(given):
-    return given.size("signature") != signature_length(profile_of(given))
+    return given.size("signature") != signature_length(given.profile())
 
 
 def sheet_too_short(given):
-    return given.size("sheet") < sheet_length(profile_of(given), given.size("message"))
-
-
-def leaf_tested(right, given):
-    before = content(given, "sheet", MOST_SHEET)
-    outcome = right(*given.values.values())
-    if outcome == 0 and leaf_of(given) >= 1 << given["h"]:
-        restore(given, before)
-        return 11
-    return outcome
+    return given.size("sheet") < sheet_length(given.profile(), given.size("message"))
 
 
 def text_taken(size):
     """A text of this length, which is refused, taken where nothing else refuses it."""
 
     def wrong(right, given):
-        outcome = right(*given.values.values())
+        outcome = right()
         if outcome != 16 or given.size("message") != size or signature_differs(given):
             return outcome
         if sheet_too_short(given):
             return 6
-        made = right_sheet(*order_of(given))
-        put(given, "sheet", made)
-        count_of(given).value = len(made)
+        WRITER.what_fits_written(given)
+        WRITER.needed_told(given)
         return 0
 
     return wrong
 
 
 def text_refused(size):
-    def wrong(right, given):
-        before = content(given, "sheet", MOST_SHEET)
-        outcome = right(*given.values.values())
-        if outcome in (0, 13, 6) and given.size("message") == size:
-            restore(given, before)
-            return 16
-        return outcome
-
-    return wrong
+    return refused_instead("sheet", 16, lambda given: given.size("message") == size)
 
 
 def signature_taken(by):
     """A signature that is so much too long or too short, taken: cut, or filled up by zero bytes."""
 
     def wrong(right, given):
-        outcome = right(*given.values.values())
-        size = signature_length(profile_of(given))
+        outcome = right()
+        size = signature_length(given.profile())
         if outcome != 13 or given.size("signature") != size + by:
             return outcome
-        shown = (content(given, "signature", size) + bytes(size))[:size]
-        memory = (ctypes.c_uint8 * size).from_buffer_copy(shown)
-        place = {"signature": ctypes.addressof(memory), "signature_len": size}
-        return right(*(given.values | place).values())
+        place, _kept = shown_instead("signature", (given.content("signature") + bytes(size))[:size])
+        return right(**place)
 
     return wrong
 
 
-def another_number(cause, number):
-    def wrong(right, given):
-        outcome = right(*given.values.values())
-        return number if outcome == cause else outcome
-
-    return wrong
-
-
-def what_fits_written(right, given):
-    """Up to the slice's end, and 6."""
-    outcome = right(*given.values.values())
-    if outcome == 6:
-        made = right_sheet(*order_of(given))
-        put(given, "sheet", made[: given.size("sheet")])
-    return outcome
+def needing(length_of):
+    """Another length asked for, by the profile and the right one."""
+    return WRITER.by(needed=lambda given, made: length_of(given.profile(), len(made)))
 
 
 REFUSALS = {
     "13 before 16": told_before(16, 13, signature_differs),
     "6 before 16": told_before(16, 6, sheet_too_short),
     "6 before 13": told_before(13, 6, sheet_too_short),
-    "11 for a leaf that the tree has not": leaf_tested,
+    "11 for a leaf that the tree has not": refused_instead(
+        "sheet", 11, lambda given: given.leaf() >= 1 << given["h"]
+    ),
     "no text taken": text_taken(0),
     "a text of 201 bytes taken": text_taken(201),
     "a text of 1 byte refused": text_refused(1),
@@ -285,59 +173,19 @@ REFUSALS = {
     "13 for 16": another_number(16, 13),
     "6 for 13": another_number(13, 6),
     "13 for 6": another_number(6, 13),
-    "a byte too few taken for the sheet": write_by(needed=lambda p, made: len(made) - 1),
-    "a byte more asked for": write_by(needed=lambda p, made: len(made) + 1),
-    "edition 1's length asked for": write_by(needed=lambda p, made: len(made) - 2 * p.edition + 2),
-    "edition 2's length asked for": write_by(needed=lambda p, made: len(made) - 2 * p.edition + 4),
-    "a text of 200 bytes reckoned with": write_by(needed=lambda p, made: sheet_length(p, 200)),
-    "written up to the slice's end by 6": what_fits_written,
+    "a byte too few taken for the sheet": needing(lambda p, size: size - 1),
+    "a byte more asked for": needing(lambda p, size: size + 1),
+    "edition 1's length asked for": needing(lambda p, size: size - 2 * p.edition + 2),
+    "edition 2's length asked for": needing(lambda p, size: size - 2 * p.edition + 4),
+    "a text of 200 bytes reckoned with": needing(lambda p, size: sheet_length(p, 200)),
 }
 
 
-# Wrong for some calls alone.
+def right():
+    yield "nothing", "write_sheet", WRITER.by(), anywhere
 
 
-def changed_where(holds):
-    """Another last digit where the call is granted, else another number of bytes."""
-
-    def wrong(right, given):
-        outcome = right(*given.values.values())
-        sizes = (given.size(name) for name in ("signature", "message", "sheet"))
-        if outcome not in PAST_PROFILE or not holds(profile_of(given), *sizes):
-            return outcome
-        if outcome == 0:
-            given.flip("sheet", count_of(given).value - 2)
-        else:
-            count_of(given).value += 1
-        return outcome
-
-    return wrong
-
-
-def with_text(edition, size):
-    return changed_where(lambda p, signature, text, sheet: (p.edition, text) == (edition, size))
-
-
-def with_slices(edition, slices):
-    def holds(p, *sizes):
-        found = kind(p, *sizes)
-        return found is not None and (found[0], found[2]) == (edition, slices)
-
-    return changed_where(holds)
-
-
-def right_writer():
-    """As it is to be, made in the way of the wrong ones: nothing is to be seen."""
-    return write_by()
-
-
-def wrong_sheets():
-    """What is wrong, the wrong function, and the edition and the length of the text with which
-    alone it is wrong, or None."""
-    for what, wrong in (SHEETS | COUNTS | REFUSALS).items():
-        yield what, wrong, None
-    for edition, slices in itertools.product(EDITIONS, SLICES):
-        yield f"wrong for {slices} in edition {edition}", with_slices(edition, slices), None
-    for edition, size in itertools.product(EDITIONS, TEXTS):
-        what = f"wrong for text length {size} in edition {edition} alone"
-        yield what, with_text(edition, size), (edition, size)
+def wrong():
+    counts = {what: WRITER.counting(rule) for what, rule in COUNTS.items()}
+    for what, function in (SHEETS | counts | dict(WRITER.wrong_counts()) | REFUSALS).items():
+        yield what, "write_sheet", function, anywhere

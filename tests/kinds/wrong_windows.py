@@ -1,17 +1,16 @@
-"""Check made wrong in its highest leaf and marks, for tests/interface/mutants.py: by another rule
-for 14 or for what an acceptance leaves, with 14 told out of its turn, and by the right rule but for
-one kind of tests/kinds/windows.py.
+"""Check made wrong in its highest leaf and marks: by another rule for 14 or for what an acceptance
+leaves, and with 14 told out of its turn.
 
 A rule says, from the highest leaf, the marks and a leaf, whether the leaf is passed, and gives the
 highest leaf and the marks that are left where it is accepted.
 """
 
-from inputs import CAUSES
+from operations import CAUSES
 from signatures import WINDOW, is_passed, with_leaf
-from windows import ALL_MARKS, KINDS, LAST_MARK, MOST_WORD, answer_to, kinds, told
-from wrong_orders import MOST_TABLE, content, leaf_of, put, put_window, window_of
+from windows import ALL_MARKS, MOST_WORD
+from wrong import anywhere, in_plan, named, told_before
+from wrong_orders import put_window, window_of
 
-ALL_KINDS = "all kinds"
 # By these every leaf of a tree is taken, and every one is passed.
 TAKES_ALL, PASSES_ALL = (0, 0), (MOST_WORD, 1)
 
@@ -22,9 +21,9 @@ def verify_by_window(rule, marking=(0,)):
 
     def wrong(right, given):
         before = window_of(given)
-        passed, after = rule(*before, leaf_of(given))
+        passed, after = rule(*before, given.leaf())
         put_window(given, PASSES_ALL if passed else TAKES_ALL)
-        outcome = right(*given.values.values())
+        outcome = right()
         put_window(given, after if outcome in marking else before)
         return outcome
 
@@ -191,83 +190,32 @@ def rules():
 # 14 out of its turn.
 
 
-def told_before(cause):
-    def wrong(right, given):
-        outcome = right(*given.values.values())
-        passed = given.size("signature") >= 4 and is_passed(*window_of(given), leaf_of(given))
-        return 14 if outcome == cause and passed else outcome
-
-    return wrong
+def leaf_passed(given):
+    return given.size("signature") >= 4 and is_passed(*window_of(given), given.leaf())
 
 
 def judged_first(right, given):
     """14 behind 19 and 15, and no table either."""
-    before, steps = window_of(given), given.words("steps")
-    passed = is_passed(*before, leaf_of(given))
-    table = content(given, "table", MOST_TABLE)
+    before, table, passed = window_of(given), given.content("table"), leaf_passed(given)
     put_window(given, TAKES_ALL)
-    outcome = right(*given.values.values())
-    put_window(given, before if passed or outcome else with_leaf(*before, leaf_of(given)))
+    outcome = right()
+    put_window(given, before if passed or outcome else with_leaf(*before, given.leaf()))
     if passed and outcome == 0:
-        put(given, "table", table)
-        steps[0], outcome = 0, 14
+        given.put("table", table)
+        given.words("steps")[0] = 0
+        return 14
     return outcome
 
 
-# Wrong for one kind of a leaf and a cabinet alone.
+def right():
+    yield "nothing", "verify", verify_by_window(right_rule), anywhere
 
 
-def rule_at(kind, answer, change):
-    def rule(highest, marks, leaf):
-        right = right_rule(highest, marks, leaf)
-        met = kind in kinds(highest, marks, leaf) and answer_to(highest, marks, leaf) == answer
-        return change(*right, leaf) if met else right
-
-    return rule
-
-
-def other_answer(passed, after, leaf):
-    return not passed, after
-
-
-def other_highest(passed, after, leaf):
-    return passed, (after[0] + 1, after[1])
-
-
-def last_mark_other(passed, after, leaf):
-    return passed, (after[0], after[1] ^ LAST_MARK)
-
-
-def leaf_not_marked(passed, after, leaf):
-    return passed, (after[0], after[1] & ~(1 << after[0] - leaf))
-
-
-CHANGES = {"the highest leaf": other_highest, "the last mark": last_mark_other}
-CHANGES |= {"the leaf's mark": leaf_not_marked}
-
-
-def wrong_kinds():
-    for kind, answer in KINDS:
-        yield "the answer", rule_at(kind, answer, other_answer), (kind, answer)
-        for what, change in CHANGES.items() if answer == 0 else ():
-            yield what, rule_at(kind, answer, change), (kind, answer)
-
-
-def right_window():
-    """Check by the right rule, made in the way of the wrong ones: nothing is to be seen."""
-    return verify_by_window(right_rule)
-
-
-def wrong_windows():
-    """What is wrong, the wrong Check, and the kind and answer for which alone; all kinds, where
-    another rule shows in one of them; or None."""
+def wrong():
     for what, rule in rules():
-        yield what, verify_by_window(rule), ALL_KINDS
-    yield "marked by 15", verify_by_window(right_rule, marking=(0, 15)), None
+        yield what, "verify", verify_by_window(rule), named("window")
+    yield "marked by 15", "verify", verify_by_window(right_rule, marking=(0, 15)), in_plan
     causes = CAUSES["verify"]
     for cause in causes[: causes.index(14)]:
-        yield f"14 before {cause}", told_before(cause), None
-    yield "14 behind 19 and 15", judged_first, None
-    for what, rule, (kind, answer) in wrong_kinds():
-        where = f"{what} wrong for {answer}: {told(kind)}"
-        yield where, verify_by_window(rule), (kind, answer)
+        yield f"14 before {cause}", "verify", told_before(cause, 14, leaf_passed), in_plan
+    yield "14 behind 19 and 15", "verify", judged_first, in_plan

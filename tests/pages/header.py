@@ -5,10 +5,11 @@
 
 Both headers compile as C11 and as C++17 with all warnings. The first has the functions, parameters
 and types of the crate `zarosnik`, the refusals of the crate `refusal` and the orders of the crate
-`words`. The page's tables have their numbers and names, the words of zarosnik_outcome_text, and for
-each function its refusals in order. The second hands each parameter on as it is named, and what it
-does beside that is what stands here. What must not compile does not: one kind of 16 bytes for
-another, the gate profile without an edition, and an outcome that is not looked at.
+`words`; and so has the table by which the tests call the library. The page's tables have their
+numbers and names, the words of zarosnik_outcome_text, and for each function its refusals in order.
+The second hands each parameter on as it is named, and what it does beside that is what stands here.
+What must not compile does not: one kind of 16 bytes for another, the gate profile without an edition,
+and an outcome that is not looked at.
 
 Neither a compiler nor a proof compares a declaration in C with the Rattle source, so it is done here.
 """
@@ -22,6 +23,8 @@ import tempfile
 from pathlib import Path
 
 from paths import ROOT, TESTS, fail
+
+from operations import TABLE, length_of, numbers_told, parameters, unit_of
 
 INCLUDE = ROOT / "include"
 WARNINGS = "-Wall -Wextra -Wpedantic -Wconversion -Wshadow -Werror".split()
@@ -140,6 +143,27 @@ def exported_functions(text):
         parameters = re.findall(r"(\w+): ([^,]+?)\s*(?:,|$)", given)
         exported[name] = [part for p in parameters for part in exported_parameter(name, *p)]
     return exported
+
+
+def table_functions():
+    """The functions of the table by which the tests call the library, as C declares them."""
+    found = {}
+    for operation in TABLE:
+        given = found.setdefault(f"zarosnik_{operation}", [])
+        for name, kind, cause in parameters(operation):
+            if kind == "":
+                given.append(("uint32_t", name, None))
+                continue
+            element = {1: "uint8_t", 4: "uint32_t", 8: "size_t"}[unit_of(name)]
+            element = "const " * (kind == "&") + element
+            if cause is not None:
+                length = "len" if name == "data" else f"{name}_len"
+                given += [(f"{element}*", name, None), ("size_t", length, None)]
+            elif length_of(name) == 1:
+                given.append((f"{element}*", name, None))
+            else:
+                given.append((element, name, str(length_of(name))))
+    return found
 
 
 def declared_enum(text, enum):
@@ -419,6 +443,7 @@ def main():
     functions, outcomes = declared_functions(flat), declared_enum(flat, "zarosnik_outcome")
     compared = declared_enum(flat, "zarosnik_order")
     same(functions, exported_functions(source_text("zarosnik")), "header", "source")
+    same(functions, table_functions(), "header", "tests/interface/operations.py")
     same(outcomes, refusals(source_text("refusal")), "header", "source")
     same(compared, compared_orders(source_text("numbers")), "header", "source")
     check_version(flat)
@@ -428,6 +453,8 @@ def main():
     refuse_no_edition()
     same(header_rows(outcomes), page_rows(page), "header", "page")
     same(header_orders(), page_orders(page), "header", "page")
+    told = {f"zarosnik_{operation}": numbers_told(operation) for operation in TABLE}
+    same(header_orders(), told, "header", "tests/interface/operations.py")
     same(compared, page_compared(page), "header", "page")
     print(f"header: {len(functions)} functions and {len(outcomes)} outcomes as in the source")
 

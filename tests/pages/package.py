@@ -1,8 +1,7 @@
 """Installs the library by tools/package, builds the examples against it with nothing but what
 pkg-config says, as C11 and as C++17, and runs them.
 
-    python3 tests/pages/package.py                   proves the library and writes the archive first
-    python3 tests/pages/package.py --archive FILE    takes this one
+    python3 tests/pages/package.py [--archive FILE]
 
 The installed folder is moved before it is used, and neither the repository nor its headers are on the
 compiler's path. Needs pkg-config.

@@ -3,15 +3,14 @@ that goes from reserve to sign, through cuts and restarts from its stored frame,
 orders, by two routes, at a cabinet that starts fresh and goes from check to check. Point 6 has it
 so in either edition, the cabinet's being the key's.
 
-    python3 tests/traces/arrivals.py --archive FILE    the library in this archive, some seconds
-    python3 tests/traces/arrivals.py                   proves the library and writes the archive first
+    python3 tests/traces/arrivals.py [--archive FILE]
 
 All leaves are reserved and all orders signed and checked through C. Key and cabinet are the two
 words each that the library hands back. Beside the key stands which leaves were reserved and which
 have signed, and beside the cabinet the set of the leaves accepted so far; what must be answered and
 left is taken from these by the document's words: 14 means a leaf 32 or more below the highest
-accepted, or one already accepted. The rule of tests/independent/signatures.py must say the same of it, and is
-asked alone where a cabinet is handed in that no list of checks leads to.
+accepted, or one already accepted. The rule of tests/independent/signatures.py must say the same of
+it. Cabinets that no list of checks leads to are those of tests/interface/compare.py.
 
 - In every list of reserve and sign no leaf signs twice, whatever refused calls come between, and
   wherever power fails: before a store has ended, behind it, or behind the sign. A cut loses a leaf
@@ -22,14 +21,12 @@ asked alone where a cabinet is handed in that no list of checks leads to.
 - In other arrival orders just those are refused which come too late, by 14.
 - No leaf is accepted twice: each order accepted is sent again at once, later and at the end.
 - From a cabinet with one leaf, every distance up and down.
-- Any highest leaf and any marks, of each kind of tests/kinds/windows.py.
 
 Every check must report l (w - 1) - s steps where it is accepted or refused by 15, and 0 otherwise.
 Every call that is refused must leave the two words as they were.
 Fails too where one of these has not come up in either edition.
 """
 
-import ctypes
 import itertools
 import random
 import tempfile
@@ -38,12 +35,13 @@ from collections import Counter
 from paths import fail, say
 
 import editions
-import windows
 from archived import archive_of, archive_parser, shared_object
-from calls import load
+from calls import STALE, by_name, load
 from signatures import (
     EDITIONS,
     Profile,
+    SigningKey,
+    Verifier,
     is_passed,
     message_number,
     root_of,
@@ -70,11 +68,8 @@ CUTS += [("behind the sign", 1)]
 ANSWERS = {"reserve": [0, 1, 2, 3, 4, 22, 21, 12], "sign": [0, 1, 2, 3, 4, 22, 5, 16, 6, 20, 19]}
 # Bytes of a stored key, by its edition.
 FRAME_BYTES = {1: 87, 2: 89}
-# What stands in an answer before the call.
-STALE = 0xA5A5A5A5
-# How many arrival orders of each drawn kind, and cabinets, for each profile.
+# How many arrival orders of each drawn kind for each profile.
 DRAWN_ORDERS = 6
-DRAWN_STATES = 500
 # From here on distances are far.
 FAR = MARKS + 2
 
@@ -82,10 +77,6 @@ FAR = MARKS + 2
 def hold(holds, what):
     if not holds:
         fail(what)
-
-
-def octets(data):
-    return (ctypes.c_uint8 * len(data)).from_buffer_copy(data)
 
 
 class Accepted:
@@ -126,16 +117,23 @@ class Desk:
 
     def __init__(self, pick, key, met):
         self.pick, self.key, self.met = pick, key, met
-        self.next_leaf, self.mark = ctypes.c_uint32(0), ctypes.c_uint32(0)
+        self.counter = 0, 0
         self.reserved, self.waiting, self.orders = 0, None, {}
         self.store()
 
-    def words(self):
-        return self.next_leaf.value, self.mark.value
+    def call(self, operation, p=None, **given):
+        """The outcome and what is left, of which the two words are kept. None but Sign changes one
+        alone."""
+        key = self.key
+        thing = SigningKey(p or key.p, key.seed, key.secret, *self.counter)
+        outcome, left = by_name(key.library, operation, thing, **given)
+        if "mark" in left:
+            self.counter = left.get("next_leaf", self.counter[0]), left["mark"]
+        return outcome, left
 
     def tell(self, what, found, wanted):
         """An answer, and the two words behind it."""
-        found, waits = (found, *self.words()), self.waiting is not None
+        found, waits = (found, *self.counter), self.waiting is not None
         wanted = (wanted, self.reserved, int(waits))
         hold(found == wanted, f"{what} at {self.key.p}: {found}, not {wanted}")
         self.met[what, wanted[0]] += 1
@@ -145,8 +143,7 @@ class Desk:
         last = self.reserved == 2**self.key.p.h
         wanted = 21 if self.waiting is not None else 12 if last else 0
         p, wanted = wrong or (self.key.p, wanted)
-        words = ctypes.addressof(self.next_leaf), ctypes.addressof(self.mark)
-        outcome = self.key.library.zarosnik_reserve(*p, *words)
+        outcome, _ = self.call("reserve", p)
         if wanted == 0:
             self.waiting, self.reserved = self.reserved, self.reserved + 1
         self.tell("reserve", outcome, wanted)
@@ -155,29 +152,18 @@ class Desk:
         """With the leaf that is reserved, unless none is or something is wrong."""
         key, pick = self.key, self.pick
         text = pick.randbytes(pick.randrange(1, 40)) if text is None else text
-        signature = (ctypes.c_uint8 * signature_length(key.p))()
-        outcome = key.library.zarosnik_sign(
-            *(p or key.p),
-            octets(key.seed),
-            octets(key.secret),
-            self.next_leaf.value,
-            ctypes.addressof(self.mark),
-            octets(pick.randbytes(16)),
-            octets(text),
-            len(text),
-            key.table,
-            len(key.table) - short,
-            signature,
-            len(signature) - cut,
-        )
+        given = {"r": pick.randbytes(16), "message": text, "table": key.words - short}
+        outcome, left = self.call("sign", p, **given, signature=signature_length(key.p) - cut)
+        signature = left["signature"]
         leaf = self.waiting
         wanted = wrong or (20 if leaf is None else 0)
         self.waiting = leaf if wanted else None
         self.tell("sign", outcome, wanted)
         if wanted:
-            hold(not any(signature), f"a signature is written by {wanted} at {key.p}")
+            untouched = set(signature) == {STALE}
+            hold(untouched, f"a signature is written by {wanted} at {key.p}")
         else:
-            order = Order(text, bytes(signature))
+            order = Order(text, signature)
             hold(order.leaf == leaf, f"leaf {order.leaf} has signed for {leaf} at {key.p}")
             hold(leaf not in self.orders, f"leaf {leaf} has signed twice at {key.p}")
             self.orders[leaf] = order
@@ -208,39 +194,27 @@ class Desk:
 
     def store(self):
         """What is written is read back as the same key."""
-        key, written = self.key, ctypes.c_size_t(STALE)
-        frame = (ctypes.c_uint8 * FRAME_BYTES[key.p.edition])()
-        outcome = key.library.zarosnik_write_key(
-            *key.p,
-            octets(key.seed),
-            octets(key.secret),
-            self.next_leaf.value,
-            self.mark.value,
-            frame,
-            len(frame),
-            ctypes.addressof(written),
-        )
+        key, size = self.key, FRAME_BYTES[self.key.p.edition]
+        outcome, left = self.call("write_key", frame=size)
         self.tell("store", outcome, 0)
-        hold(written.value == len(frame), f"{written.value} bytes are written at {key.p}")
-        self.stored, counter = (bytes(frame), self.reserved), self.words()
+        hold(left["frame_written"] == size, f"{left['frame_written']} bytes are written at {key.p}")
+        self.stored, counter = (left["frame"], self.reserved), self.counter
         hold(self.read() == counter, f"{self.read()} is read where {counter} was written")
 
     def read(self):
         """The next leaf and the mark of the stored frame."""
-        key, words = self.key, (ctypes.c_uint32 * 8)(*[STALE] * 8)
-        seeds = [octets(bytes(16)) for _ in range(2)]
-        frame = octets(self.stored[0])
-        places = [ctypes.addressof(words) + 4 * at for at in (0, 5, 6, 7)]
-        outcome = key.library.zarosnik_read_key(frame, len(frame), places[0], *seeds, *places[1:])
-        found = (outcome, *words[:5], *map(bytes, seeds), words[7])
+        key = self.key
+        outcome, left = by_name(key.library, "read_key", frame=self.stored[0])
+        seeds = left["public_seed"], left["secret_seed"]
+        found = (outcome, *left["profile"], *seeds, left["line"])
         hold(found == (0, *key.p, key.seed, key.secret, 0), f"{found} is read at {key.p}")
-        return words[5], words[6]
+        return left["next_leaf"], left["mark"]
 
     def restart(self, where):
         """After a cut: from the stored frame, with the mark cleared."""
-        self.next_leaf.value, mark = self.read()
+        next_leaf, mark = self.read()
         self.met["cut", where, mark] += 1
-        self.mark.value = 0
+        self.counter = next_leaf, 0
         self.reserved, self.waiting = self.stored[1], None
         self.tell("restart", 0, 0)
 
@@ -281,7 +255,7 @@ class Key:
         self.seed, self.secret = pick.randbytes(16), pick.randbytes(16)
         self.root = root_of(p, self.seed, self.secret)
         self.steps = p.l * (p.w - 1) - p.s
-        self.table = (ctypes.c_uint32 * table_length(p.l, p.s))()
+        self.words = table_length(p.l, p.s)
         desk = Desk(pick, self, met)
         desk.issue(lossy)
         self.orders = desk.orders
@@ -306,31 +280,17 @@ class Key:
 class Cabinet:
     """Two words that the library changes; fresh at first."""
 
-    def __init__(self, key, highest=0, marks=0):
-        self.key = key
-        self.highest, self.marks = ctypes.c_uint32(highest), ctypes.c_uint32(marks)
-
-    def words(self):
-        return self.highest.value, self.marks.value
+    def __init__(self, key):
+        self.key, self.window = key, (0, 0)
 
     def check(self, order, p=None, root=None, short=0):
-        """The outcome and the steps."""
-        key, steps = self.key, ctypes.c_uint32(STALE)
-        outcome = key.library.zarosnik_verify(
-            *(p or key.p),
-            octets(key.seed),
-            octets(root or key.root),
-            ctypes.addressof(self.highest),
-            ctypes.addressof(self.marks),
-            octets(order.text),
-            len(order.text),
-            octets(order.signature),
-            len(order.signature),
-            key.table,
-            len(key.table) - short,
-            ctypes.addressof(steps),
-        )
-        return outcome, steps.value
+        """The outcome, the steps, and the words."""
+        key = self.key
+        verifier = Verifier(p or key.p, key.seed, root or key.root, *self.window)
+        given = {"message": order.text, "signature": order.signature, "table": key.words - short}
+        outcome, left = by_name(key.library, "verify", verifier, **given)
+        self.window = left["highest_leaf"], left["marks"]
+        return outcome, left["steps"], *self.window
 
 
 class Run:
@@ -345,7 +305,6 @@ class Run:
         found = self.cabinet.check(order, **given)
         if outcome == 0:
             self.accepted.leaves.add(order.leaf)
-        found = (*found, *self.cabinet.words())
         steps = self.key.steps if outcome in (0, 15) else 0
         wanted = (outcome, steps, *self.accepted.words())
         if found != wanted:
@@ -576,40 +535,6 @@ def receive_two(pick, key, met):
             run.replay("one of two again", leaf)
 
 
-def hand_in(pick, key, met, state, order):
-    """A cabinet as it comes: another text, the order, and the order again, by the rule of the
-    independent implementation."""
-    cabinet, leaf = Cabinet(key, *state), order.leaf
-    passed = is_passed(*state, leaf)
-    after = state if passed else with_leaf(*state, leaf)
-    checks = [
-        (Order(key.other_text(pick, order), order.signature), 14 if passed else 15, state),
-        (order, 14 if passed else 0, after),
-        (order, 14, after),
-    ]
-    for given, outcome, left in checks:
-        found = (*cabinet.check(given), *cabinet.words())
-        wanted = (outcome, key.steps if outcome in (0, 15) else 0, *left)
-        hold(found == wanted, f"leaf {leaf} with {state} at {key.p}: {found}, not {wanted}")
-    answer = 14 if passed else 0
-    met["handed in", answer] += 1
-    met.update(("handed in", kind, answer) for kind in windows.kinds(*state, leaf))
-
-
-def hand_in_states(pick, key, met):
-    for kind, answer in windows.KINDS:
-        state = None
-        while state is None:
-            order = key.any_order(pick)
-            state = windows.state_of(pick, kind, answer, order.leaf)
-        hand_in(pick, key, met, state, order)
-    for _ in range(DRAWN_STATES):
-        order = key.any_order(pick)
-        hand_in(pick, key, met, windows.any_state(pick, order.leaf), order)
-        any_words = pick.getrandbits(32), pick.getrandbits(32)
-        hand_in(pick, key, met, any_words, order)
-
-
 def missing(met):
     """In words: what has not come up."""
     aways = [("in time", 0, away) for away in [*range(1 - MARKS, 0), *range(1, MARKS + 1)]]
@@ -620,8 +545,7 @@ def missing(met):
     wanted = [*aways, "lists in time", "lists too late"]
     wanted += [(what, outcome) for what, told in DISTURBED.items() for outcome in told]
     wanted += [(f"again {when}", 14) for when in ("at once", "later", "at the end")]
-    wanted += [("one of two again", 14), ("handed in", 0), ("handed in", 14)]
-    wanted += [("handed in", kind, answer) for kind, answer in windows.KINDS]
+    wanted += [("one of two again", 14)]
     wanted += [(call, outcome) for call, outcomes in ANSWERS.items() for outcome in outcomes]
     wanted += [("cut", *cut) for cut in CUTS] + [("with leaves lost", 0), "leaves lost"]
     return [kind for kind in wanted if not met[kind]]
@@ -635,7 +559,7 @@ def main():
         for p in PROFILES:
             met = met_in[p.edition]
             key = Key(library, pick, p, met)
-            for part in (receive_in_time, receive_too_late, receive_two, hand_in_states):
+            for part in (receive_in_time, receive_too_late, receive_two):
                 part(pick, key, met)
             met["orders"] += len(key.orders)
         for p in CUT_LISTS * CUT_PROFILES:
@@ -657,7 +581,7 @@ def main():
         f" {met['lists in time']} arrival orders in time, all {accepted} accepted;"
         f" {met['lists too late']} others, {late} too late and refused by 14,"
         f" {met['too late', 0]} accepted; {again} replays and {disturbed} other checks refused,"
-        f" which change nothing; {met['handed in', 0] + met['handed in', 14]} cabinets handed in"
+        " which change nothing"
     )
 
 

@@ -1,8 +1,7 @@
 """Kills the desk of examples/store.c at every step and at any time, starts it again from what is
 stored, and finds that no leaf signs twice and that a cabinet accepts every order handed out.
 
-    python3 tests/traces/power_cuts.py                   proves the library and writes the archive first
-    python3 tests/traces/power_cuts.py --archive FILE    takes this one
+    python3 tests/traces/power_cuts.py [--archive FILE]
     python3 tests/traces/power_cuts.py --seed N          draws other keys, times and cuts
 
 The desk is built as it stands; power_cuts.c goes between it and what it calls, and tells after a
@@ -18,7 +17,6 @@ A disk that loses what fsync has waited for is not tried. Desks that are wrong i
 caught: WRONG.
 """
 
-import ctypes
 import os
 import random
 import signal
@@ -34,6 +32,7 @@ from paths import ROOT, TESTS, fail, say
 import sheets
 import signatures
 from archived import archive_of, archive_parser, shared_object
+from calls import by_name, load
 from header import INCLUDE, WARNINGS
 from keys import read_key, right_frame
 from signatures import EDITIONS, Profile, SigningKey, Verifier
@@ -205,7 +204,7 @@ class Life:
         self.key = SigningKey(p, pick.randbytes(16), pick.randbytes(16), next_leaf, 0)
         root = signatures.root_of(p, self.key.seed, self.key.secret)
         self.cabinet = Verifier(p, self.key.seed, root, 0, 0)
-        self.words = ctypes.c_uint32(0), ctypes.c_uint32(0)
+        self.words = 0, 0
         self.last, self.orders, self.lost, self.put_back = next_leaf - 1, 0, 0, 0
         folder.mkdir(exist_ok=True)
         self.put(right_frame(self.key))
@@ -300,22 +299,11 @@ class Life:
         self.orders += 1
 
     def verify(self, text, signature):
-        p, words = self.key.profile, table_length(*SHAPE[::2])
-        made, table = ctypes.c_uint32(), (ctypes.c_uint32 * words)()
-        outcome = self.library.zarosnik_verify(
-            *map(ctypes.c_uint32, p),
-            self.cabinet.seed,
-            self.cabinet.root,
-            *map(ctypes.byref, self.words),
-            text,
-            ctypes.c_size_t(len(text)),
-            signature,
-            ctypes.c_size_t(len(signature)),
-            table,
-            ctypes.c_size_t(words),
-            ctypes.byref(made),
-        )
-        return outcome, made.value, *(word.value for word in self.words)
+        given = {"message": text, "signature": signature, "table": table_length(*SHAPE[::2])}
+        verifier = self.cabinet._replace(highest=self.words[0], marks=self.words[1])
+        outcome, left = by_name(self.library, "verify", verifier, **given)
+        self.words = left["highest_leaf"], left["marks"]
+        return outcome, left["steps"], *self.words
 
 
 class Trial:
@@ -461,7 +449,7 @@ def main():
     pick = random.Random(options.seed)
     with tempfile.TemporaryDirectory() as name:
         folder = Path(name)
-        library = ctypes.CDLL(shared_object(archive, folder))
+        library = load(shared_object(archive, folder))
         try:
             try_right(library, archive, folder, pick)
         except Caught as how:

@@ -1,23 +1,20 @@
 """Runs every test vector of the folder vectors/ through the C interface, by the archive that C
 programs link, and compares the answer, the states and all memory lent.
 
-    python3 tests/vectors/vectors.py                  proves the library and writes the archive first
-    python3 tests/vectors/vectors.py --archive PATH   takes this archive
+    python3 tests/vectors/vectors.py [--archive FILE]
 
-Fails where a call differs, and where something has no vector: a family, an operation granted, a
-refusal that docs/INTERFACE.md lists for an operation, a number of a profile that would be the gate's
-if it were cut, or a kind of calls of the modules of tests/kinds/, of which the vectors have all but
+Fails where a call differs, and where something has no vector: a family, an operation granted, each
+of its refusals, a number of a profile that would be the gate's if it were cut, or a kind of calls of the modules of tests/kinds/, of which the vectors have all but
 some: `wanted` says which. The vectors themselves are held to the independent implementation by
 tests/vectors/make_vectors.py, the page's worked values by tests/pages/worked_order.py.
 """
 
 import json
-import re
 import sys
 import tempfile
 from collections import Counter
 
-from paths import ROOT, fail, say
+from paths import fail, say
 
 import comparisons
 import editions
@@ -27,10 +24,9 @@ import windows
 import written_sheets
 from archived import archive_of, archive_parser, shared_object
 from calls import Call, laid_out, load
-from header import NO_REFUSALS
 from make_vectors import FAMILIES, FOLDER
 from met import Met
-from operations import LENT, NUMBERS, TABLE, parameters
+from operations import LENT, NUMBERS, TABLE, numbers_told, parameters
 from vector_calls import FILL, filled
 from vector_keys import READ
 from vector_orders import WINDOW_KINDS, order_shapes
@@ -38,7 +34,6 @@ from vector_refusals import CUT
 from vector_sheets import EDGE_TEXTS
 from zarosnik import filled as with_counts
 
-PAGE = ROOT / "docs" / "INTERFACE.md"
 FRAMES = {stored_keys.told_frame(kind): kind for kind in READ}
 
 
@@ -99,13 +94,6 @@ def families():
         yield family, content["vectors"]
 
 
-def listed_refusals():
-    """By operation, the refusals that the page lists in its table of operations."""
-    text = PAGE.read_text(encoding="utf-8")
-    rows = re.findall(rf"\| `zarosnik_(\w+)` \| ([\d, ]+|{NO_REFUSALS}) \|$", text, re.MULTILINE)
-    return {operation: list(map(int, re.findall(r"\d+", listed))) for operation, listed in rows}
-
-
 class Run(Met):
     """What has a vector, and how many differ."""
 
@@ -128,14 +116,11 @@ class Run(Met):
 
     def lacking(self):
         """In lines: what has no vector."""
-        listed = listed_refusals()
-        if listed.keys() != TABLE.keys():
-            yield f"the page lists the operations {sorted(listed)}"
-        expected = {(name, number) for name in listed for number in [0, *listed[name]]}
+        expected = {(name, number) for name in TABLE for number in [0, *numbers_told(name)]}
         for operation, outcome in sorted(expected - self.outcomes):
             yield f"no vector: {operation} answers {outcome}"
         for operation, outcome in sorted(self.outcomes - expected):
-            yield f"not in the page: {operation} answers {outcome}"
+            yield f"no answer of the operation: {operation} answers {outcome}"
         taken = {(operation, p.name) for operation in TABLE for p in parameters(operation)}
         for operation, name in sorted(taken - self.cut):
             if name in CUT:
