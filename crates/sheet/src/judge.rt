@@ -1,7 +1,7 @@
 // A whole sheet, judged.
 ghost use mathlib.Core.Path.{_≡_};
 ghost use mathlib.Core.List.{[]};
-ghost use Rattle.frames.specs.Frames.{Within};
+ghost use Rattle.frames.specs.Frames.{SizesInLimits as Within};
 ghost use Rattle.sheet.specs.Sheet.{readSheet};
 ghost use Rattle.sheet.specs.Reader.{Stands, readAt, judgement};
 use super::place::Place;

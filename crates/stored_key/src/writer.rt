@@ -7,7 +7,7 @@ ghost use lib.ListN.{length, drop};
 ghost use Rattle.refusal.specs.Code.{firstCause};
 ghost use Rattle.hex.specs.Hex.{hexOf};
 ghost use Rattle.profile.specs.Checks.{profileCauses};
-ghost use Rattle.frames.specs.Frames.{Within, editionByte};
+ghost use Rattle.frames.specs.Frames.{SizesInLimits, editionByte};
 ghost use Rattle.signing_key.specs.Counter as counting;
 ghost use Rattle.stored_key.specs.KeyFields.{nextField};
 ghost use Rattle.stored_key.specs.KeyFrame.{storedKey};
@@ -22,6 +22,7 @@ use frames::edition_bytes;
 use frames::profile_head;
 use hex::write_bytes;
 use hex::write_line;
+use octets::word_bytes;
 use profile::Profile;
 use profile::check_profile;
 use refusal::Outcome;
@@ -29,7 +30,6 @@ use refusal::Refusal;
 use signing_key::Counter;
 use signing_key::SigningKey;
 use signing_key::mark_stands;
-use octets::word_bytes;
 
 // What Write key answers: refused, no byte is written.
 pub struct KeyWritten {
@@ -55,7 +55,7 @@ fn last_bytes(p: Profile, counter: Counter) -> [u8; 6]
 
 // Writes the frame of a key up to behind its seeds.
 fn write_front(p: Profile, seed: [u8; 16], secret: [u8; 16], frame: &mut [u8])
-    requires { ⌜ Within p × (2 * place nextField ≤ length (now frame)) ⌝ }
+    requires { ⌜ SizesInLimits p × (2 * place nextField ≤ length (now frame)) ⌝ }
     ensures { λ _. ⌜ now (frame .exit) ≡ hexOf (frontBytes p ++ seed ++ secret) ++ drop (2 * place nextField) (now (frame .entry)) ⌝ }
 {
     let front = profile_head(7, p);
@@ -66,7 +66,8 @@ fn write_front(p: Profile, seed: [u8; 16], secret: [u8; 16], frame: &mut [u8])
 
 // Writes the frame of a key, and gives the index behind it.
 fn write_frame(key: SigningKey, frame: &mut [u8]) -> usize
-    requires { ⌜ Within (key .profile) × (2 * (frameLength + length (editionByte (key .profile .edition))) + 1 ≤ length (now frame)) ⌝ }
+    requires { ⌜ SizesInLimits (key .profile)
+        × (2 * (frameLength + length (editionByte (key .profile .edition))) + 1 ≤ length (now frame)) ⌝ }
     ensures { λ r. ⌜ (r ≡ length (storedKey key)) × (now (frame .exit) ≡ storedKey key ++ drop r (now (frame .entry))) ⌝ }
 {
     let p = key.profile;

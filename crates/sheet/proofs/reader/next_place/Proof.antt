@@ -42,7 +42,7 @@ use denote.Triple.Clauses.{ensured, lasts}
 use Rattle.profile.specs.declared.Profile.{Profile}
 use Rattle.profile.proofs.Profile as F
 use Rattle.profile.proofs.Profile.Laws as F′
-use Rattle.frames.specs.Frames.{Within, frameAt}
+use Rattle.frames.specs.Frames.{SizesInLimits as Within, frameAt}
 use Rattle.sheet.specs.Reader.{Stands, taken}
 use Rattle.sheet.specs.declared.place.Place.{Place}
 use Rattle.sheet.specs.declared.reader.Reader.{Reader}
