@@ -19,8 +19,8 @@ use Rattle.signing_key.specs.Key.{freshKey, reservedKey}
 use Rattle.signing_key.specs.declared.Counter.{Counter}
 use Rattle.signing_key.specs.declared.SigningKey.{SigningKey}
 use Rattle.signing_key.proofs.CounterLaws.{cleared-unmarked, can-reserve}
-use Rattle.stored_key.specs.KeyFrame.{met, storedKey, stored, readStored}
-use Rattle.stored_key.specs.Operations.{writeCode, bytesWritten, frameAfter, keyOf}
+use Rattle.stored_key.specs.KeyFrame.{withoutIdleMark, storedKey, stored, readStored}
+use Rattle.stored_key.specs.Operations.{writeKeyCode, bytesWritten, frameAfter, keyOf}
 use Rattle.stored_key.specs.RoundTrip.{Held}
 use Rattle.stored_key.proofs.StoredLaws.{stored-read}
 use Rattle.signer.specs.Operations.{keyAfter}
@@ -55,10 +55,10 @@ module _ (p : Profile) (seed secret : List ℕ) (seed-bytes : SeedBytes seed) (s
         }
 
     stored-at : FrameAt (storedKey key) (key .counter .next)
-    unfolding met
+    unfolding withoutIdleMark
     stored-at =
         record {
-          key = met key;
+          key = withoutIdleMark key;
           read = stored-read key held (rw (of .same-profile) passed);
           of = record { same-profile = of .same-profile; same-seed = of .same-seed; same-secret = of .same-secret };
           at = refl;
@@ -141,7 +141,7 @@ module _ (p : Profile) (seed secret : List ℕ) (seed-bytes : SeedBytes seed) (s
             (record { from = rw e at from; in-tree = at .in-tree; old = at .old; is = at .is; reached = at .reached; below = at .below; storing = at .storing; past = at .past })
 
     -- a store begins: it is of the frame of the key in memory
-    written-frame : (slice : List ℕ) → eqb (writeCode (d .key) slice) 0 ≡ true → take (bytesWritten (d .key) slice) (frameAfter (d .key) slice) ≡ storedKey (d .key)
+    written-frame : (slice : List ℕ) → eqb (writeKeyCode (d .key) slice) 0 ≡ true → take (bytesWritten (d .key) slice) (frameAfter (d .key) slice) ≡ storedKey (d .key)
     unfolding bytesWritten frameAfter
     written-frame slice e = rw e (take-at (storedKey (d .key)) (drop (length (storedKey (d .key))) slice) (length (storedKey (d .key))) refl)
 
@@ -154,9 +154,9 @@ module _ (p : Profile) (seed secret : List ℕ) (seed-bytes : SeedBytes seed) (s
     begun-desk : (slice : List ℕ) (s : Storing) → DeskFrom (afterBegin d slice s) n
     unfolding afterBegin
     begun-desk slice (new frame) = at
-    begun-desk slice nothing = by (eqb (writeCode (d .key) slice) 0) refl
+    begun-desk slice nothing = by (eqb (writeKeyCode (d .key) slice) 0) refl
       where
-        by : (granted : Bool) → eqb (writeCode (d .key) slice) 0 ≡ granted → DeskFrom (afterBegin d slice nothing) n
+        by : (granted : Bool) → eqb (writeKeyCode (d .key) slice) 0 ≡ granted → DeskFrom (afterBegin d slice nothing) n
         by true e =
             rw e
             (record {

@@ -13,7 +13,7 @@ use Rattle.profile.specs.Checks.{profileCauses}
 use Rattle.profile.specs.declared.Profile.{Profile}
 use Rattle.profile.proofs.Limits.{profile-numbered}
 use Rattle.stored_key.specs.KeyFrame.{storedKey}
-use Rattle.stored_key.specs.Operations.{writeCode}
+use Rattle.stored_key.specs.Operations.{writeKeyCode}
 use Rattle.stored_key.proofs.StoredLaws.{stored-right, right-long}
 use Rattle.claims.specs.Orders.{OrderCall, Along}
 use Rattle.claims.specs.PowerCuts.{Progress, Desk, Step, onceBegun, onceEnded, afterReserve, afterBegin, afterEnd, afterSign, afterCut, deskAfter, InTurn, StoredFirst, freshDesk, SeedBytes, Round, roundOf, stepsOf, WithRoom, RoundsInTurn}
@@ -37,8 +37,8 @@ module _ (p : Profile) (seed secret : List ℕ) (seed-bytes : SeedBytes seed) (s
 
   module _ (d : Desk) (n : ℕ) (at : DeskFrom p seed secret seed-bytes secret-bytes passed d n) where
     -- a slice of 89 bytes has room for its frame
-    written : (slice : List ℕ) → 89 ≤ length slice → writeCode (d .key) slice ≡ 0
-    unfolding writeCode
+    written : (slice : List ℕ) → 89 ≤ length slice → writeKeyCode (d .key) slice ≡ 0
+    unfolding writeKeyCode
     written slice room =
         let key = d .key in
         let of = at .from .of in

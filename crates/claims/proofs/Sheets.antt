@@ -18,7 +18,7 @@ use Rattle.sheet.specs.Sheet.{Reading, wrongLine, read, readSheet, Carried}
 use Rattle.sheet.specs.Operation.{lineIn, signatureIn, textIn, isWrong, sheetCauses, sheetCode, ReadsSheet}
 use Rattle.sheet.specs.declared.SheetRead.{SheetRead}
 use Rattle.sheet.proofs.Exactness.{exact}
-use Rattle.sheet_writer.specs.Writing.{carriedCauses, writeCode, WritesSheet}
+use Rattle.sheet_writer.specs.Operations.{carriedCauses, writeSheetCode, WritesSheet}
 use Rattle.sheet_writer.specs.declared.writer.SheetWritten.{SheetWritten}
 use Rattle.sheet_writer.proofs.WriteAnswer.{carried-numbered, carried-fit, fit-carried, room-granted}
 use Rattle.claims.specs.Sheets.{Yields, WrittenIsRead, Gives, ReadIsWritten}
@@ -42,10 +42,10 @@ right-read p signature text signatureSlice textSlice passed carried enough room 
     }
 
 pub written-is-read : WrittenIsRead
-unfolding writeCode
+unfolding writeSheetCode
 written-is-read p signature text sheetSlice sheetSlice′ made signature-bytes text-bytes writes granted signatureSlice textSlice signatureSlice′ textSlice′ found enough room reads =
     let whole = sheetOf p signature text in
-    let none : writeCode p signature text sheetSlice ≡ 0 = sym (writes .code) ∙ granted in
+    let none : writeSheetCode p signature text sheetSlice ≡ 0 = sym (writes .code) ∙ granted in
     let fit = carried-fit p signature text (none-of-append (carriedCauses p signature text) ((ltb (length sheetSlice) (length whole), 6) ∷ []) (carried-numbered p signature text) none .0) in
     let long : made .length ≡ length whole = writes .bytes ∙ rw none in
     let front : take (made .length) sheetSlice′ ≡ whole = rw (writes .written, none, long) (take-at whole (drop (length whole) sheetSlice) (length whole) refl) in

@@ -15,7 +15,7 @@ use Rattle.signing_key.specs.Operations.{reserveCode}
 use Rattle.signing_key.specs.Key.{freshKey, reservedKey, restartedKey}
 use Rattle.signing_key.specs.declared.SigningKey.{SigningKey}
 use Rattle.stored_key.specs.KeyFrame.{storedKey, readStored}
-use Rattle.stored_key.specs.Operations.{writeCode, bytesWritten, frameAfter, keyOf}
+use Rattle.stored_key.specs.Operations.{writeKeyCode, bytesWritten, frameAfter, keyOf}
 use Rattle.signer.specs.Operations.{signCode, keyAfter}
 use Rattle.verifier.specs.Verifying.{freshVerifier}
 use Rattle.claims.specs.Arrivals.{InTime}
@@ -75,7 +75,7 @@ afterReserve d =
 unfoldable pub afterBegin : Desk → (slice : List ℕ) → Storing → Desk
 afterBegin d slice (new frame) = d
 afterBegin d slice nothing =
-    cond (eqb (writeCode (d .key) slice) 0)
+    cond (eqb (writeKeyCode (d .key) slice) 0)
     (record { key = d .key; stored = d .stored; storing = new (take (bytesWritten (d .key) slice) (frameAfter (d .key) slice)); progress = onceBegun (d .progress) })
     d
 

@@ -8,7 +8,7 @@ use Rattle.profile.specs.declared.Profile.{Profile}
 use Rattle.signature.specs.Signature.{signatureLength}
 use Rattle.sheet.specs.Operation.{ReadsSheet}
 use Rattle.sheet.specs.declared.SheetRead.{SheetRead}
-use Rattle.sheet_writer.specs.Writing.{WritesSheet}
+use Rattle.sheet_writer.specs.Operations.{WritesSheet}
 use Rattle.sheet_writer.specs.declared.writer.SheetWritten.{SheetWritten}
 
 -- a list of bytes, as every slice of them is

@@ -41,7 +41,8 @@ unfolding within
 within-inside low high bytes rest some few = rw (inside low high (length bytes) some few)
 
 -- what has low to high bytes
-inside-within : (low high : ℕ) (line : Line) (bytes rest : List ℕ) → within low high line ≡ right bytes rest → (line ≡ right bytes rest) × (low ≤ length bytes) × (length bytes ≤ high)
+inside-within : (low high : ℕ) (line : Line) (bytes rest : List ℕ) → within low high line ≡ right bytes rest → (line ≡ right bytes rest) × (low ≤ length bytes)
+    × (length bytes ≤ high)
 unfolding within
 inside-within low high wrong bytes rest e = wrong-right e
 inside-within low high (right more rest′) bytes rest e = by (outside low high (length more)) refl e
@@ -49,7 +50,8 @@ inside-within low high (right more rest′) bytes rest e = by (outside low high 
     by : (test : Bool) → outside low high (length more) ≡ test → cond test wrong (right more rest′) ≡ right bytes rest
         → (right more rest′ ≡ right bytes rest) × (low ≤ length bytes) × (length bytes ≤ high)
     by true test e = wrong-right e
-    by false test e = let limits = not-outside low high (length more) test in let same : more ≡ bytes = cc in (e, (rw same at (limits .0)), (rw same at (limits .1)))
+    by false test e = let limits = not-outside low high (length more) test in let same : more ≡ bytes = cc in
+        (e, (rw same at (limits .0)), (rw same at (limits .1)))
 
 pub frame-read : (f : Frame) (bytes rest : List ℕ) → Below 256 (f .head) → Below 256 bytes → f .low ≤ length bytes → length bytes ≤ f .high
     → readFrame f (lineOf (f .head ++ bytes) ++ rest) ≡ right bytes rest

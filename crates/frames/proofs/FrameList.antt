@@ -12,9 +12,9 @@ use Rattle.lists.proofs.Lists.{Below, below-by-test, below-cons, below-append}
 use Rattle.lists.proofs.Pairs.{Each, each-append}
 use Rattle.profile.specs.declared.Profile.{Profile}
 use Rattle.signature.specs.Signature.{signatureLength}
-use Rattle.frames.specs.Frames.{Within, Frame, sized, firstFrame, editionByte, profileFrame, leafFrame, randomizerFrame, numbered, frames}
+use Rattle.frames.specs.Frames.{SizesInLimits, Frame, sized, firstFrame, editionByte, profileFrame, leafFrame, randomizerFrame, numbered, frames}
 use Rattle.frames.specs.Lines.{frameLine, linesOf}
-use Rattle.frames.specs.Size.{behindFrame, behindAll}
+use Rattle.frames.specs.inner.Size.{behindFrame, behindAll}
 use Rattle.frames.proofs.FrameLaws.{line-long}
 use Rattle.frames.proofs.FrameNumbers.{edition-byte, profile-long}
 
@@ -60,22 +60,29 @@ module _ (p : Profile) where
   pub frames-total : total (frames p) ≡ signatureLength p
   unfolding frames profileFrame signatureLength
   frames-total =
-      omega (arith, total-append (numbered 4 0 (p .shape .chains)) (numbered 5 0 (p .height)), total-numbered 4 0 (p .shape .chains), total-numbered 5 0 (p .height))
+      omega (
+        arith,
+        total-append (numbered 4 0 (p .shape .chains)) (numbered 5 0 (p .height)),
+        total-numbered 4 0 (p .shape .chains),
+        total-numbered 5 0 (p .height),
+      )
 
-  pub profile-below : Within p → Below 256 (profileFrame p .head)
+  pub profile-below : SizesInLimits p → Below 256 (profileFrame p .head)
   unfolding profileFrame
   profile-below h zero = lit< tt
   profile-below h (suc zero) = omega (arith, h .0 .few-chains)
   profile-below h (suc (suc zero)) = omega (arith, h .0 .narrow)
   profile-below h (suc (suc (suc zero))) = omega (arith, h .1)
-  profile-below h (suc (suc (suc (suc i)))) = below-append 256 (toBytes 2 (p .shape .sum)) (editionByte (p .edition)) (toBytes-lt 2 (p .shape .sum)) (edition-byte (Below 256) (p .edition) (below-by-test 256 (2 ∷ []) tt) (below-by-test 256 [] tt)) i
+  profile-below h (suc (suc (suc (suc i)))) = below-append 256 (toBytes 2 (p .shape .sum)) (editionByte (p .edition)) (toBytes-lt 2 (p .shape .sum))
+      (edition-byte (Below 256) (p .edition) (below-by-test 256 (2 ∷ []) tt) (below-by-test 256 [] tt)) i
 
-  pub frames-bytes : Within p → Bytes (frames p)
+  pub frames-bytes : SizesInLimits p → Bytes (frames p)
   unfolding frames profileFrame
   frames-bytes h =
       let head : (kind i : ℕ) → kind < 256 → i < 256 → Below 256 (kind ∷ i ∷ []) =
       λ kind i small few. below-cons 256 kind (i ∷ []) small (below-cons 256 i [] few (λ j. lit< tt)) in
-      let values = all-values (λ f. Below 256 (f .head)) (λ i low. head 4 i (lit< tt) (omega (arith, h .0 .few-chains))) (λ i low. head 5 i (lit< tt) (omega (arith, h .1))) in
+      let values = all-values (λ f. Below 256 (f .head)) (λ i low. head 4 i (lit< tt) (omega (arith, h .0 .few-chains)))
+      (λ i low. head 5 i (lit< tt) (omega (arith, h .1))) in
       (below-by-test 256 (71 ∷ 79 ∷ 49 ∷ []) tt, (profile-below h, (below-by-test 256 (2 ∷ []) tt, (below-by-test 256 (3 ∷ []) tt, values))))
 
 -- the place behind lines is where they end

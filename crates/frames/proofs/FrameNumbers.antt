@@ -12,8 +12,9 @@ use lib.ListN.{length, getD, drop, length-append, List·getD-append, List·getD-
 use lib.Seq.{drop-cons, getD-append-add}
 use Rattle.octets.specs.Bytes.{toBytes}
 use Rattle.profile.specs.declared.Profile.{Profile}
-use Rattle.frames.specs.Frames.{Within, Frame, sized, firstFrame, editionByte, profileFrame, leafFrame, randomizerFrame, numbered, frames, textFrame, frameAt}
-use Rattle.frames.specs.Size.{HasSize}
+use Rattle.frames.specs.Frames.{SizesInLimits, Frame, sized, firstFrame, editionByte, profileFrame, leafFrame, randomizerFrame, numbered, frames}
+use Rattle.frames.specs.Frames.{textFrame, frameAt}
+use Rattle.frames.specs.inner.Size.{HasSize}
 use Rattle.frames.specs.declared.Size.{Size}
 
 length-numbered : (kind k n : ℕ) → length (numbered kind k n) ≡ n
@@ -43,7 +44,7 @@ module _ (p : Profile) where
   length-frames =
       omega (arith, length-append (numbered 4 0 chains) (numbered 5 0 (p .height)), length-numbered 4 0 chains, length-numbered 5 0 (p .height))
 
-  pub frames-few : Within p → length (frames p) ≤ 54
+  pub frames-few : SizesInLimits p → length (frames p) ≤ 54
   frames-few h = omega (arith, length-frames, h .0 .few-chains, h .1)
 
   -- behind the first four
@@ -125,7 +126,8 @@ abbrev headWith : Profile → (last : List ℕ) → List ℕ
 headWith p last = 1 ∷ p .shape .chains ∷ p .shape .width ∷ p .height ∷ (toBytes 2 (p .shape .sum) ++ last)
 
 -- they are those of edition 2, as far as the frame has them
-pub profile-byte : (p : Profile) (i : ℕ) {head : List ℕ} → head ≡ headWith p (editionByte 2) → i < length (profileFrame p .head) → getD head i 0 ≡ getD (profileFrame p .head) i 0
+pub profile-byte : (p : Profile) (i : ℕ) {head : List ℕ} → head ≡ headWith p (editionByte 2) → i < length (profileFrame p .head)
+    → getD head i 0 ≡ getD (profileFrame p .head) i 0
 unfolding profileFrame editionByte toBytes
 profile-byte p i e h =
     let same = edition-byte (λ last. i < length (headWith p last) → getD (headWith p (editionByte 2)) i 0 ≡ getD (headWith p last) i 0) (p .edition) in

@@ -9,8 +9,8 @@ use Rattle.profile.specs.Checks.{InLimits}
 use Rattle.profile.specs.declared.Profile.{Profile}
 
 -- a profile whose shape and height are within their limits; its edition may be any number
-abbrev pub Within : Profile → Type 0
-Within p = InLimits (p .shape) × (p .height ≤ 10)
+abbrev pub SizesInLimits : Profile → Type 0
+SizesInLimits p = InLimits (p .shape) × (p .height ≤ 10)
 
 -- a frame: its fixed bytes, "kind byte first", and behind them low to high bytes
 pub record Frame : Type 0 where
@@ -18,6 +18,7 @@ pub record Frame : Type 0 where
   pub low : ℕ
   pub high : ℕ
 
+-- a frame of these fixed bytes and limits
 abbrev pub framed : (head : List ℕ) (low high : ℕ) → Frame
 framed head low high = record { head = head; low = low; high = high }
 
@@ -29,6 +30,7 @@ sized head size = framed head size size
 abbrev pub firstCharacters : List ℕ
 firstCharacters = 52 ∷ 55 ∷ 52 ∷ 70 ∷ 51 ∷ 49 ∷ []
 
+-- the first line as a frame: it is these bytes and no others
 abbrev pub firstFrame : Frame
 firstFrame = sized (71 ∷ 79 ∷ 49 ∷ []) 0
 
@@ -48,7 +50,8 @@ leafFrame = sized (2 ∷ []) 4
 abbrev pub randomizerFrame : Frame
 randomizerFrame = sized (3 ∷ []) 16
 
--- "04 with chain (1) and value (16)", "05 with node height from 0 (1) and sibling (16), both kinds rising": n frames of a kind, from the number k on
+-- "04 with chain (1) and value (16)", "05 with node height from 0 (1) and sibling (16), both kinds rising": n frames of a kind, from the
+-- number k on
 unfoldable pub numbered : (kind k n : ℕ) → List Frame
 numbered kind k zero = []
 numbered kind k (suc n) = sized (kind ∷ k ∷ []) 16 ∷ numbered kind (suc k) n

@@ -1,4 +1,4 @@
 -- What a sheet is: its frames, their lines, and how many bytes each has.
 pub mod Frames
 pub mod Lines
-pub mod Size
+pub mod inner

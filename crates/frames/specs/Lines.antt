@@ -25,9 +25,9 @@ sheetOf p signature text = linesOf (frames p) signature ++ frameLine textFrame t
 -- the bytes behind a head: "bad … kind, order, profile, chain or height" where the line begins otherwise
 unfoldable pub without : (head : List ℕ) → Line → Line
 without [] line = line
-without (h ∷ head) wrong = wrong
-without (h ∷ head) (right [] rest) = wrong
-without (h ∷ head) (right (b ∷ bytes) rest) = cond (eqb b h) (without head (right bytes rest)) wrong
+without (first ∷ head) wrong = wrong
+without (first ∷ head) (right [] rest) = wrong
+without (first ∷ head) (right (b ∷ bytes) rest) = cond (eqb b first) (without head (right bytes rest)) wrong
 
 -- "bad … length": fewer than `low` or more than `high` bytes
 unfoldable pub within : (low high : ℕ) → Line → Line

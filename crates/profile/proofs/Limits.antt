@@ -1,4 +1,5 @@
--- What the checks of a profile tell: a shape that passes is within its limits, and so are the height and the edition of a profile. The number of leaves, and a leaf's, fit a word.
+-- What the checks of a profile tell: a shape that passes is within its limits, and so are the height and the edition of a profile. The number of leaves, and a
+-- leaf's, fit a word.
 use mathlib.Core.Path.{_≡_, refl, sym, _∙_}
 use mathlib.Core.Bool.{Bool, true, false, _||_, true≢false}
 use mathlib.Core.List.{List, [], _∷_}
@@ -14,41 +15,42 @@ use Rattle.profile.specs.declared.Shape.{Shape}
 use Rattle.profile.specs.declared.Profile.{Profile}
 
 pub outside-low : (low high x : ℕ) → x < low → outside low high x ≡ true
-outside-low low high x h = rw (lt-ltb x low h)
+outside-low low high x below = rw (lt-ltb x low below)
 
 pub outside-high : (low high x : ℕ) → low ≤ x → high < x → outside low high x ≡ true
-outside-high low high x h k = rw (le-ltb x low h, lt-ltb high x k)
+outside-high low high x some above = rw (le-ltb x low some, lt-ltb high x above)
 
 pub inside : (low high x : ℕ) → low ≤ x → x ≤ high → outside low high x ≡ false
-inside low high x h k = rw (le-ltb x low h, le-ltb high x k)
+inside low high x some few = rw (le-ltb x low some, le-ltb high x few)
 
 pub not-outside : (low high x : ℕ) → outside low high x ≡ false → (low ≤ x) × (x ≤ high)
 not-outside low high x e = by (ltb x low) (ltb high x) refl refl e
   where
     by : (a b : Bool) → ltb x low ≡ a → ltb high x ≡ b → (a || b) ≡ false → (low ≤ x) × (x ≤ high)
-    by false false p q h = (ltb-false x low p, ltb-false high x q)
-    by false true p q h = let z : _≡_ {A = Bool} true false = h in absurd (true≢false z)
-    by true b p q h = absurd (true≢false h)
+    by false false below above either = (ltb-false x low below, ltb-false high x above)
+    by false true below above either = let z : _≡_ {A = Bool} true false = either in absurd (true≢false z)
+    by true b below above either = absurd (true≢false either)
 
-pub shape-numbered : (p : Shape) → Numbered (shapeCauses p)
+pub shape-numbered : (shape : Shape) → Numbered (shapeCauses shape)
 unfolding shapeCauses
-shape-numbered p = (refl, (refl, (refl, tt)))
+shape-numbered shape = (refl, (refl, (refl, tt)))
 
-shape-without : (p : Shape) (k : ℕ) → 4 ≤ k → Without k (shapeCauses p)
+shape-without : (shape : Shape) (k : ℕ) → 4 ≤ k → Without k (shapeCauses shape)
 unfolding shapeCauses
-shape-without p k h = (smaller-number 1 k (omega arith), (smaller-number 2 k (omega arith), (smaller-number 3 k (omega arith), tt)))
+shape-without shape k h = (smaller-number 1 k (omega arith), (smaller-number 2 k (omega arith), (smaller-number 3 k (omega arith), tt)))
 
 -- a shape that passes its checks is within its limits
-pub in-limits : (p : Shape) → firstCause (shapeCauses p) ≡ 0 → InLimits p
+pub in-limits : (shape : Shape) → firstCause (shapeCauses shape) ≡ 0 → InLimits shape
 unfolding shapeCauses
-in-limits p e =
-    let last : List (Bool × ℕ) = (outside 0 (p .chains * (p .width - 1)) (p .sum), 3) ∷ [] in
-    let first = none-here (outside 1 40 (p .chains)) 1 ((outside 2 16 (p .width), 2) ∷ last) refl e in
-    let second = none-here (outside 2 16 (p .width)) 2 last refl (first .1) in
-    let third = none-here (outside 0 (p .chains * (p .width - 1)) (p .sum)) 3 [] refl (second .1) in
-    let l = not-outside 1 40 (p .chains) (first .0) in
-    let w = not-outside 2 16 (p .width) (second .0) in
-    record { some-chain = l .0; few-chains = l .1; wide = w .0; narrow = w .1; reached = not-outside 0 (p .chains * (p .width - 1)) (p .sum) (third .0) .1 }
+in-limits shape e =
+    let last : List (Bool × ℕ) = (outside 0 (shape .chains * (shape .width - 1)) (shape .sum), 3) ∷ [] in
+    let first = none-here (outside 1 40 (shape .chains)) 1 ((outside 2 16 (shape .width), 2) ∷ last) refl e in
+    let second = none-here (outside 2 16 (shape .width)) 2 last refl (first .1) in
+    let third = none-here (outside 0 (shape .chains * (shape .width - 1)) (shape .sum)) 3 [] refl (second .1) in
+    let l = not-outside 1 40 (shape .chains) (first .0) in
+    let w = not-outside 2 16 (shape .width) (second .0) in
+    let s = not-outside 0 (shape .chains * (shape .width - 1)) (shape .sum) (third .0) in
+    record { some-chain = l .0; few-chains = l .1; wide = w .0; narrow = w .1; reached = s .1 }
 
 module _ (p : Profile) where
   -- the causes behind those of the shape
@@ -83,8 +85,8 @@ module _ (p : Profile) where
   profile-limits e = let passed = profile-passed e in (in-limits (p .shape) (passed .shaped), passed .low)
 
 -- the largest sum: 40 chains of 15
-pub sum-small : (p : Shape) → InLimits p → p .sum ≤ 600
-sum-small p h = le-trans (h .reached) (mul-le-mul {n₂ = 40} {m₂ = 15} (h .few-chains) (omega arith))
+pub sum-small : (shape : Shape) → InLimits shape → shape .sum ≤ 600
+sum-small shape limits = le-trans (limits .reached) (mul-le-mul {n₂ = 40} {m₂ = 15} (limits .few-chains) (omega arith))
 
 -- a leaf of the tree
 pub leaf-within : (h leaf : ℕ) → leafBeyond h leaf ≡ false → leaf < 2 ^ h

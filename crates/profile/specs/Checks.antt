@@ -12,16 +12,17 @@ outside low high x = ltb x low || ltb high x
 
 -- "l chains, 1 to 40. Width w, 2 to 16 … Sum s, 0 to l × (w − 1)"
 unfoldable pub shapeCauses : Shape → List (Bool × ℕ)
-shapeCauses p =
-    (outside 1 40 (p .chains), 1) ∷ (outside 2 16 (p .width), 2) ∷ (outside 0 (p .chains * (p .width - 1)) (p .sum), 3) ∷ []
+shapeCauses shape =
+    (outside 1 40 (shape .chains), 1) ∷ (outside 2 16 (shape .width), 2)
+    ∷ (outside 0 (shape .chains * (shape .width - 1)) (shape .sum), 3) ∷ []
 
 -- the same as facts: the shape is within its limits
-pub record InLimits (p : Shape) : Type 0 where
-  pub some-chain : 1 ≤ p .chains
-  pub few-chains : p .chains ≤ 40
-  pub wide : 2 ≤ p .width
-  pub narrow : p .width ≤ 16
-  pub reached : p .sum ≤ p .chains * (p .width - 1)
+pub record InLimits (shape : Shape) : Type 0 where
+  pub some-chain : 1 ≤ shape .chains
+  pub few-chains : shape .chains ≤ 40
+  pub wide : 2 ≤ shape .width
+  pub narrow : shape .width ≤ 16
+  pub reached : shape .sum ≤ shape .chains * (shape .width - 1)
 
 -- "Tree height h, 0 to 10"; "A profile names edition 1 or 2 … 22 when the edition is neither, after 4"
 unfoldable pub profileCauses : Profile → List (Bool × ℕ)

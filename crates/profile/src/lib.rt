@@ -39,13 +39,13 @@ fn largest_sum(chains: u32, width: u32) -> u64
 }
 
 // The checks 1, 2 and 3.
-pub fn check_shape(p: Shape) -> Outcome
-    ensures { λ r. ⌜ outcomeCode r ≡ firstCause (shapeCauses p) ⌝ }
+pub fn check_shape(shape: Shape) -> Outcome
+    ensures { λ r. ⌜ outcomeCode r ≡ firstCause (shapeCauses shape) ⌝ }
 {
-    let chains = p.chains as u64;
-    let width = p.width as u64;
-    let sum = p.sum as u64;
-    let most = largest_sum(p.chains, p.width);
+    let chains = shape.chains as u64;
+    let width = shape.width as u64;
+    let sum = shape.sum as u64;
+    let most = largest_sum(shape.chains, shape.width);
     Outcome::Granted
         .then(outside(1, 40, chains), Refusal::ChainCount)
         .then(outside(2, 16, width), Refusal::Width)

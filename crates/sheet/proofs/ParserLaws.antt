@@ -18,7 +18,7 @@ use Rattle.hex.specs.declared.Digits.the-variants as digits
 use Rattle.hex.proofs.Reading.{line-ends, line-byte, line-wrong}
 use Rattle.frames.specs.Frames.{Frame, framed}
 use Rattle.frames.specs.Lines.{without, within, readFrame}
-use Rattle.frames.specs.Size.{HasSize}
+use Rattle.frames.specs.inner.Size.{HasSize}
 use Rattle.frames.specs.declared.Size.{Size}
 use Rattle.sheet.specs.Reader.{foundOf, stepOf}
 use Rattle.sheet.specs.declared.frame.Found.{Found}

@@ -17,7 +17,7 @@ use Rattle.hex.proofs.HexLaws.{digit-hex, length-hexOf, hexOf-append}
 use Rattle.hex.proofs.Reading.{byte-right}
 use Rattle.frames.specs.Frames.{Frame, frames, textFrame}
 use Rattle.frames.specs.Lines.{linesOf}
-use Rattle.frames.specs.Size.{behindFrame, behindAll}
+use Rattle.frames.specs.inner.Size.{behindFrame, behindAll}
 use Rattle.frames.proofs.FrameLaws.{line-behind, line-within}
 use Rattle.frames.proofs.FrameList.{total}
 use Rattle.sheet.specs.Payload.{byteOr, bytesIn, payloads}

@@ -15,7 +15,7 @@ use denote.Struct.Laws as LL
 use denote.Triple.Statement.{Contract, Triple}
 use denote.Triple.Table.{entered, cited}
 use Rattle.profile.specs.declared.Profile.{Profile}
-use Rattle.frames.specs.Frames.{Within, frameAt}
+use Rattle.frames.specs.Frames.{SizesInLimits as Within, frameAt}
 use Rattle.sheet.specs.Reader.{Due, placeAfter}
 use Rattle.sheet.specs.declared.place.Place.{Place}
 use Rattle.sheet.specs.declared.reader.Reader.{Reader}

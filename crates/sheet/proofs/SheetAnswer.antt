@@ -17,9 +17,9 @@ use Rattle.profile.specs.declared.Profile.{Profile}
 use Rattle.profile.proofs.Limits.{profile-numbered, profile-without}
 use Rattle.hex.specs.Hex.{Line, wrong, right}
 use Rattle.signature.specs.Signature.{signatureLength}
-use Rattle.frames.specs.Frames.{Within, Frame, frames, textFrame}
+use Rattle.frames.specs.Frames.{SizesInLimits as Within, Frame, frames, textFrame}
 use Rattle.frames.specs.Lines.{readFrame}
-use Rattle.frames.specs.Size.{behindAll}
+use Rattle.frames.specs.inner.Size.{behindAll}
 use Rattle.frames.proofs.FrameList.{frames-sized}
 use Rattle.frames.proofs.FrameNumbers.{length-frames}
 use Rattle.sheet.specs.Sheet.{Reading, wrongLine, read, inFront, followed, ended, readFrames, readSheet}

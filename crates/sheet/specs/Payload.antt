@@ -6,7 +6,7 @@ use Rattle.hex.specs.Digits.{byteAt}
 use Rattle.hex.specs.declared.Digits.{Digits}
 use Rattle.hex.specs.declared.Digits.the-variants.{Wrong, Byte}
 use Rattle.frames.specs.Frames.{Frame}
-use Rattle.frames.specs.Size.{behindFrame}
+use Rattle.frames.specs.inner.Size.{behindFrame}
 
 -- the byte that two characters are; 0 where they are none
 unfoldable pub byteOr : Digits → ℕ

@@ -9,7 +9,7 @@ use Rattle.hex.specs.Hex.{Line, wrong, right, lineOf}
 use Rattle.signature.specs.Signature.{signatureLength}
 use Rattle.profile.specs.Checks.{profileCauses}
 use Rattle.profile.specs.declared.Profile.{Profile}
-use Rattle.frames.specs.Frames.{Within, Frame, firstFrame, profileFrame, frames, textFrame}
+use Rattle.frames.specs.Frames.{SizesInLimits as Within, Frame, firstFrame, profileFrame, frames, textFrame}
 use Rattle.frames.specs.Lines.{sheetOf, readFrame}
 
 -- what a sheet is read as

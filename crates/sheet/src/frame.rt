@@ -6,7 +6,7 @@ ghost use Prim.Native.Nat.{ℕ, _+_, _*_, _≤_};
 ghost use lib.Dec.{eqb};
 ghost use lib.ListN.{length, getD, drop};
 ghost use Rattle.hex.specs.Hex.{wrong, lineEnd, readLine};
-ghost use Rattle.frames.specs.Frames.{Within, framed, frameAt};
+ghost use Rattle.frames.specs.Frames.{SizesInLimits as Within, framed, frameAt};
 ghost use Rattle.frames.specs.Lines.{readFrame};
 ghost use Rattle.sheet.specs.Reader.{foundOf, stepOf};
 use frames::frame_size;

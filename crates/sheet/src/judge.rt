@@ -1,6 +1,6 @@
 // A whole sheet, judged.
 ghost use mathlib.Core.Path.{_≡_};
-ghost use Rattle.frames.specs.Frames.{Within};
+ghost use Rattle.frames.specs.Frames.{SizesInLimits as Within};
 ghost use Rattle.sheet.specs.Sheet.{readSheet};
 ghost use Rattle.sheet.specs.Reader.{judgement};
 use super::reader::take_frames;

@@ -2,7 +2,7 @@
 ghost use mathlib.Core.Path.{_≡_};
 ghost use mathlib.Core.Bool.{true, false};
 ghost use lib.ListN.{take};
-ghost use Rattle.frames.specs.Frames.{Within, firstFrame, frameAt};
+ghost use Rattle.frames.specs.Frames.{SizesInLimits as Within, firstFrame, frameAt};
 ghost use Rattle.sheet.specs.Reader.{start, Due, placeAfter};
 use super::frame::Step;
 use super::frame::ends_at;

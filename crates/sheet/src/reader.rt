@@ -1,7 +1,7 @@
 // The reader: the sheet frame after frame, each call picking up behind the last.
 ghost use mathlib.Core.Path.{_≡_};
 ghost use Prim.Native.Nat.{suc};
-ghost use Rattle.frames.specs.Frames.{Within, frameAt};
+ghost use Rattle.frames.specs.Frames.{SizesInLimits as Within, frameAt};
 ghost use Rattle.sheet.specs.Reader.{Due, placeAfter, placeAt};
 use super::place::Place;
 use super::place::take_frame;

@@ -12,7 +12,7 @@ use Rattle.hex.proofs.Writing.{length-lineOf, written-line}
 use Rattle.profile.specs.declared.Profile.{Profile}
 use Rattle.frames.specs.Frames.{Frame, firstCharacters, firstFrame, frames}
 use Rattle.frames.specs.Lines.{frameLine, linesOf}
-use Rattle.frames.specs.Size.{behindFrame, behindAll}
+use Rattle.frames.specs.inner.Size.{behindFrame, behindAll}
 use Rattle.frames.proofs.FrameLaws.{line-long}
 use Rattle.frames.proofs.FrameList.{total}
 
@@ -22,8 +22,10 @@ unfolding hexOf hexDigit
 first-stored o fits = written-line o 0 (71 ∷ 79 ∷ 49 ∷ []) {out = paste o 0 firstCharacters 6} fits refl
 
 -- the fixed bytes, and behind them a line of the others, are the frame's line
-pub frame-written : (o : List ℕ) (at : ℕ) (f : Frame) (bytes : List ℕ) (fixed : ℕ) {out out′ : List ℕ} {r : ℕ} → fixed ≡ length (f .head) → at + length (frameLine f bytes) ≤ length o
-    → out ≡ take at o ++ hexOf (f .head) ++ drop (at + 2 * fixed) o → r ≡ at + 2 * fixed + length (lineOf bytes) → out′ ≡ take (at + 2 * fixed) out ++ lineOf bytes ++ drop r out
+pub frame-written : (o : List ℕ) (at : ℕ) (f : Frame) (bytes : List ℕ) (fixed : ℕ) {out out′ : List ℕ} {r : ℕ} → fixed ≡ length (f .head)
+    → at + length (frameLine f bytes) ≤ length o
+    → out ≡ take at o ++ hexOf (f .head) ++ drop (at + 2 * fixed) o → r ≡ at + 2 * fixed + length (lineOf bytes)
+    → out′ ≡ take (at + 2 * fixed) out ++ lineOf bytes ++ drop r out
     → (r ≡ at + length (frameLine f bytes)) × (out′ ≡ take at o ++ frameLine f bytes ++ drop r o)
 unfolding lineOf
 frame-written o at f bytes fixed {out} {out′} {r} d fits e q w =
@@ -33,7 +35,9 @@ frame-written o at f bytes fixed {out} {out′} {r} d fits e q w =
     let long = line-long head bytes in
     let front-long : length front ≡ m = length-append (take at o) (hexOf head) ∙ rw (length-take-le at o (omega arith), length-hexOf head, d) in
     let apart : front ++ lineOf bytes ≡ take at o ++ frameLine f bytes =
-    append-assoc (take at o) (hexOf head) (hexOf bytes ++ (lineEnd ∷ [])) ∙ ap (λ l. take at o ++ l) (sym (append-assoc (hexOf head) (hexOf bytes) (lineEnd ∷ [])) ∙ ap (λ l. l ++ (lineEnd ∷ [])) (sym (hexOf-append head bytes))) in (
+    append-assoc (take at o) (hexOf head) (hexOf bytes ++ (lineEnd ∷ []))
+    ∙ ap (λ l. take at o ++ l) (sym (append-assoc (hexOf head) (hexOf bytes) (lineEnd ∷ []))
+    ∙ ap (λ l. l ++ (lineEnd ∷ [])) (sym (hexOf-append head bytes))) in (
       omega (arith, long, length-lineOf bytes),
       written-behind front (lineOf bytes) o m (length (lineOf bytes)) front-long e (w ∙ rw q) ∙ rw (← q, apart),
     )
@@ -54,7 +58,8 @@ module _ (fs : List Frame) (bytes o : List ℕ) where
     pub long : length s ≡ length o
 
   -- the next frame, with m of the bytes: its line has room
-  module _ (f : Frame) (left : List Frame) (s : List ℕ) (at from m : ℕ) (enough : behindAll 0 fs ≤ length o) (all : m ≡ f .high) (w : Writing s at from (f ∷ left)) where
+  module _ (f : Frame) (left : List Frame) (s : List ℕ) (at from m : ℕ) (enough : behindAll 0 fs ≤ length o) (all : m ≡ f .high)
+      (w : Writing s at from (f ∷ left)) where
     abbrev mine : List ℕ
     mine = take m (drop from bytes)
 
@@ -68,13 +73,15 @@ module _ (fs : List Frame) (bytes o : List ℕ) where
     unfolding behindAll
     writing-room = omega (arith, line-ends, w .place, w .long, behind-grows (behindFrame at f) left)
 
-    pub writing-next : {s′ : List ℕ} {end : ℕ} → end ≡ at + length (frameLine f mine) → s′ ≡ take at s ++ frameLine f mine ++ drop end s → Writing s′ end (from + m) left
+    pub writing-next : {s′ : List ℕ} {end : ℕ} → end ≡ at + length (frameLine f mine) → s′ ≡ take at s ++ frameLine f mine ++ drop end s
+        → Writing s′ end (from + m) left
     unfolding behindAll linesOf
     writing-next {s′} {end} e q =
         let front : List ℕ = take at s ++ frameLine f mine in
         let front-long : length front ≡ end = length-append (take at s) (frameLine f mine) ∙ rw (length-take-le at s (omega (arith, writing-room))) (sym e) in
         let rest : drop m (drop from bytes) ≡ drop (from + m) bytes = drop-drop m from bytes in
-        let here : frameLine f (take (f .high) (drop from bytes)) ++ linesOf left (drop (f .high) (drop from bytes)) ≡ frameLine f mine ++ linesOf left (drop (from + m) bytes) = rw (← all, rest) in
+        let here : frameLine f (take (f .high) (drop from bytes)) ++ linesOf left (drop (f .high) (drop from bytes)) ≡ frameLine f mine ++ linesOf left
+        (drop (from + m) bytes) = rw (← all, rest) in
         record {
           room = omega (arith, w .room);
           place = ap (λ n. behindAll n left) (e ∙ line-ends) ∙ w .place;
@@ -83,7 +90,8 @@ module _ (fs : List Frame) (bytes o : List ℕ) where
               ∙ rw (q, take-at front (drop end s) end front-long);
           kept =
               ap (drop end) q ∙ drop-at front (drop end s) end front-long
-              ∙ rw e (sym (drop-drop (length (frameLine f mine)) at s) ∙ ap (drop (length (frameLine f mine))) (w .kept) ∙ drop-drop (length (frameLine f mine)) at o);
+              ∙ rw e (sym (drop-drop (length (frameLine f mine)) at s) ∙ ap (drop (length (frameLine f mine))) (w .kept)
+              ∙ drop-drop (length (frameLine f mine)) at o);
           long = ap length q ∙ length-append front (drop end s) ∙ omega (arith, front-long, length-drop end s, e, writing-room, w .long);
         }
 

@@ -20,10 +20,10 @@ use Rattle.profile.proofs.Limits.{profile-numbered, inside, not-outside}
 use Rattle.signature.specs.Signature.{outsideText, signatureLength}
 use Rattle.frames.specs.Frames.{frames, textFrame}
 use Rattle.frames.specs.Lines.{frameLine, linesOf, sheetOf}
-use Rattle.frames.specs.Size.{behindAll}
+use Rattle.frames.specs.inner.Size.{behindAll}
 use Rattle.frames.proofs.FrameLaws.{line-long}
 use Rattle.frames.proofs.FrameList.{frames-total, length-lines}
-use Rattle.sheet_writer.specs.Writing.{carriedCauses, writeCode, WritesSheet}
+use Rattle.sheet_writer.specs.Operations.{carriedCauses, writeSheetCode, WritesSheet}
 
 module _ (p : Profile) (signature message : List ℕ) where
   -- the causes behind those of the profile
@@ -67,11 +67,14 @@ module _ (p : Profile) (signature message : List ℕ) where
 
     pub length-sheet : length (sheetOf p signature message) ≡ behindAll 0 (frames p) + 2 * length message + 3
     unfolding sheetOf
-    length-sheet = length-append (linesOf (frames p) signature) (frameLine textFrame message) ∙ omega (arith, length-frames-lines, line-long (textFrame .head) message)
+    length-sheet = length-append (linesOf (frames p) signature) (frameLine textFrame message)
+        ∙ omega (arith, length-frames-lines, line-long (textFrame .head) message)
 
     -- the text's line behind those of the frames
-    pub text-written : (sheet : List ℕ) {out out′ : List ℕ} {at end : ℕ} → at ≡ behindAll 0 (frames p) → end ≡ at + length (frameLine textFrame message) → out ≡ linesOf (frames p) signature ++ drop at sheet
-        → out′ ≡ take at out ++ frameLine textFrame message ++ drop end out → (end ≡ length (sheetOf p signature message)) × (out′ ≡ sheetOf p signature message ++ drop end sheet)
+    pub text-written : (sheet : List ℕ) {out out′ : List ℕ} {at end : ℕ} → at ≡ behindAll 0 (frames p) → end ≡ at + length (frameLine textFrame message)
+        → out ≡ linesOf (frames p) signature ++ drop at sheet
+        → out′ ≡ take at out ++ frameLine textFrame message ++ drop end out → (end ≡ length (sheetOf p signature message))
+        × (out′ ≡ sheetOf p signature message ++ drop end sheet)
     unfolding sheetOf
     text-written sheet {out} {out′} {at} {end} place q e w =
         let k : ℕ = length (frameLine textFrame message) in (
@@ -86,23 +89,24 @@ module _ (p : Profile) (signature message : List ℕ) where
     -- refused by the profile, the text or the signature
     pub carried-refused : (o : Outcome) → outcomeCode o ≡ firstCause (carriedCauses p signature message) → (r : Refusal) → o ≡ Refused r
         → WritesSheet p signature message sheet sheet (record { outcome = o; length = 0 })
-    unfolding writeCode
+    unfolding writeSheetCode
     carried-refused o e r q =
         let causes = carriedCauses p signature message in
         let some = refused-some causes late o e r q in
         record { code = refused-then causes late o e r q; bytes = rw some; written = rw some }
 
     module _ (none : firstCause (carriedCauses p signature message) ≡ 0) where
-      code-then : writeCode p signature message sheet ≡ firstCause late
-      unfolding writeCode
+      code-then : writeSheetCode p signature message sheet ≡ firstCause late
+      unfolding writeSheetCode
       code-then = none-then (carriedCauses p signature message) late none carried-numbered
 
-      pub no-room : length sheet < length (sheetOf p signature message) → WritesSheet p signature message sheet sheet (record { outcome = Refused OutputTooShort; length = 0 })
+      pub no-room : length sheet < length (sheetOf p signature message)
+          → WritesSheet p signature message sheet sheet (record { outcome = Refused OutputTooShort; length = 0 })
       no-room short =
-          let six : writeCode p signature message sheet ≡ 6 = code-then ∙ rw (lt-ltb (length sheet) (length (sheetOf p signature message)) short) in
+          let six : writeSheetCode p signature message sheet ≡ 6 = code-then ∙ rw (lt-ltb (length sheet) (length (sheetOf p signature message)) short) in
           record { code = sym six; bytes = rw six; written = rw six }
 
-      pub room-granted : length (sheetOf p signature message) ≤ length sheet → writeCode p signature message sheet ≡ 0
+      pub room-granted : length (sheetOf p signature message) ≤ length sheet → writeSheetCode p signature message sheet ≡ 0
       room-granted room = code-then ∙ rw (le-ltb (length sheet) (length (sheetOf p signature message)) room)
 
       pub sheet-written : {sheet′ : List ℕ} {end : ℕ} → length (sheetOf p signature message) ≤ length sheet → end ≡ length (sheetOf p signature message)

@@ -1,2 +1,2 @@
 -- Write sheet.
-pub mod Writing
+pub mod Operations

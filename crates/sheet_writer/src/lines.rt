@@ -5,9 +5,9 @@ ghost use Prim.Native.Nat.{_+_, _*_, _≤_, _<_};
 ghost use lib.ListN.{length, take, drop};
 ghost use Rattle.hex.specs.Hex.{hexOf};
 ghost use Rattle.signature.specs.Signature.{signatureLength};
-ghost use Rattle.frames.specs.Frames.{Within, firstFrame, frames, frameAt};
+ghost use Rattle.frames.specs.Frames.{SizesInLimits, firstFrame, frames, frameAt};
 ghost use Rattle.frames.specs.Lines.{frameLine, linesOf};
-ghost use Rattle.frames.specs.Size.{behindAll};
+ghost use Rattle.frames.specs.inner.Size.{behindAll};
 use frames::first_characters;
 use frames::frame_count;
 use frames::frame_size;
@@ -30,8 +30,9 @@ fn write_first_line(sheet: &mut [u8]) -> usize
 
 // Writes the fixed bytes of frame k, behind the first line, from an index on.
 fn write_head(sheet: &mut [u8], at: usize, p: Profile, k: usize, fixed: usize)
-    requires { ⌜ Within p × (1 ≤ k) × (fixed ≡ length (frameAt p k .head)) × (at + 2 * fixed ≤ length (now sheet)) ⌝ }
-    ensures { λ _. ⌜ now (sheet .exit) ≡ take at (now (sheet .entry)) ++ hexOf (frameAt p k .head) ++ drop (at + 2 * fixed) (now (sheet .entry)) ⌝ }
+    requires { ⌜ SizesInLimits p × (1 ≤ k) × (fixed ≡ length (frameAt p k .head)) × (at + 2 * fixed ≤ length (now sheet)) ⌝ }
+    ensures { λ _. ⌜ now (sheet .exit)
+        ≡ take at (now (sheet .entry)) ++ hexOf (frameAt p k .head) ++ drop (at + 2 * fixed) (now (sheet .entry)) ⌝ }
 {
     let mut i = 0;
     while i < fixed {
@@ -42,8 +43,10 @@ fn write_head(sheet: &mut [u8], at: usize, p: Profile, k: usize, fixed: usize)
 
 // Writes frame k, behind the first line, with these bytes behind its fixed ones, and gives the index behind its line.
 pub fn write_frame(sheet: &mut [u8], at: usize, p: Profile, k: usize, bytes: &[u8]) -> usize
-    requires { ⌜ Within p × (1 ≤ k) × (at + length (frameLine (frameAt p k) (now bytes)) ≤ length (now sheet)) ⌝ }
-    ensures { λ r. ⌜ (r ≡ at + length (frameLine (frameAt p k) (now (bytes .entry)))) × (now (sheet .exit) ≡ take at (now (sheet .entry)) ++ frameLine (frameAt p k) (now (bytes .entry)) ++ drop r (now (sheet .entry))) ⌝ }
+    requires { ⌜ SizesInLimits p × (1 ≤ k) × (at + length (frameLine (frameAt p k) (now bytes)) ≤ length (now sheet)) ⌝ }
+    ensures { λ r. ⌜ (r ≡ at + length (frameLine (frameAt p k) (now (bytes .entry))))
+        × (now (sheet .exit)
+        ≡ take at (now (sheet .entry)) ++ frameLine (frameAt p k) (now (bytes .entry)) ++ drop r (now (sheet .entry))) ⌝ }
 {
     let size = frame_size(p, k);
     let fixed = size.fixed;
@@ -53,8 +56,9 @@ pub fn write_frame(sheet: &mut [u8], at: usize, p: Profile, k: usize, bytes: &[u
 
 // Writes the frames in front of the text, with the bytes of a signature behind the fixed ones, and gives the index behind them.
 pub fn write_frames(sheet: &mut [u8], p: Profile, signature: &[u8]) -> usize
-    requires { ⌜ Within p × (length (now signature) ≡ signatureLength p) × (behindAll 0 (frames p) ≤ length (now sheet)) ⌝ }
-    ensures { λ r. ⌜ (r ≡ behindAll 0 (frames p)) × (now (sheet .exit) ≡ linesOf (frames p) (now (signature .entry)) ++ drop r (now (sheet .entry))) ⌝ }
+    requires { ⌜ SizesInLimits p × (length (now signature) ≡ signatureLength p) × (behindAll 0 (frames p) ≤ length (now sheet)) ⌝ }
+    ensures { λ r. ⌜ (r ≡ behindAll 0 (frames p))
+        × (now (sheet .exit) ≡ linesOf (frames p) (now (signature .entry)) ++ drop r (now (sheet .entry))) ⌝ }
 {
     let count = frame_count(p);
     let mut at = write_first_line(sheet);

@@ -1,7 +1,7 @@
 // Write sheet: the causes of refusal in order, and then the whole sheet.
 ghost use mathlib.Core.Path.{_≡_};
 ghost use Rattle.refusal.specs.Code.{firstCause};
-ghost use Rattle.sheet_writer.specs.Writing.{carriedCauses, WritesSheet};
+ghost use Rattle.sheet_writer.specs.Operations.{carriedCauses, WritesSheet};
 use super::lines::write_frame;
 use super::lines::write_frames;
 use frames::frame_count;

@@ -1,4 +1,5 @@
--- Document 02, point 5: "Reserve marks the next leaf and advances the key". What of a key counts its leaves, and what Reserve does to it, over any number of leaves.
+-- Document 02, point 5: "Reserve marks the next leaf and advances the key". What of a key counts its leaves, and what Reserve does to it,
+-- over any number of leaves.
 use mathlib.Core.Path.{_≡_}
 use mathlib.Core.Bool.{Bool, true, false, not, _&&_, cond}
 use mathlib.Core.List.{List, [], _∷_}

@@ -11,7 +11,8 @@ use lib.Seq.{drop-cons, drop-drop}
 use Rattle.octets.specs.Bytes.{fromBytes, toBytes}
 use Rattle.lists.proofs.Lists.{Below, drop-two, part-4}
 use Rattle.frames.specs.Frames.{editionByte}
-use Rattle.stored_key.specs.KeyFields.{chainsField, widthField, heightField, sumField, seedField, secretField, nextField, markField, offset, keyLength, fieldIn, byteIn}
+use Rattle.stored_key.specs.KeyFields.{chainsField, widthField, heightField, sumField, seedField, secretField, nextField, markField, offset, keyLength}
+use Rattle.stored_key.specs.KeyFields.{fieldIn, byteIn}
 use Rattle.stored_key.specs.KeyFrame.{keyBytes, keyIn}
 
 -- a number's bytes are those that it was made of
@@ -52,7 +53,8 @@ module _ (bytes : List ℕ) where
     sum-again = rw (drop-two 0 bytes (offset sumField) (omega arith)) (two-again _ _ (below (offset sumField)) (below (offset sumField + 1)))
 
     next-again : toBytes 4 (fromBytes (fieldIn nextField bytes)) ≡ fieldIn nextField bytes
-    next-again = let at : ℕ = offset nextField in rw (part-4 0 bytes (offset nextField) (omega arith)) (four-again _ _ _ _ (below at) (below (at + 1)) (below (at + 2)) (below (at + 3)))
+    next-again = let at : ℕ = offset nextField in rw (part-4 0 bytes (offset nextField) (omega arith))
+        (four-again _ _ _ _ (below at) (below (at + 1)) (below (at + 2)) (below (at + 3)))
 
     -- the edition's byte
     edition-again : getD bytes keyLength 2 ≡ 2 → editionByte (cond (eqb (length bytes) (keyLength + 1)) 2 1) ≡ drop keyLength bytes
@@ -60,7 +62,8 @@ module _ (bytes : List ℕ) where
     edition-again last = by (eqb (length bytes) (keyLength + 1)) refl
       where
         by : (second : Bool) → eqb (length bytes) (keyLength + 1) ≡ second → editionByte (cond second 2 1) ≡ drop keyLength bytes
-        by true e = let long = eqb-true (length bytes) (keyLength + 1) e in sym (drop-cons bytes keyLength 2 (omega arith) ∙ rw (last, drop-of-length-le bytes {i = keyLength + 1} (omega arith)))
+        by true e = let long = eqb-true (length bytes) (keyLength + 1) e in
+            sym (drop-cons bytes keyLength 2 (omega arith) ∙ rw (last, drop-of-length-le bytes {i = keyLength + 1} (omega arith)))
         by false e = let other = eqb-false (length bytes) (keyLength + 1) e in sym (drop-of-length-le bytes {i = keyLength} (omega arith))
 
     -- what stands from where each field begins
@@ -83,7 +86,12 @@ module _ (bytes : List ℕ) where
         let secret : List ℕ = fieldIn secretField bytes in
         let next : List ℕ = toBytes 4 (fromBytes (fieldIn nextField bytes)) in
         let behind =
-        five-apart sum seed secret next _ ∙ ap (λ l. sum ++ (seed ++ (secret ++ (next ++ l)))) (from-mark mark last) ∙ ap (λ l. sum ++ (seed ++ (secret ++ l))) from-next
+        five-apart sum seed secret next _ ∙ ap (λ l. sum ++ (seed ++ (secret ++ (next ++ l)))) (from-mark mark last)
+        ∙ ap (λ l. sum ++ (seed ++ (secret ++ l))) from-next
         ∙ ap (λ l. sum ++ (seed ++ l)) (part-behind (offset secretField) 16) ∙ ap (λ l. sum ++ l) (part-behind (offset seedField) 16) ∙ from-sum in
         ap (λ l. byteIn chainsField bytes ∷ byteIn widthField bytes ∷ byteIn heightField bytes ∷ l) behind
-        ∙ rw (← drop-cons bytes (offset heightField) 0 (omega arith), ← drop-cons bytes (offset widthField) 0 (omega arith), ← drop-cons bytes (offset chainsField) 0 (omega arith))
+        ∙ rw (
+          ← drop-cons bytes (offset heightField) 0 (omega arith),
+          ← drop-cons bytes (offset widthField) 0 (omega arith),
+          ← drop-cons bytes (offset chainsField) 0 (omega arith),
+        )

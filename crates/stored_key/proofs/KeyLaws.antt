@@ -18,8 +18,9 @@ use Rattle.frames.specs.Frames.{editionByte}
 use Rattle.frames.proofs.FrameNumbers.{edition-byte}
 use Rattle.signing_key.specs.Counter.{markCounts}
 use Rattle.signing_key.specs.declared.SigningKey.{SigningKey}
-use Rattle.stored_key.specs.KeyFields.{chainsField, widthField, heightField, sumField, seedField, secretField, nextField, markField, offset, keyLength, fieldIn, byteIn}
-use Rattle.stored_key.specs.KeyFrame.{keyBytes, keyIn, met}
+use Rattle.stored_key.specs.KeyFields.{chainsField, widthField, heightField, sumField, seedField, secretField, nextField, markField, offset, keyLength}
+use Rattle.stored_key.specs.KeyFields.{fieldIn, byteIn}
+use Rattle.stored_key.specs.KeyFrame.{keyBytes, keyIn, withoutIdleMark}
 use Rattle.stored_key.specs.inner.Parts.{place, lastLength, frontBytes, lastBytes}
 use Rattle.stored_key.specs.RoundTrip.{Held}
 
@@ -29,17 +30,23 @@ and-again true false = refl
 and-again false b = refl
 
 -- a mark that counts still counts once it is met
-pub met-met : (key : SigningKey) → met (met key) ≡ met key
-unfolding met markCounts
-met-met key = rw (and-again (key .counter .mark) (not (outside 1 (2 ^ key .profile .height) (key .counter .next))))
+pub idle-gone : (key : SigningKey) → withoutIdleMark (withoutIdleMark key) ≡ withoutIdleMark key
+unfolding withoutIdleMark markCounts
+idle-gone key = rw (and-again (key .counter .mark) (not (outside 1 (2 ^ key .profile .height) (key .counter .next))))
 
-pub met-profile : (key : SigningKey) → met key .profile ≡ key .profile
-unfolding met
-met-profile key = refl
+pub idle-profile : (key : SigningKey) → withoutIdleMark key .profile ≡ key .profile
+unfolding withoutIdleMark
+idle-profile key = refl
 
-pub met-held : (key : SigningKey) → Held key → Held (met key)
-unfolding met
-met-held key held = record { seed-long = held .seed-long; seed-bytes = held .seed-bytes; secret-long = held .secret-long; secret-bytes = held .secret-bytes; next-fits = held .next-fits }
+pub idle-held : (key : SigningKey) → Held key → Held (withoutIdleMark key)
+unfolding withoutIdleMark
+idle-held key held = record {
+  seed-long = held .seed-long;
+  seed-bytes = held .seed-bytes;
+  secret-long = held .secret-long;
+  secret-bytes = held .secret-bytes;
+  next-fits = held .next-fits;
+}
 
 -- the edition is told by the number of bytes
 edition-told : (edition : ℕ) → 1 ≤ edition → edition ≤ 2 → cond (eqb (keyLength + length (editionByte edition)) (keyLength + 1)) 2 1 ≡ edition
@@ -70,15 +77,23 @@ module _ (key : SigningKey) where
   -- a frame's bytes in four parts
   pub key-parts : 7 ∷ keyBytes key ≡ front ++ key .seed ++ key .secret ++ last
   unfolding keyBytes
-  key-parts = append-assoc (front ++ key .seed ++ key .secret) (toBytes 4 (key .counter .next)) (cond (key .counter .mark) 1 0 ∷ editionByte (key .profile .edition))
+  key-parts = append-assoc (front ++ key .seed ++ key .secret) (toBytes 4 (key .counter .next))
+      (cond (key .counter .mark) 1 0 ∷ editionByte (key .profile .edition))
 
   pub key-bytes-long : length (key .seed) ≡ 16 → length (key .secret) ≡ 16 → length (keyBytes key) ≡ keyLength + length (editionByte (key .profile .edition))
   unfolding toBytes
   key-bytes-long seed secret =
-      omega (arith, ap length key-parts, length-append (front ++ key .seed ++ key .secret) last, length-append (front ++ key .seed) (key .secret), length-append front (key .seed))
+      omega (
+        arith,
+        ap length key-parts,
+        length-append (front ++ key .seed ++ key .secret) last,
+        length-append (front ++ key .seed) (key .secret),
+        length-append front (key .seed),
+      )
 
   -- the profile's bytes
-  profile-bytes : (byteIn chainsField (keyBytes key) ≡ key .profile .shape .chains) × (byteIn widthField (keyBytes key) ≡ key .profile .shape .width) × (byteIn heightField (keyBytes key) ≡ key .profile .height)
+  profile-bytes : (byteIn chainsField (keyBytes key) ≡ key .profile .shape .chains) × (byteIn widthField (keyBytes key) ≡ key .profile .shape .width)
+      × (byteIn heightField (keyBytes key) ≡ key .profile .height)
   unfolding keyBytes
   profile-bytes = (refl, refl, refl)
 
@@ -109,7 +124,8 @@ module _ (key : SigningKey) where
 
     pub last-byte : getD (keyBytes key) keyLength 2 ≡ 2
     unfolding toBytes
-    last-byte = sym (getD-drop (offset nextField) (keyBytes key) lastLength 2) ∙ rw from-last (edition-byte (λ l. getD l 0 2 ≡ 2) (key .profile .edition) refl refl)
+    last-byte = sym (getD-drop (offset nextField) (keyBytes key) lastLength 2)
+        ∙ rw from-last (edition-byte (λ l. getD l 0 2 ≡ 2) (key .profile .edition) refl refl)
 
     module _ (passed : firstCause (profileCauses (key .profile)) ≡ 0) where
       pub key-bytes-below : Below 256 (keyBytes key)
@@ -122,10 +138,12 @@ module _ (key : SigningKey) where
           let next : List ℕ = toBytes 4 (key .counter .next) in
           let mark : ℕ = cond (key .counter .mark) 1 0 in
           let edition : List ℕ = editionByte (key .profile .edition) in
-          let seeds = below-append 256 (sum ++ key .seed) (key .secret) (below-append 256 sum (key .seed) (toBytes-lt 2 (key .profile .shape .sum)) (held .seed-bytes)) (held .secret-bytes) in
+          let seeds = below-append 256 (sum ++ key .seed) (key .secret)
+          (below-append 256 sum (key .seed) (toBytes-lt 2 (key .profile .shape .sum)) (held .seed-bytes)) (held .secret-bytes) in
           let numbers = below-append 256 (sum ++ key .seed ++ key .secret) next seeds (toBytes-lt 4 (key .counter .next)) in
           let ending = edition-byte (Below 256) (key .profile .edition) (below-by-test 256 (2 ∷ []) tt) (below-by-test 256 [] tt) in
-          below-append 256 (sum ++ key .seed ++ key .secret ++ next) (mark ∷ edition) numbers (below-cons 256 mark edition (omega (arith, mark-small (key .counter .mark))) ending) i
+          below-append 256 (sum ++ key .seed ++ key .secret ++ next) (mark ∷ edition) numbers
+          (below-cons 256 mark edition (omega (arith, mark-small (key .counter .mark))) ending) i
 
       -- the key stands in its bytes
       pub key-in-bytes : keyIn (keyBytes key) ≡ key
@@ -135,5 +153,21 @@ module _ (key : SigningKey) where
           let named = profile-passed (key .profile) passed .named in
           let sum = from-to-lt 2 (key .profile .shape .sum) (omega (arith, sum-small (key .profile .shape) (limits .0))) in
           let next = from-to-lt 4 (key .counter .next) (held .next-fits) in
-          rw
-          (profile-bytes .0, profile-bytes .1, profile-bytes .2, sum-bytes, sum, key-bytes-long (held .seed-long) (held .secret-long), edition-told (key .profile .edition) (named .0) (named .1), from-seed, take-at (key .seed) (key .secret ++ last) 16 (held .seed-long), from-secret, take-at (key .secret) last 16 (held .secret-long), from-last, next-bytes, next, mark-byte, mark-told (key .counter .mark))
+          rw (
+            profile-bytes .0,
+            profile-bytes .1,
+            profile-bytes .2,
+            sum-bytes,
+            sum,
+            key-bytes-long (held .seed-long) (held .secret-long),
+            edition-told (key .profile .edition) (named .0) (named .1),
+            from-seed,
+            take-at (key .seed) (key .secret ++ last) 16 (held .seed-long),
+            from-secret,
+            take-at (key .secret) last 16 (held .secret-long),
+            from-last,
+            next-bytes,
+            next,
+            mark-byte,
+            mark-told (key .counter .mark),
+          )

@@ -20,12 +20,13 @@ use Rattle.profile.specs.Checks.{profileCauses}
 use Rattle.profile.specs.declared.Profile.{Profile}
 use Rattle.signing_key.specs.Counter.{markCounts}
 use Rattle.signing_key.specs.declared.SigningKey.{SigningKey}
-use Rattle.stored_key.specs.KeyFields.{chainsField, widthField, heightField, sumField, seedField, secretField, nextField, markField, offset, keyLength, byteIn}
-use Rattle.stored_key.specs.KeyFrame.{keyIn, met}
-use Rattle.stored_key.specs.Operations.{readCode, lineIn, keyOf, ReadsKey}
+use Rattle.stored_key.specs.KeyFields.{chainsField, widthField, heightField, sumField, seedField, secretField, nextField, markField, offset, keyLength}
+use Rattle.stored_key.specs.KeyFields.{byteIn}
+use Rattle.stored_key.specs.KeyFrame.{keyIn, withoutIdleMark}
+use Rattle.stored_key.specs.Operations.{readKeyCode, storedLine, keyOf, ReadsKey}
 use Rattle.stored_key.specs.inner.Parts.{place, frameLength, framedTest, RefusesFrame}
 use Rattle.stored_key.specs.declared.reader.KeyRead.{KeyRead}
-use Rattle.stored_key.proofs.KeyLaws.{met-profile}
+use Rattle.stored_key.proofs.KeyLaws.{idle-profile}
 use Rattle.stored_key.proofs.StoredLaws.{RightFrame, right-line, right-read, right-long, wrong-read}
 
 -- an element that is there, whatever stands for one that is not
@@ -35,42 +36,73 @@ any-default l i d e h = cc (drop-cons l i d h, drop-cons l i e h)
 module _ (bytes : List ℕ) (long : frameLength ≤ length bytes) where
   -- the profile behind the kind
   pub profile-behind : {edition : ℕ} → edition ≡ cond (eqb (length bytes - 1) (keyLength + 1)) 2 1
-      → _≡_ {A = Profile} (record { shape = record { chains = getD bytes (place chainsField) 0; width = getD bytes (place widthField) 0; sum = 256 * getD bytes (place sumField) 0 + getD bytes (place sumField + 1) 0 }; height = getD bytes (place heightField) 0; edition = edition }) (keyIn (drop 1 bytes) .profile)
+      → _≡_ {A = Profile} (record {
+        shape = record {
+          chains = getD bytes (place chainsField) 0;
+          width = getD bytes (place widthField) 0;
+          sum =
+              256 * getD bytes (place sumField) 0 + getD bytes (place sumField + 1) 0;
+        };
+        height = getD bytes (place heightField) 0;
+        edition = edition;
+      })
+      (keyIn (drop 1 bytes) .profile)
   unfolding keyIn fromBytes
   profile-behind e =
       let high : ℕ = getD bytes (place sumField) 0 in
       let low : ℕ = getD bytes (place sumField + 1) 0 in
       let sum : high * 256 ^ 1 + (low * 256 ^ 0 + 0) ≡ 256 * high + low = omega arith in
-      rw
-      (getD-drop 1 bytes (offset chainsField) 0, getD-drop 1 bytes (offset widthField) 0, getD-drop 1 bytes (offset heightField) 0, length-drop 1 bytes, drop-drop (offset sumField) 1 bytes, drop-two 0 bytes (place sumField) (omega arith), sum, e)
+      rw (
+        getD-drop 1 bytes (offset chainsField) 0,
+        getD-drop 1 bytes (offset widthField) 0,
+        getD-drop 1 bytes (offset heightField) 0,
+        length-drop 1 bytes,
+        drop-drop (offset sumField) 1 bytes,
+        drop-two 0 bytes (place sumField) (omega arith),
+        sum,
+        e,
+      )
 
   -- the key behind the kind
-  pub key-behind : {p : Profile} {seed secret : List ℕ} {next : ℕ} {mark : Bool} → p ≡ keyIn (drop 1 bytes) .profile → seed ≡ take 16 (drop (place seedField) bytes) → secret ≡ take 16 (drop (place secretField) bytes)
-      → next ≡ fromBytes (take 4 (drop (place nextField) bytes)) → mark ≡ markCounts (2 ^ p .height) (record { next = next; mark = eqb (getD bytes (place markField) 0) 1 })
-      → _≡_ {A = SigningKey} (record { profile = p; seed = seed; secret = secret; counter = record { next = next; mark = mark } }) (met (keyIn (drop 1 bytes)))
-  unfolding keyIn met
+  pub key-behind : {p : Profile} {seed secret : List ℕ} {next : ℕ} {mark : Bool} → p ≡ keyIn (drop 1 bytes) .profile
+      → seed ≡ take 16 (drop (place seedField) bytes) → secret ≡ take 16 (drop (place secretField) bytes)
+      → next ≡ fromBytes (take 4 (drop (place nextField) bytes))
+      → mark ≡ markCounts (2 ^ p .height) (record { next = next; mark = eqb (getD bytes (place markField) 0) 1 })
+      → _≡_ {A = SigningKey} (record { profile = p; seed = seed; secret = secret; counter = record { next = next; mark = mark } })
+      (withoutIdleMark (keyIn (drop 1 bytes)))
+  unfolding keyIn withoutIdleMark
   key-behind e seed secret next mark =
-      rw (mark, seed, secret, next, e, drop-drop (offset seedField) 1 bytes, drop-drop (offset secretField) 1 bytes, drop-drop (offset nextField) 1 bytes, getD-drop 1 bytes (offset markField) 0)
+      rw (
+        mark,
+        seed,
+        secret,
+        next,
+        e,
+        drop-drop (offset seedField) 1 bytes,
+        drop-drop (offset secretField) 1 bytes,
+        drop-drop (offset nextField) 1 bytes,
+        getD-drop 1 bytes (offset markField) 0,
+      )
 
 module _ (frame : List ℕ) where
   -- a frame that is refused
   pub refuses-key : {r : KeyRead} → ((bytes : List ℕ) → RightFrame frame bytes → ⊥) → RefusesFrame r → ReadsKey frame r
-  unfolding readCode lineIn keyOf
+  unfolding readKeyCode storedLine keyOf
   refuses-key never answer =
       let e = wrong-read frame never in
-      record { code = answer .code ∙ ap readCode (sym e); line = answer .line ∙ ap lineIn (sym e); key = answer .key ∙ ap keyOf (sym e) }
+      record { code = answer .code ∙ ap readKeyCode (sym e); line = answer .line ∙ ap storedLine (sym e); key = answer .key ∙ ap keyOf (sym e) }
 
   -- a right frame is as long as the line of either edition
   pub other-long : (length frame ≡ 2 * frameLength + 1 → ⊥) → (length frame ≡ 2 * frameLength + 3 → ⊥) → (bytes : List ℕ) → RightFrame frame bytes → ⊥
   other-long first second bytes r = omega (arith, right-long r, r .some, r .few)
 
   -- a frame that is read
-  pub reads-key : {bytes : List ℕ} {o : Outcome} {key : SigningKey} → RightFrame frame bytes → outcomeCode o ≡ 0 → key ≡ met (keyIn bytes)
+  pub reads-key : {bytes : List ℕ} {o : Outcome} {key : SigningKey} → RightFrame frame bytes → outcomeCode o ≡ 0 → key ≡ withoutIdleMark (keyIn bytes)
       → ReadsKey frame (record { outcome = o; line = 0; key = key })
-  unfolding readCode lineIn keyOf
+  unfolding readKeyCode storedLine keyOf
   reads-key r granted found =
       let e = right-read r in
-      record { code = granted ∙ ap readCode (sym e); line = ap lineIn (sym e); key = found ∙ ap keyOf (sym e) }
+      record { code = granted ∙ ap readKeyCode (sym e); line = ap storedLine (sym e); key = found ∙ ap keyOf (sym e) }
 
   -- a line of other than the slice's bytes is no right frame of its length
   pub other-line : (old new : List ℕ) → length frame ≡ 2 * length old + 1 → ReadsLine frame 0 old new false → (bytes : List ℕ) → RightFrame frame bytes → ⊥
@@ -91,15 +123,16 @@ module _ (frame : List ℕ) where
     right-framed bytes r = rw (bytes-are bytes r, lt-ltb (byteIn markField bytes) 2 (r .mark), eq-eqb (getD bytes keyLength 2) 2 (r .last))
 
     -- and the key in them
-    module _ {key : SigningKey} (found : key ≡ met (keyIn (drop 1 new))) where
+    module _ {key : SigningKey} (found : key ≡ withoutIdleMark (keyIn (drop 1 new))) where
       same-cause : firstCause (profileCauses (key .profile)) ≡ firstCause (profileCauses (keyIn (drop 1 new) .profile))
-      same-cause = rw (found, met-profile)
+      same-cause = rw (found, idle-profile)
 
       pub right-passed : (bytes : List ℕ) → RightFrame frame bytes → firstCause (profileCauses (key .profile)) ≡ 0
       right-passed bytes r = same-cause ∙ rw (bytes-are bytes r) (r .passed)
 
       -- bytes that pass the tests are those of a right frame
-      pub framed-right : frameLength ≤ length new → length new ≤ frameLength + 1 → framedTest new ≡ true → firstCause (profileCauses (key .profile)) ≡ 0 → RightFrame frame (drop 1 new)
+      pub framed-right : frameLength ≤ length new → length new ≤ frameLength + 1 → framedTest new ≡ true → firstCause (profileCauses (key .profile)) ≡ 0
+          → RightFrame frame (drop 1 new)
       framed-right some few tests passed =
           let kind = both (eqb (getD new 0 0) 7) _ tests in
           let mark = both (ltb (getD new (place markField) 0) 2) (eqb (getD new frameLength 2) 2) (kind .1) in

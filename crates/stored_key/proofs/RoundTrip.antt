@@ -15,9 +15,9 @@ use Rattle.signing_key.specs.Counter.{markCounts}
 use Rattle.signing_key.specs.declared.Counter.{Counter}
 use Rattle.signing_key.specs.declared.SigningKey.{SigningKey}
 use Rattle.stored_key.specs.KeyFields.{markField, byteIn}
-use Rattle.stored_key.specs.KeyFrame.{keyIn, met, storedKey, Stored, wrongFrame, stored, readStored}
-use Rattle.stored_key.specs.Operations.{readCode, lineIn, keyOf, ReadsKey}
-use Rattle.stored_key.specs.RoundTrip.{WrittenIsRead, IdleIn, ReadIsWritten}
+use Rattle.stored_key.specs.KeyFrame.{keyIn, withoutIdleMark, storedKey, Stored, wrongFrame, stored, readStored}
+use Rattle.stored_key.specs.Operations.{readKeyCode, storedLine, keyOf, ReadsKey}
+use Rattle.stored_key.specs.RoundTrip.{WrittenKeyIsRead, IdleIn, ReadKeyIsWritten}
 use Rattle.stored_key.specs.declared.reader.KeyRead.{KeyRead}
 use Rattle.stored_key.proofs.BytesLaws.{bytes-again}
 use Rattle.stored_key.proofs.StoredLaws.{RightFrame, right-frame, read-right, stored-read}
@@ -26,22 +26,23 @@ use Rattle.stored_key.proofs.WriteAnswer.{granted-passed, granted-writt
 -- what Read key answers to a frame that is read as a key, and the other way round
 module _ {frame : List ℕ} {found : KeyRead} (r : ReadsKey frame found) where
   stored-answer : {key : SigningKey} → readStored frame ≡ stored key → (outcomeCode (found .outcome) ≡ 0) × (found .line ≡ 0) × (found .key ≡ key)
-  unfolding readCode lineIn keyOf
-  stored-answer e = (r .code ∙ ap readCode e, r .line ∙ ap lineIn e, r .key ∙ ap keyOf e)
+  unfolding readKeyCode storedLine keyOf
+  stored-answer e = (r .code ∙ ap readKeyCode e, r .line ∙ ap storedLine e, r .key ∙ ap keyOf e)
 
   answer-stored : outcomeCode (found .outcome) ≡ 0 → readStored frame ≡ stored (found .key)
-  unfolding readCode keyOf
+  unfolding readKeyCode keyOf
   answer-stored granted = by (readStored frame) refl
     where
       by : (s : Stored) → readStored frame ≡ s → readStored frame ≡ stored (found .key)
-      by wrongFrame e = let seventeen = r .code ∙ ap readCode e in absurd (omega arith)
+      by wrongFrame e = let seventeen = r .code ∙ ap readKeyCode e in absurd (omega arith)
       by (stored key) e = e ∙ ap stored (sym (r .key ∙ ap keyOf e))
 
-pub written-is-read : WrittenIsRead
+pub written-is-read : WrittenKeyIsRead
 written-is-read key frame frame′ made held w granted found r =
     let zero = sym (w .code) ∙ granted in
     let written = granted-written key frame w zero in
-    let front : take (made .length) frame′ ≡ storedKey key = rw (written .0, written .1) (take-at (storedKey key) (drop (length (storedKey key)) frame) (length (storedKey key)) refl) in
+    let front : take (made .length) frame′ ≡ storedKey key = rw (written .0, written .1)
+    (take-at (storedKey key) (drop (length (storedKey key)) frame) (length (storedKey key)) refl) in
     stored-answer r (rw front (stored-read key held (granted-passed key frame zero)))
 
 -- a mark that counts is a mark
@@ -64,18 +65,18 @@ module _ {frame bytes : List ℕ} (r : RightFrame frame bytes) (counts : IdleIn 
       by true false e m = absurd (true≢false (sym (marked-mark (keyIn bytes .profile) (keyIn bytes .counter) e) ∙ m))
       by false true e m = absurd (counts (idle e m))
 
-  met-as-it-stands : met (keyIn bytes) ≡ keyIn bytes
-  unfolding met
-  met-as-it-stands = rw same-mark
+  no-idle-mark : withoutIdleMark (keyIn bytes) ≡ keyIn bytes
+  unfolding withoutIdleMark
+  no-idle-mark = rw same-mark
 
   frame-again : storedKey (keyIn bytes) ≡ frame
   unfolding storedKey
-  frame-again = rw (met-as-it-stands, bytes-again bytes (r .below) (r .some) (r .few) (r .mark) (r .last)) (sym (r .line))
+  frame-again = rw (no-idle-mark, bytes-again bytes (r .below) (r .some) (r .few) (r .mark) (r .last)) (sym (r .line))
 
-pub read-is-written : ReadIsWritten
+pub read-is-written : ReadKeyIsWritten
 read-is-written frame found r granted counts slice slice′ made room w =
     let of = read-right frame (answer-stored r granted) in
-    let same : found .key ≡ keyIn (of .0) = of .2 ∙ met-as-it-stands (of .1) counts in
+    let same : found .key ≡ keyIn (of .0) = of .2 ∙ no-idle-mark (of .1) counts in
     let again : storedKey (found .key) ≡ frame = ap storedKey same ∙ frame-again (of .1) counts in
     let zero = room-granted (found .key) slice (rw same (of .1 .passed)) (rw again room) in
     let written = granted-written (found .key) slice w zero in

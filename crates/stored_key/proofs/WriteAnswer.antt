@@ -27,8 +27,8 @@ use Rattle.frames.proofs.FrameNumbers.{edition-byte}
 use Rattle.signing_key.specs.Counter.{markCounts}
 use Rattle.signing_key.specs.declared.SigningKey.{SigningKey}
 use Rattle.stored_key.specs.KeyFields.{seedField, secretField, nextField}
-use Rattle.stored_key.specs.KeyFrame.{keyBytes, met, storedKey}
-use Rattle.stored_key.specs.Operations.{writeCode, bytesWritten, frameAfter, WritesKey}
+use Rattle.stored_key.specs.KeyFrame.{keyBytes, withoutIdleMark, storedKey}
+use Rattle.stored_key.specs.Operations.{writeKeyCode, bytesWritten, frameAfter, WritesKey}
 use Rattle.stored_key.specs.inner.Parts.{place, frameLength, lastLength, frontBytes, lastBytes}
 use Rattle.stored_key.specs.declared.writer.KeyWritten.{KeyWritten}
 use Rattle.stored_key.proofs.KeyLaws.{key-parts, key-bytes-long}
@@ -45,7 +45,8 @@ module _ (front bytes o : List ℕ) (at : ℕ) {out out′ : List ℕ} (long : 2
       ∙ rw (← q, hexOf-append front bytes) (ap (λ l. l ++ drop end o) (sym (append-assoc (hexOf front) (hexOf bytes) (lineEnd ∷ []))))
 
 -- what stands in front of the seeds, of a head with the byte of edition 2
-pub front-taken : (p : Profile) {head : List ℕ} → head ≡ 7 ∷ p .shape .chains ∷ p .shape .width ∷ p .height ∷ (toBytes 2 (p .shape .sum) ++ editionByte 2) → take (place seedField) head ≡ frontBytes p
+pub front-taken : (p : Profile) {head : List ℕ} → head ≡ 7 ∷ p .shape .chains ∷ p .shape .width ∷ p .height ∷ (toBytes 2 (p .shape .sum) ++ editionByte 2)
+    → take (place seedField) head ≡ frontBytes p
 unfolding toBytes
 front-taken p e = ap (take (place seedField)) e
 
@@ -55,8 +56,10 @@ front-long p = refl
 
 -- what stands in front of the last bytes
 pub front-written : (p : Profile) (seed secret o : List ℕ) {o₁ o₂ o₃ : List ℕ} → length seed ≡ 16 → length secret ≡ 16
-    → o₁ ≡ take 0 o ++ hexOf (frontBytes p) ++ drop (0 + 2 * length (frontBytes p)) o → o₂ ≡ take (2 * place seedField) o₁ ++ hexOf seed ++ drop (2 * place seedField + 2 * length seed) o₁
-    → o₃ ≡ take (2 * place secretField) o₂ ++ hexOf secret ++ drop (2 * place secretField + 2 * length secret) o₂ → o₃ ≡ hexOf (frontBytes p ++ seed ++ secret) ++ drop (2 * place nextField) o
+    → o₁ ≡ take 0 o ++ hexOf (frontBytes p) ++ drop (0 + 2 * length (frontBytes p)) o
+    → o₂ ≡ take (2 * place seedField) o₁ ++ hexOf seed ++ drop (2 * place seedField + 2 * length seed) o₁
+    → o₃ ≡ take (2 * place secretField) o₂ ++ hexOf secret ++ drop (2 * place secretField + 2 * length secret) o₂
+    → o₃ ≡ hexOf (frontBytes p ++ seed ++ secret) ++ drop (2 * place nextField) o
 unfolding toBytes
 front-written p seed secret o seed-long secret-long e₁ e₂ e₃ =
     let front : List ℕ = frontBytes p in
@@ -69,65 +72,74 @@ unfolding toBytes
 last-long next mark edition = omega arith
 
 -- the last bytes of edition 2, as far as another edition has them
-pub last-taken : (next : ℕ) (mark : Bool) (edition count : ℕ) {last : List ℕ} → count ≡ lastLength + length (editionByte edition) → last ≡ lastBytes next mark 2 → take count last ≡ lastBytes next mark edition
+pub last-taken : (next : ℕ) (mark : Bool) (edition count : ℕ) {last : List ℕ} → count ≡ lastLength + length (editionByte edition) → last ≡ lastBytes next mark 2
+    → take count last ≡ lastBytes next mark edition
 unfolding toBytes editionByte
 last-taken next mark edition count e w =
-    rw (e, w) (edition-byte (λ ending. take (lastLength + length ending) (lastBytes next mark 2) ≡ toBytes 4 next ++ (cond mark 1 0 ∷ ending)) edition refl refl)
+    rw (e, w) (edition-byte (λ ending. take (lastLength + length ending) (lastBytes next mark 2) ≡ toBytes 4 next
+    ++ (cond mark 1 0 ∷ ending)) edition refl refl)
 
 module _ (key : SigningKey) (seed-long : length (key .seed) ≡ 16) (secret-long : length (key .secret) ≡ 16) where
   -- how long the frame is
   pub stored-long : length (storedKey key) ≡ 2 * (frameLength + length (editionByte (key .profile .edition))) + 1
-  unfolding storedKey met
-  stored-long = line-long (7 ∷ []) (keyBytes (met key)) ∙ omega (arith, key-bytes-long (met key) seed-long secret-long)
+  unfolding storedKey withoutIdleMark
+  stored-long = line-long (7 ∷ []) (keyBytes (withoutIdleMark key)) ∙ omega (arith, key-bytes-long (withoutIdleMark key) seed-long secret-long)
 
   -- the whole frame
-  pub frame-written : (o : List ℕ) {o₁ o₂ last : List ℕ} {end : ℕ} → o₁ ≡ hexOf (frontBytes (key .profile) ++ key .seed ++ key .secret) ++ drop (2 * place nextField) o
+  pub frame-written : (o : List ℕ) {o₁ o₂ last : List ℕ} {end : ℕ}
+      → o₁ ≡ hexOf (frontBytes (key .profile) ++ key .seed ++ key .secret) ++ drop (2 * place nextField) o
       → last ≡ lastBytes (key .counter .next) (markCounts (2 ^ key .profile .height) (key .counter)) (key .profile .edition)
-      → end ≡ 2 * place nextField + length (lineOf last) → o₂ ≡ take (2 * place nextField) o₁ ++ lineOf last ++ drop end o₁ → (end ≡ length (storedKey key)) × (o₂ ≡ storedKey key ++ drop end o)
-  unfolding storedKey met toBytes
+      → end ≡ 2 * place nextField + length (lineOf last) → o₂ ≡ take (2 * place nextField) o₁ ++ lineOf last ++ drop end o₁ → (end ≡ length (storedKey key))
+      × (o₂ ≡ storedKey key ++ drop end o)
+  unfolding storedKey withoutIdleMark toBytes
   frame-written o {end} e₁ l q e₂ =
       let front : List ℕ = frontBytes (key .profile) in
       let seeds : List ℕ = front ++ key .seed ++ key .secret in
       let last : List ℕ = lastBytes (key .counter .next) (markCounts (2 ^ key .profile .height) (key .counter)) (key .profile .edition) in
-      let long : 2 * length seeds ≡ 2 * place nextField = omega (arith, length-append (front ++ key .seed) (key .secret), length-append front (key .seed)) in
-      (omega (arith, stored-long, length-lineOf last, ap (λ l. length (lineOf l)) l), line-behind seeds last o (2 * place nextField) long e₁ (q ∙ rw l) (e₂ ∙ rw l) ∙ ap (λ l. lineOf l ++ drop end o) (sym (key-parts (met key))))
+      let long : 2 * length seeds ≡ 2 * place nextField = omega (arith, length-append (front ++ key .seed) (key .secret), length-append front (key .seed)) in (
+        omega (arith, stored-long, length-lineOf last, ap (λ l. length (lineOf l)) l),
+        line-behind seeds last o (2 * place nextField) long e₁ (q ∙ rw l) (e₂ ∙ rw l)
+            ∙ ap (λ l. lineOf l ++ drop end o) (sym (key-parts (withoutIdleMark key))),
+      )
 
 -- the two answers to a profile within its limits, and the one to another
 module _ (key : SigningKey) (frame : List ℕ) where
   abbrev late : List (Bool × ℕ)
   late = (ltb (length frame) (length (storedKey key)), 6) ∷ []
 
-  pub profile-refused : (o : Outcome) → outcomeCode o ≡ firstCause (profileCauses (key .profile)) → (r : Refusal) → o ≡ Refused r → WritesKey key frame frame (record { outcome = o; length = 0 })
-  unfolding writeCode bytesWritten frameAfter
+  pub profile-refused : (o : Outcome) → outcomeCode o ≡ firstCause (profileCauses (key .profile)) → (r : Refusal) → o ≡ Refused r
+      → WritesKey key frame frame (record { outcome = o; length = 0 })
+  unfolding writeKeyCode bytesWritten frameAfter
   profile-refused o e r q =
       let some = refused-some (profileCauses (key .profile)) late o e r q in
       record { code = refused-then (profileCauses (key .profile)) late o e r q; bytes = rw some; written = rw some }
 
-  pub granted-passed : writeCode key frame ≡ 0 → firstCause (profileCauses (key .profile)) ≡ 0
-  unfolding writeCode
+  pub granted-passed : writeKeyCode key frame ≡ 0 → firstCause (profileCauses (key .profile)) ≡ 0
+  unfolding writeKeyCode
   granted-passed zero = none-of-append (profileCauses (key .profile)) late (profile-numbered (key .profile)) zero .0
 
   -- what is left where nothing is refused
-  pub granted-written : {frame′ : List ℕ} {made : KeyWritten} → WritesKey key frame frame′ made → writeCode key frame ≡ 0
+  pub granted-written : {frame′ : List ℕ} {made : KeyWritten} → WritesKey key frame frame′ made → writeKeyCode key frame ≡ 0
       → (made .length ≡ length (storedKey key)) × (frame′ ≡ storedKey key ++ drop (length (storedKey key)) frame)
   unfolding bytesWritten frameAfter
   granted-written w zero = (rw zero at (w .bytes), rw zero at (w .written))
 
   module _ (none : firstCause (profileCauses (key .profile)) ≡ 0) where
-    code-then : writeCode key frame ≡ firstCause late
-    unfolding writeCode
+    code-then : writeKeyCode key frame ≡ firstCause late
+    unfolding writeKeyCode
     code-then = none-then (profileCauses (key .profile)) late none (profile-numbered (key .profile))
 
     pub no-room : length frame < length (storedKey key) → WritesKey key frame frame (record { outcome = Refused OutputTooShort; length = 0 })
     unfolding bytesWritten frameAfter
     no-room short =
-        let six : writeCode key frame ≡ 6 = code-then ∙ rw (lt-ltb (length frame) (length (storedKey key)) short) in
+        let six : writeKeyCode key frame ≡ 6 = code-then ∙ rw (lt-ltb (length frame) (length (storedKey key)) short) in
         record { code = sym six; bytes = rw six; written = rw six }
 
-    pub room-granted : length (storedKey key) ≤ length frame → writeCode key frame ≡ 0
+    pub room-granted : length (storedKey key) ≤ length frame → writeKeyCode key frame ≡ 0
     room-granted room = code-then ∙ rw (le-ltb (length frame) (length (storedKey key)) room)
 
-    pub key-written : {frame′ : List ℕ} {end : ℕ} → length (storedKey key) ≤ length frame → end ≡ length (storedKey key) → frame′ ≡ storedKey key ++ drop end frame
+    pub key-written : {frame′ : List ℕ} {end : ℕ} → length (storedKey key) ≤ length frame → end ≡ length (storedKey key)
+        → frame′ ≡ storedKey key ++ drop end frame
         → WritesKey key frame frame′ (record { outcome = Granted; length = end })
     unfolding bytesWritten frameAfter
     key-written room e w =

@@ -13,7 +13,8 @@ use Rattle.frames.specs.Lines.{frameLine, readFrame}
 use Rattle.signing_key.specs.Counter.{markCounts}
 use Rattle.signing_key.specs.Key.{recounted}
 use Rattle.signing_key.specs.declared.SigningKey.{SigningKey}
-use Rattle.stored_key.specs.KeyFields.{chainsField, widthField, heightField, sumField, seedField, secretField, nextField, markField, keyLength, fieldIn, byteIn}
+use Rattle.stored_key.specs.KeyFields.{chainsField, widthField, heightField, sumField, seedField, secretField, nextField, markField}
+use Rattle.stored_key.specs.KeyFields.{keyLength, fieldIn, byteIn}
 
 -- "kind 07": behind it stand the fields, and one byte more in edition 2
 abbrev pub keyFrame : Frame
@@ -27,12 +28,12 @@ keyBytes key =
     ++ (cond (key .counter .mark) 1 0 ∷ editionByte (key .profile .edition)))
 
 -- a mark that does not count is "read, written and met as none"
-unfoldable pub met : SigningKey → SigningKey
-met key = recounted key (record { next = key .counter .next; mark = markCounts (2 ^ key .profile .height) (key .counter) })
+unfoldable pub withoutIdleMark : SigningKey → SigningKey
+withoutIdleMark key = recounted key (record { next = key .counter .next; mark = markCounts (2 ^ key .profile .height) (key .counter) })
 
 -- the frame of a key, as a line
 unfoldable pub storedKey : SigningKey → List ℕ
-storedKey key = frameLine keyFrame (keyBytes (met key))
+storedKey key = frameLine keyFrame (keyBytes (withoutIdleMark key))
 
 -- the key that the bytes behind the kind are, each field at its place
 unfoldable pub keyIn : (bytes : List ℕ) → SigningKey
@@ -48,20 +49,23 @@ keyIn bytes =
       counter = record { next = fromBytes (fieldIn nextField bytes); mark = eqb (byteIn markField bytes) 1 };
     }
 
--- "mark (00 or 01)", the last byte 02 where there is one, a profile within its limits, and nothing behind the line: "a wrong one, one with anything after it, or one
--- with a profile outside the limits"
+-- "mark (00 or 01)", the last byte 02 where there is one, a profile within its limits, and nothing behind the line: "a wrong one, one with
+-- anything after it, or one with a profile outside the limits"
 unfoldable pub isRight : (bytes rest : List ℕ) → Bool
 isRight bytes rest =
-    ltb (byteIn markField bytes) 2 && (eqb (getD bytes keyLength 2) 2 && (eqb (firstCause (profileCauses (keyIn bytes .profile))) 0 && eqb (length rest) 0))
+    ltb (byteIn markField bytes) 2 && (eqb (getD bytes keyLength 2) 2 &&
+    (eqb (firstCause (profileCauses (keyIn bytes .profile))) 0 && eqb (length rest) 0))
 
 -- what a frame is read as
 pub data Stored : Type 0 where
   wrongFrame : Stored
   stored : SigningKey → Stored
 
+-- the key in the bytes of a line, a mark that does not count as none
 unfoldable pub keyOnLine : Line → Stored
 keyOnLine wrong = wrongFrame
-keyOnLine (right bytes rest) = cond (isRight bytes rest) (stored (met (keyIn bytes))) wrongFrame
+keyOnLine (right bytes rest) = cond (isRight bytes rest) (stored (withoutIdleMark (keyIn bytes))) wrongFrame
 
+-- what Read key finds: the first line of the slice is the frame, and nothing may stand behind it
 unfoldable pub readStored : (frame : List ℕ) → Stored
 readStored frame = keyOnLine (readFrame keyFrame frame)

@@ -13,20 +13,20 @@ use Rattle.stored_key.specs.declared.writer.KeyWritten.{KeyWritten}
 use Rattle.stored_key.specs.declared.reader.KeyRead.{KeyRead}
 
 -- "Writing it gives the profile checks, then 6"
-unfoldable pub writeCode : SigningKey → (frame : List ℕ) → ℕ
-writeCode key frame = firstCause (profileCauses (key .profile) ++ ((ltb (length frame) (length (storedKey key)), 6) ∷ []))
+unfoldable pub writeKeyCode : SigningKey → (frame : List ℕ) → ℕ
+writeKeyCode key frame = firstCause (profileCauses (key .profile) ++ ((ltb (length frame) (length (storedKey key)), 6) ∷ []))
 
 -- "A writer of a sheet or frame … also gives the number of bytes written": 0 where it is refused
 unfoldable pub bytesWritten : SigningKey → (frame : List ℕ) → ℕ
-bytesWritten key frame = cond (eqb (writeCode key frame) 0) (length (storedKey key)) 0
+bytesWritten key frame = cond (eqb (writeKeyCode key frame) 0) (length (storedKey key)) 0
 
 -- what the slice holds afterwards: the frame, and behind it what stood there; refused, what it held
 unfoldable pub frameAfter : SigningKey → (frame : List ℕ) → List ℕ
-frameAfter key frame = cond (eqb (writeCode key frame) 0) (storedKey key ++ drop (length (storedKey key)) frame) frame
+frameAfter key frame = cond (eqb (writeKeyCode key frame) 0) (storedKey key ++ drop (length (storedKey key)) frame) frame
 
 -- what Write key answers and leaves
 pub record WritesKey (key : SigningKey) (frame frame′ : List ℕ) (r : KeyWritten) : Type 0 where
-  pub code : outcomeCode (r .outcome) ≡ writeCode key frame
+  pub code : outcomeCode (r .outcome) ≡ writeKeyCode key frame
   pub bytes : r .length ≡ bytesWritten key frame
   pub written : frame′ ≡ frameAfter key frame
 
@@ -40,21 +40,23 @@ noKey =
       counter = record { next = 0; mark = false };
     }
 
--- "17 with 1": the code and the number of the line
-unfoldable pub readCode : Stored → ℕ
-readCode wrongFrame = 17
-readCode (stored key) = 0
+-- "17 with 1": the code
+unfoldable pub readKeyCode : Stored → ℕ
+readKeyCode wrongFrame = 17
+readKeyCode (stored key) = 0
 
-unfoldable pub lineIn : Stored → ℕ
-lineIn wrongFrame = 1
-lineIn (stored key) = 0
+-- and the number of the line
+unfoldable pub storedLine : Stored → ℕ
+storedLine wrongFrame = 1
+storedLine (stored key) = 0
 
+-- the key that is answered
 unfoldable pub keyOf : Stored → SigningKey
 keyOf wrongFrame = noKey
 keyOf (stored key) = key
 
 -- what Read key answers
 pub record ReadsKey (frame : List ℕ) (r : KeyRead) : Type 0 where
-  pub code : outcomeCode (r .outcome) ≡ readCode (readStored frame)
-  pub line : r .line ≡ lineIn (readStored frame)
+  pub code : outcomeCode (r .outcome) ≡ readKeyCode (readStored frame)
+  pub line : r .line ≡ storedLine (readStored frame)
   pub key : r .key ≡ keyOf (readStored frame)

@@ -5,7 +5,7 @@ ghost use Prim.Native.Nat.{_+_, _*_, _≤_};
 ghost use lib.Dec.{eqb};
 ghost use lib.ListN.{length, drop};
 ghost use Rattle.stored_key.specs.KeyFields.{keyLength};
-ghost use Rattle.stored_key.specs.KeyFrame.{keyIn, met};
+ghost use Rattle.stored_key.specs.KeyFrame.{keyIn, withoutIdleMark};
 ghost use Rattle.stored_key.specs.Operations.{ReadsKey};
 ghost use Rattle.stored_key.specs.inner.Parts.{frameLength, framedTest, RefusesFrame};
 use super::fields::CHAINS_AT;
@@ -109,7 +109,7 @@ fn profile_in(bytes: &[u8]) -> Profile
 // The key in a frame's bytes. A mark that does not count is read as none.
 fn key_in(bytes: &[u8]) -> SigningKey
     requires { ⌜ frameLength ≤ length (now bytes) ⌝ }
-    ensures { λ r. ⌜ r ≡ met (keyIn (drop 1 (now (bytes .entry)))) ⌝ }
+    ensures { λ r. ⌜ r ≡ withoutIdleMark (keyIn (drop 1 (now (bytes .entry)))) ⌝ }
 {
     let p = profile_in(bytes);
     let seed = read_16(bytes, SEED_AT);
@@ -133,7 +133,8 @@ fn key_in(bytes: &[u8]) -> SigningKey
 
 // Read key for a frame as long as a line of so many bytes as the slice has, into which it is read.
 fn read_sized(frame: &[u8], bytes: &mut [u8]) -> KeyRead
-    requires { ⌜ (frameLength ≤ length (now bytes)) × (length (now bytes) ≤ frameLength + 1) × (length (now frame) ≡ 2 * length (now bytes) + 1) ⌝ }
+    requires { ⌜ (frameLength ≤ length (now bytes)) × (length (now bytes) ≤ frameLength + 1)
+        × (length (now frame) ≡ 2 * length (now bytes) + 1) ⌝ }
     ensures { λ r. ⌜ ReadsKey (now (frame .entry)) r ⌝ }
 {
     if !read_line(frame, 0, bytes) {

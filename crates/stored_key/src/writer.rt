@@ -7,7 +7,7 @@ ghost use lib.ListN.{length, drop};
 ghost use Rattle.refusal.specs.Code.{firstCause};
 ghost use Rattle.hex.specs.Hex.{hexOf};
 ghost use Rattle.profile.specs.Checks.{profileCauses};
-ghost use Rattle.frames.specs.Frames.{Within, editionByte};
+ghost use Rattle.frames.specs.Frames.{SizesInLimits, editionByte};
 ghost use Rattle.signing_key.specs.Counter as counting;
 ghost use Rattle.stored_key.specs.KeyFields.{nextField};
 ghost use Rattle.stored_key.specs.KeyFrame.{storedKey};
@@ -55,7 +55,7 @@ fn last_bytes(p: Profile, counter: Counter) -> [u8; 6]
 
 // Writes the frame of a key up to behind its seeds.
 fn write_front(p: Profile, seed: [u8; 16], secret: [u8; 16], frame: &mut [u8])
-    requires { ⌜ Within p × (2 * place nextField ≤ length (now frame)) ⌝ }
+    requires { ⌜ SizesInLimits p × (2 * place nextField ≤ length (now frame)) ⌝ }
     ensures { λ _. ⌜ now (frame .exit) ≡ hexOf (frontBytes p ++ seed ++ secret) ++ drop (2 * place nextField) (now (frame .entry)) ⌝ }
 {
     let front = profile_head(7, p);
@@ -66,7 +66,8 @@ fn write_front(p: Profile, seed: [u8; 16], secret: [u8; 16], frame: &mut [u8])
 
 // Writes the frame of a key, and gives the index behind it.
 fn write_frame(key: SigningKey, frame: &mut [u8]) -> usize
-    requires { ⌜ Within (key .profile) × (2 * (frameLength + length (editionByte (key .profile .edition))) + 1 ≤ length (now frame)) ⌝ }
+    requires { ⌜ SizesInLimits (key .profile)
+        × (2 * (frameLength + length (editionByte (key .profile .edition))) + 1 ≤ length (now frame)) ⌝ }
     ensures { λ r. ⌜ (r ≡ length (storedKey key)) × (now (frame .exit) ≡ storedKey key ++ drop r (now (frame .entry))) ⌝ }
 {
     let p = key.profile;

@@ -37,7 +37,7 @@ use Rattle.verifier.specs.declared.Verifier.{Verifier}
 use Rattle.verifier.specs.declared.Verdict.{Verdict}
 use Rattle.sheet.specs.Operation.{ReadsSheet}
 use Rattle.sheet.specs.declared.SheetRead.{SheetRead}
-use Rattle.sheet_writer.specs.Writing.{WritesSheet}
+use Rattle.sheet_writer.specs.Operations.{WritesSheet}
 use Rattle.sheet_writer.specs.declared.writer.SheetWritten.{SheetWritten}
 use Rattle.stored_key.specs.Operations.{WritesKey, ReadsKey}
 use Rattle.stored_key.specs.declared.writer.KeyWritten.{KeyWritten}

@@ -19,7 +19,8 @@ unfolding frames
 returns c =
     let a = c .before .before .before .args in
     let e = c .before .match .keys1 in
-    sized-size (ap (λ k. length (frameAt (a .p) k .head)) e) (ap (λ k. frameAt (a .p) k .low) e) (ap (λ k. frameAt (a .p) k .high) e) (lit≤ tt) (lit≤ tt) (c .sized .ensures)
+    sized-size (ap (λ k. length (frameAt (a .p) k .head)) e) (ap (λ k. frameAt (a .p) k .low) e) (ap (λ k. frameAt (a .p) k .high) e) (lit≤ tt) (lit≤ tt)
+    (c .sized .ensures)
 
 returns-2 : tie.Need-returns-2
 unfolding frames profileFrame
@@ -28,7 +29,8 @@ returns-2 c =
     let a = b .before .before .before .args in
     let e = b .before .match .keys2 in
     let long = b .profile-bytes .ensures in
-    sized-size (ap (λ k. length (frameAt (a .p) k .head)) e ∙ profile-long (a .p) ∙ sym long) (ap (λ k. frameAt (a .p) k .low) e) (ap (λ k. frameAt (a .p) k .high) e)
+    sized-size (ap (λ k. length (frameAt (a .p) k .head)) e ∙ profile-long (a .p) ∙ sym long) (ap (λ k. frameAt (a .p) k .low) e)
+    (ap (λ k. frameAt (a .p) k .high) e)
     (omega (arith, long, edition-long (a .p .edition))) (lit≤ tt) (c .sized2 .ensures)
 
 returns-3 : tie.Need-returns-3
@@ -36,14 +38,16 @@ unfolding frames
 returns-3 c =
     let a = c .before .before .before .args in
     let e = c .before .match .keys3 in
-    sized-size (ap (λ k. length (frameAt (a .p) k .head)) e) (ap (λ k. frameAt (a .p) k .low) e) (ap (λ k. frameAt (a .p) k .high) e) (lit≤ tt) (lit≤ tt) (c .sized3 .ensures)
+    sized-size (ap (λ k. length (frameAt (a .p) k .head)) e) (ap (λ k. frameAt (a .p) k .low) e) (ap (λ k. frameAt (a .p) k .high) e) (lit≤ tt) (lit≤ tt)
+    (c .sized3 .ensures)
 
 returns-4 : tie.Need-returns-4
 unfolding frames
 returns-4 c =
     let a = c .before .before .before .args in
     let e = c .before .match .keys4 in
-    sized-size (ap (λ k. length (frameAt (a .p) k .head)) e) (ap (λ k. frameAt (a .p) k .low) e) (ap (λ k. frameAt (a .p) k .high) e) (lit≤ tt) (lit≤ tt) (c .sized4 .ensures)
+    sized-size (ap (λ k. length (frameAt (a .p) k .head)) e) (ap (λ k. frameAt (a .p) k .low) e) (ap (λ k. frameAt (a .p) k .high) e) (lit≤ tt) (lit≤ tt)
+    (c .sized4 .ensures)
 
 returns-5 : tie.Need-returns-5
 returns-5 c =

@@ -18,7 +18,8 @@ returns : tie.Need-returns
 returns c =
     let a = c .before .before .before .before .before in
     let same = profile-at (a .args .p) (a .args .k) (c .before .if1 .taken) in
-    profile-byte (a .args .p) (a .args .i) (c .profile-head .ensures) (omega (arith, ap (λ f. length (f .head)) same, a .pre .2)) ∙ ap (λ f. getD (f .head) (a .args .i) 0) (sym same)
+    profile-byte (a .args .p) (a .args .i) (c .profile-head .ensures) (omega (arith, ap (λ f. length (f .head)) same, a .pre .2))
+    ∙ ap (λ f. getD (f .head) (a .args .i) 0) (sym same)
 
 returns-2 : tie.Need-returns-2
 returns-2 c =

@@ -14,10 +14,10 @@ returns c =
     let measured = summed .before .before in
     let counted = measured .before .before in
     let largest = counted .before in
-    let p = largest .before .before .before .before .args .p in
+    let shape = largest .before .before .before .before .args .shape in
     let chains = chain-next 1 refl (chain-begins [] tt refl) (counted .outside .ensures) (measured .before .then .ensures) in
     let width = chain-next 2 refl chains (measured .outside2 .ensures) (summed .before .then2 .ensures) in
-    let most = ap (λ m. outside 0 m (p .sum)) (largest .largest-sum .ensures) in
+    let most = ap (λ m. outside 0 m (shape .sum)) (largest .largest-sum .ensures) in
     chain-next 3 refl width (summed .outside3 .ensures ∙ most) (c .then3 .ensures) .answer
 
 pub check-shape-spec : {M : Type 1} → statement M

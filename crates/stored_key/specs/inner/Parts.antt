@@ -17,10 +17,11 @@ use Rattle.stored_key.specs.declared.reader.KeyRead.{KeyRead}
 abbrev pub place : (field : ℕ) → ℕ
 place field = 1 + offset field
 
--- how many bytes a frame has in edition 1, and how many of them stand behind the seeds
+-- how many bytes a frame has in edition 1
 abbrev pub frameLength : ℕ
 frameLength = 1 + keyLength
 
+-- how many of them stand behind the seeds
 abbrev pub lastLength : ℕ
 lastLength = keyLength - offset nextField
 

@@ -13,8 +13,11 @@ returns : tie.Need-returns
 returns c =
     let copied = c .before .before in
     let start = copied .before .before .before .before .before in
-    let o = now (start .args .sheet) in
-    (refl, ap (λ l. set l 6 lineEnd) (copied .copy .ensures ∙ ap (λ l. paste o 0 l 6) (copied .before .before .before .first-characters .ensures)) ∙ first-stored o (start .pre))
+    let o = now (start .args .sheet) in (
+      refl,
+      ap (λ l. set l 6 lineEnd) (copied .copy .ensures ∙ ap (λ l. paste o 0 l 6) (copied .before .before .before .first-characters .ensures))
+          ∙ first-stored o (start .pre),
+    )
 
 pub write-first-line-spec : {M : Type 1} → statement M
 write-first-line-spec =

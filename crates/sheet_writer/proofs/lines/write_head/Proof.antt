@@ -28,7 +28,8 @@ kept-long : (q : tie.At-loop Inv-loop μ-loop) → length (q .loop .sheet) ≡ l
 kept-long q =
     let s = q .before .before in
     let head = frameAt (s .args .p) (s .args .k) .head in
-    write-long (pairOf head) 2 (s .args .fixed) (λ i h. pair-long head i) (s .args .at) (now (s .args .sheet)) (s .pre .3) (q .loop .i) (q .loop .inv .0) (q .loop .inv .1)
+    write-long (pairOf head) 2 (s .args .fixed) (λ i h. pair-long head i) (s .args .at) (now (s .args .sheet)) (s .pre .3) (q .loop .i) (q .loop .inv .0)
+    (q .loop .inv .1)
 
 write-byte-requires : tie.Need-write-byte-requires Inv-loop μ-loop
 write-byte-requires c κs = let head = c .before .before .before in omega (arith, head .before .before .pre .3, kept-long head)
@@ -38,8 +39,11 @@ loop-again c =
     let h = c .before .before .before in
     let head = h .before .before .before in
     let s = head .before .before in
-    let bytes = frameAt (s .args .p) (s .args .k) .head in
-    (omega arith, write-next (pairOf bytes) 2 (s .args .fixed) (λ i h. pair-long bytes i) (s .args .at) (now (s .args .sheet)) (s .pre .3) (head .loop .i) (omega arith) (ap (λ b. hexOf (b ∷ [])) (h .head-byte .ensures)) (head .loop .inv .1) (c .before .before .write-byte .ensures))
+    let bytes = frameAt (s .args .p) (s .args .k) .head in (
+      omega arith,
+      write-next (pairOf bytes) 2 (s .args .fixed) (λ i h. pair-long bytes i) (s .args .at) (now (s .args .sheet)) (s .pre .3) (head .loop .i)
+          (omega arith) (ap (λ b. hexOf (b ∷ [])) (h .head-byte .ensures)) (head .loop .inv .1) (c .before .before .write-byte .ensures),
+    )
 
 same-length : tie.Need-same-length Inv-loop μ-loop
 same-length c = kept-long (c .before)

@@ -23,11 +23,21 @@ short : (c : tie.After-lines-length) → c .lines-length .result + 2 * length (n
 short c =
     let s = c .before .before .before .before in
     let p = s .args .p in
-    omega (arith, c .lines-length .ensures, behind-frames p, edition-long (p .edition), profile-limits p (fit s .passed) .0 .few-chains, profile-limits p (fit s .passed) .1, fit s .short-text)
+    omega (
+      arith,
+      c .lines-length .ensures,
+      behind-frames p,
+      edition-long (p .edition),
+      profile-limits p (fit s .passed) .0 .few-chains,
+      profile-limits p (fit s .passed) .1,
+      fit s .short-text,
+    )
 
 -- behind all frames stands the text's
-frame-all : (c : tie.After-frame-count) → let p = c .before .before .before .before .before .before .before .before .before .before .before .args .p in frameAt p (c .frame-count .result) ≡ textFrame
-frame-all c = text-at (c .before .before .before .before .before .before .before .before .before .before .before .args .p) (c .frame-count .result) (omega (arith, c .frame-count .ensures))
+frame-all : (c : tie.After-frame-count) → let p = c .before .before .before .before .before .before .before .before .before .before .before .args .p in
+    frameAt p (c .frame-count .result) ≡ textFrame
+frame-all c = text-at (c .before .before .before .before .before .before .before .before .before .before .before .args .p) (c .frame-count .result)
+    (omega (arith, c .frame-count .ensures))
 
 add-length : tie.Need-add-length
 add-length c = omega (arith, short c)
@@ -47,14 +57,21 @@ write-frame-requires c κs =
     let all = frame-all c in (
       profile-limits (s .args .p) (fit s .passed),
       omega (arith, c .frame-count .ensures, length-frames (s .args .p)),
-      rw all (omega (arith, lines .write-frames .ensures .0, lines .before .before .before .lines-length .ensures, lines .write-frames .kept .0, line-long (textFrame .head) (now (s .args .message)))),
+      rw all (omega (
+        arith,
+        lines .write-frames .ensures .0,
+        lines .before .before .before .lines-length .ensures,
+        lines .write-frames .kept .0,
+        line-long (textFrame .head) (now (s .args .message)),
+      )),
     )
 
 returns : tie.Need-returns
 returns c =
     let s = c .before .before .before .before .before in
     let a = s .args in
-    no-room (a .p) (now (a .signature)) (now (a .message)) (now (a .sheet)) (s .pre) (omega (arith, length-sheet (a .p) (now (a .signature)) (now (a .message)) (fit s .whole), c .before .lines-length .ensures))
+    no-room (a .p) (now (a .signature)) (now (a .message)) (now (a .sheet)) (s .pre)
+    (omega (arith, length-sheet (a .p) (now (a .signature)) (now (a .message)) (fit s .whole), c .before .lines-length .ensures))
 
 returns-2 : tie.Need-returns-2
 returns-2 c =
@@ -63,9 +80,11 @@ returns-2 c =
     let s = counted .before .before .before .before .before .before .before .before .before .before .before in
     let a = s .args in
     let frame = rw (frame-all counted) at (c .before .before .write-frame .ensures) in
-    let whole = text-written (a .p) (now (a .signature)) (now (a .message)) (fit s .whole) (now (a .sheet)) (lines .write-frames .ensures .0) (frame .0) (lines .write-frames .ensures .1) (frame .1) in
+    let whole = text-written (a .p) (now (a .signature)) (now (a .message)) (fit s .whole) (now (a .sheet)) (lines .write-frames .ensures .0) (frame .0)
+    (lines .write-frames .ensures .1) (frame .1) in
     sheet-written (a .p) (now (a .signature)) (now (a .message)) (now (a .sheet)) (s .pre)
-    (omega (arith, length-sheet (a .p) (now (a .signature)) (now (a .message)) (fit s .whole), lines .before .before .before .lines-length .ensures)) (whole .0) (whole .1)
+    (omega (arith, length-sheet (a .p) (now (a .signature)) (now (a .message)) (fit s .whole), lines .before .before .before .lines-length .ensures)) (whole .0)
+    (whole .1)
 
 pub write-carried-spec : {M : Type 1} → statement M
 write-carried-spec =

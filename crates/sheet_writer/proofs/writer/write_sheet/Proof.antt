@@ -10,7 +10,7 @@ use Rattle.refusal.specs.Code.{outcomeCode, firstCause}
 use Rattle.refusal.proofs.Causes.{chain-begins, chain-next, granted-none}
 use Rattle.profile.specs.Checks.{profileCauses}
 use Rattle.profile.proofs.Limits.{profile-numbered}
-use Rattle.sheet_writer.specs.Writing.{carriedCauses}
+use Rattle.sheet_writer.specs.Operations.{carriedCauses}
 use Rattle.sheet_writer.proofs.WriteAnswer.{carried-refused}
 use Rattle.sheet_writer.proofs.writer.write_sheet.Statement.{statement}
 use Rattle.sheet_writer.proofs.writer.write_sheet.Tie as tie

@@ -23,7 +23,11 @@ returns-3 : tie.Need-returns-3
 returns-3 c =
     let kind = c .before .before .before in
     let bytes = now (kind .before .before .args .bytes) in
-    rw (eq-eqb (getD bytes 0 0) 7 (kind .if1 .left), lt-ltb (getD bytes (place markField) 0) 2 (omega arith), List·getD-eq-default bytes 2 {n = frameLength} (omega arith))
+    rw (
+      eq-eqb (getD bytes 0 0) 7 (kind .if1 .left),
+      lt-ltb (getD bytes (place markField) 0) 2 (omega arith),
+      List·getD-eq-default bytes 2 {n = frameLength} (omega arith),
+    )
 
 returns-4 : tie.Need-returns-4
 returns-4 c =

@@ -12,7 +12,8 @@ returns c =
     let seed = secret .before in
     let profile = seed .before in
     let start = profile .before .before in
-    key-behind (now (start .args .bytes)) (start .pre) (profile .profile-in .ensures) (seed .read-16 .ensures) (secret .read-162 .ensures) (word .word-at .ensures) (c .mark-stands .ensures)
+    key-behind (now (start .args .bytes)) (start .pre) (profile .profile-in .ensures) (seed .read-16 .ensures) (secret .read-162 .ensures)
+    (word .word-at .ensures) (c .mark-stands .ensures)
 
 pub key-in-spec : {M : Type 1} → statement M
 key-in-spec =

@@ -34,7 +34,8 @@ returns : tie.Need-returns
 returns c =
     let q = c .before .before .before .before in
     let told = not-true (q .read-line .result) (c .before .if1 .taken) in
-    refuses-key _ (other-line (now (start q .args .frame)) (now (start q .args .bytes)) (read q) (start q .pre .2) (rw told at (q .read-line .ensures))) (c .refused .ensures)
+    refuses-key _ (other-line (now (start q .args .frame)) (now (start q .args .bytes)) (read q) (start q .pre .2) (rw told at (q .read-line .ensures)))
+    (c .refused .ensures)
 
 returns-2 : tie.Need-returns-2
 returns-2 c =

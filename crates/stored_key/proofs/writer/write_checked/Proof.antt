@@ -31,7 +31,8 @@ returns-2 c =
     let counted = written .before .before .before in
     let start = counted .before .before .before in
     let key = start .args .key in
-    key-written key (now (start .args .frame)) (start .pre) (omega (arith, stored-long key (longs start .0) (longs start .1), counted .edition-bytes .ensures .0))
+    key-written key (now (start .args .frame)) (start .pre)
+    (omega (arith, stored-long key (longs start .0) (longs start .1), counted .edition-bytes .ensures .0))
     (written .write-frame .ensures .0) (written .write-frame .ensures .1)
 
 pub write-checked-spec : {M : Type 1} → statement M

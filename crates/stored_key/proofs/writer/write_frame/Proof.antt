@@ -16,15 +16,19 @@ longs s = search needs
 
 -- the bytes that are written last
 last-are : (c : tie.After-edition-bytes) → let key = c .before .before .before .before .before .before .args .key in
-    take (lastLength + c .edition-bytes .result) (c .before .last-bytes .result) ≡ lastBytes (key .counter .next) (markCounts (2 ^ key .profile .height) (key .counter)) (key .profile .edition)
+    take (lastLength + c .edition-bytes .result) (c .before .last-bytes .result) ≡ lastBytes (key .counter .next)
+    (markCounts (2 ^ key .profile .height) (key .counter)) (key .profile .edition)
 last-are c =
     let key = c .before .before .before .before .before .before .args .key in
-    last-taken (key .counter .next) (markCounts (2 ^ key .profile .height) (key .counter)) (key .profile .edition) (lastLength + c .edition-bytes .result) (ap (λ n. lastLength + n) (c .edition-bytes .ensures .0)) (c .before .last-bytes .ensures)
+    last-taken (key .counter .next) (markCounts (2 ^ key .profile .height) (key .counter)) (key .profile .edition) (lastLength + c .edition-bytes .result)
+    (ap (λ n. lastLength + n) (c .edition-bytes .ensures .0)) (c .before .last-bytes .ensures)
 
-last-count : (c : tie.After-edition-bytes) → length (take (lastLength + c .edition-bytes .result) (c .before .last-bytes .result)) ≡ lastLength + c .edition-bytes .result
+last-count : (c : tie.After-edition-bytes) → length (take (lastLength + c .edition-bytes .result)
+    (c .before .last-bytes .result)) ≡ lastLength + c .edition-bytes .result
 last-count c =
     let key = c .before .before .before .before .before .before .args .key in
-    ap length (last-are c) ∙ last-long (key .counter .next) (markCounts (2 ^ key .profile .height) (key .counter)) (key .profile .edition) ∙ ap (λ n. lastLength + n) (sym (c .edition-bytes .ensures .0))
+    ap length (last-are c) ∙ last-long (key .counter .next) (markCounts (2 ^ key .profile .height) (key .counter)) (key .profile .edition)
+    ∙ ap (λ n. lastLength + n) (sym (c .edition-bytes .ensures .0))
 
 slice-aggregate-write-line : tie.Need-slice-aggregate-write-line
 slice-aggregate-write-line c = sym (last-count (c .before .before .before .before .before .before))
@@ -43,7 +47,8 @@ returns c =
     let counted = front .before .before in
     let start = counted .before .before .before .before .before .before in
     let key = start .args .key in
-    frame-written key (longs start .0) (longs start .1) (now (start .args .frame)) (front .write-front .ensures) (last-are counted) (line .write-line .ensures .0) (line .write-line .ensures .1)
+    frame-written key (longs start .0) (longs start .1) (now (start .args .frame)) (front .write-front .ensures) (last-are counted)
+    (line .write-line .ensures .0) (line .write-line .ensures .1)
 
 pub write-frame-spec : {M : Type 1} → statement M
 write-frame-spec =

@@ -11,7 +11,8 @@ use Rattle.stored_key.proofs.writer.write_key.Tie as tie
 write-checked-requires : tie.Need-write-checked-requires
 write-checked-requires c κs =
     let checked = c .before .before .before in
-    granted-none (profileCauses (checked .before .before .before .args .key .profile)) [] (checked .check-profile .result) (checked .check-profile .ensures) (c .before .enum-told2 .given .1)
+    granted-none (profileCauses (checked .before .before .before .args .key .profile)) [] (checked .check-profile .result) (checked .check-profile .ensures)
+    (c .before .enum-told2 .given .1)
 
 returns : tie.Need-returns
 returns c =

@@ -18,13 +18,14 @@ carriedCauses p signature message =
     profileCauses p ++ ((outsideText (length message), 16) ∷ (not (eqb (length signature) (signatureLength p)), 13) ∷ [])
 
 -- "Profile checks, 16, 13 and 6 apply in that order; 11 isn't tested"
-unfoldable pub writeCode : Profile → (signature message sheet : List ℕ) → ℕ
-writeCode p signature message sheet =
+unfoldable pub writeSheetCode : Profile → (signature message sheet : List ℕ) → ℕ
+writeSheetCode p signature message sheet =
     firstCause (carriedCauses p signature message ++ ((ltb (length sheet) (length (sheetOf p signature message)), 6) ∷ []))
 
 -- what Write sheet answers and leaves: "A writer of a sheet or frame … also gives the number of bytes written"
 pub record WritesSheet (p : Profile) (signature message sheet sheet′ : List ℕ) (r : SheetWritten) : Type 0 where
-  pub code : outcomeCode (r .outcome) ≡ writeCode p signature message sheet
-  pub bytes : r .length ≡ cond (eqb (writeCode p signature message sheet) 0) (length (sheetOf p signature message)) 0
+  pub code : outcomeCode (r .outcome) ≡ writeSheetCode p signature message sheet
+  pub bytes : r .length ≡ cond (eqb (writeSheetCode p signature message sheet) 0) (length (sheetOf p signature message)) 0
   pub written : sheet′
-      ≡ cond (eqb (writeCode p signature message sheet) 0) (sheetOf p signature message ++ drop (length (sheetOf p signature message)) sheet) sheet
+      ≡ cond (eqb (writeSheetCode p signature message sheet) 0)
+      (sheetOf p signature message ++ drop (length (sheetOf p signature message)) sheet) sheet
