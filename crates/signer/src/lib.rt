@@ -70,20 +70,21 @@ struct Way {
 }
 
 // The way up from a leaf. Each leaf is hashed once: the siblings cover all other leaves, and the root is climbed from them.
-fn way_up(h: Hasher, p: Profile, secret: &[u8; 16], leaf: u32) -> Way
-    requires { ⌜ Seeded h ⌝ }
+fn way_up(hasher: Hasher, p: Profile, secret: &[u8; 16], leaf: u32) -> Way
+    requires { ⌜ Seeded hasher ⌝ }
     requires { ⌜ InLimits (p .shape) × (p .height ≤ 10) × (leaf < 2 ^ p .height) ⌝ }
-    ensures siblings { λ r. ⌜ take (16 * p .height) (r .siblings) ≡ path (h .domain) (leafKeyOf (h .domain) p (now (secret .entry))) (p .height) leaf ⌝ }
-    ensures root { λ r. ⌜ r .root ≡ rootOf (h .domain) p (now (secret .entry)) ⌝ }
+    ensures siblings { λ r. ⌜ take (16 * p .height) (r .siblings)
+        ≡ path (hasher .domain) (leafKeyOf (hasher .domain) p (now (secret .entry))) (p .height) leaf ⌝ }
+    ensures root { λ r. ⌜ r .root ≡ rootOf (hasher .domain) p (now (secret .entry)) ⌝ }
 {
     let shape = p.shape;
     let width = shape.width;
     let chains = shape.chains;
     let height = p.height;
     let mut siblings = [0u8; 160];
-    write_path(h, secret, width, chains, height, leaf, &mut siblings);
-    let own = key_of_leaf(h, Leaf(leaf), secret, width, chains);
-    let root = climb_path(h, leaf, own, height, &siblings, 0);
+    write_path(hasher, secret, width, chains, height, leaf, &mut siblings);
+    let own = key_of_leaf(hasher, Leaf(leaf), secret, width, chains);
+    let root = climb_path(hasher, leaf, own, height, &siblings, 0);
     Way {
         siblings: siblings,
         root: root,
@@ -102,7 +103,9 @@ fn make_signature(
 ) -> [u8; 820]
     requires { ⌜ Seeded hasher ⌝ }
     requires { ⌜ (p .shape .chains ≤ 40) × (p .height ≤ 10) ⌝ }
-    ensures { λ made. ⌜ take (signatureLength p) made ≡ joinedParts leaf r (revealed (hasher .domain) (now (secret .entry)) leaf (p .shape .chains) row) (take (16 * p .height) siblings) ⌝ }
+    ensures { λ made. ⌜ take (signatureLength p) made
+        ≡ joinedParts leaf r (revealed (hasher .domain) (now (secret .entry)) leaf (p .shape .chains) row)
+        (take (16 * p .height) siblings) ⌝ }
 {
     let shape = p.shape;
     let chains = shape.chains;
@@ -135,7 +138,9 @@ pub fn sign(
     table: &mut [u32],
     signature: &mut [u8],
 ) -> Signed
-    ensures { λ answer. ⌜ Signs key (record { r = r; message = now (message .entry); work = now (table .entry); out = now (signature .entry) }) (now (table .exit)) (now (signature .exit)) answer ⌝ }
+    ensures { λ answer. ⌜ Signs key
+        (record { r = r; message = now (message .entry); work = now (table .entry); out = now (signature .entry) })
+        (now (table .exit)) (now (signature .exit)) answer ⌝ }
 {
     let p = key.profile;
     let shape = p.shape;
@@ -143,13 +148,15 @@ pub fn sign(
     let early = sign_outcome(checked, key, message.len(), signature.len());
     let count = fill_past(early, shape, table);
     let outcome = early.then(count_too_small(count), Refusal::CountTooSmall);
+    let counter = key.counter;
+    let cleared = clear(counter);
+    let after = with_counter(key, cleared);
     match outcome {
         Outcome::Refused(_) => Signed {
             outcome: outcome,
             key: key,
         },
         Outcome::Granted => {
-            let counter = key.counter;
             let leaf = counter.next - 1;
             let seed = key.seed;
             let secret = key.secret;
@@ -163,8 +170,6 @@ pub fn sign(
             let made = make_signature(hasher, p, &secret, leaf, r, row, siblings);
             let bytes = signature_length(p);
             copy(&made, bytes, signature, 0);
-            let cleared = clear(counter);
-            let after = with_counter(key, cleared);
             Signed {
                 outcome: outcome,
                 key: after,

@@ -39,7 +39,8 @@ recoveredRoot d p leaf row values siblings =
 -- the root that a signature leads to under the cabinet's seed, over any row: in layer 0 and tree 0
 unfoldable pub rootAlong : Verifier → (row signature : List ℕ) → List ℕ
 rootAlong v row signature =
-    recoveredRoot (firstDomain (v .seed)) (v .profile) (leafIn signature) row (valuesIn (v .profile) signature) (siblingsIn (v .profile) signature)
+    recoveredRoot (firstDomain (v .seed)) (v .profile) (leafIn signature) row (valuesIn (v .profile) signature)
+    (siblingsIn (v .profile) signature)
 
 -- over the row of the message's number
 abbrev pub rootIn : Verifier → (message signature : List ℕ) → List ℕ

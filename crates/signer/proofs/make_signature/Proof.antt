@@ -30,7 +30,8 @@ copy-requires : tie.Need-copy-requires
 copy-requires c κs =
     let third = c .before .before .before in
     let begin = start third in
-    (omega (arith, begin .pre, longs begin .1), omega (arith, begin .pre, first third .write-leaf .kept .0, second third .write-16 .kept .0, third .write-values .kept .1 .1 .1 .1 .1 .0))
+    let kept = third .write-values .kept .1 .1 .1 .1 .1 .0 in
+    (omega (arith, begin .pre, longs begin .1), omega (arith, begin .pre, first third .write-leaf .kept .0, second third .write-16 .kept .0, kept))
 
 returns : tie.Need-returns
 returns c =

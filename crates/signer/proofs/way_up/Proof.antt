@@ -11,8 +11,11 @@ returns c =
     let pathed = keyed .before .before in
     let start = pathed .before .before .before in
     let a = start .args in
-    let d = a .h .domain in
-    (way-siblings d (a .p) (now (a .secret)) (a .leaf) _ (pathed .write-path .ensures), way-root d (a .p) (now (a .secret)) (a .leaf) _ (start .pre .1 .2) (pathed .write-path .ensures) (keyed .key-of-leaf .ensures) (c .climb-path .ensures))
+    let d = a .hasher .domain in
+    let siblings = way-siblings d (a .p) (now (a .secret)) (a .leaf) _ (pathed .write-path .ensures) in
+    let root =
+    way-root d (a .p) (now (a .secret)) (a .leaf) _ (start .pre .1 .2) (pathed .write-path .ensures) (keyed .key-of-leaf .ensures) (c .climb-path .ensures) in
+    (siblings, root)
 
 pub way-up-spec : {M : Type 1} → statement M
 way-up-spec =
