@@ -52,7 +52,7 @@ pub fn write_values(
     ensures { λ _. ⌜
         now (out .exit) ≡ take at (now (out .entry)) ++ revealed (hasher .domain) chains (now (secret .entry)) (leaf .0) row
         ++ drop (at + 16 * chains .count) (now (out .entry))
-    ⌝ }
+        ⌝ }
 {
     let mut c: u32 = 0;
     while c < chains.count {

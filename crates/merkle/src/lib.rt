@@ -44,7 +44,13 @@ fn climb_once(hasher: Hasher, height: u32, index: u32, own: [u8; 16], other: [u8
 }
 
 // The climb from a leaf's value along siblings, from the bottom.
-pub fn climb_path(hasher: Hasher, leaf: u32, key: [u8; 16], height: u32, siblings: &[u8]) -> [u8; 16]
+pub fn climb_path(
+    hasher: Hasher,
+    leaf: u32,
+    key: [u8; 16],
+    height: u32,
+    siblings: &[u8],
+) -> [u8; 16]
     requires { ⌜ Seeded hasher ⌝ }
     requires { ⌜ 16 * height ≤ length (now siblings) ⌝ }
     ensures { λ r. ⌜ r ≡ climbed (hasher .domain) leaf key (now (siblings .entry)) height ⌝ }

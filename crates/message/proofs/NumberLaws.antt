@@ -105,10 +105,13 @@ module _ (p : Profile) (leaf : ℕ) (r seed root message : List ℕ) where
   number-fits large = number-below-count (omega (arith, ltb-false (count (p .shape)) 256 large))
 
   -- with 128 bits it is the number of the first 16 bytes
-  pub number-of-16-bytes : 2 ^ 128 ≤ count (p .shape) → messageNumber p leaf r seed root message ≡ fromBytes (take 16 (messageDigest (p .edition) leaf r seed root message))
+  pub number-of-16-bytes : 2 ^ 128 ≤ count (p .shape)
+      → messageNumber p leaf r seed root message ≡ fromBytes (take 16 (messageDigest (p .edition) leaf r seed root message))
   unfolding messageNumber
   number-of-16-bytes many =
       let bytes = messageDigest (p .edition) leaf r seed root message in
       let all : numberBits (count (p .shape)) ≡ 128 = omega (arith, bits-few (count (p .shape)), bits-largest (count (p .shape)) 128 (le-refl 128) many) in
-      ap (λ b. firstBits b bytes) all ∙ first-16 128 bytes (le-refl 128) (length-message-digest (p .edition) leaf r seed root message) (message-digest-below (p .edition) leaf r seed root message)
+      ap (λ b. firstBits b bytes) all
+      ∙ first-16 128 bytes (le-refl 128) (length-message-digest (p .edition) leaf r seed root message)
+      (message-digest-below (p .edition) leaf r seed root message)
       ∙ div-one (fromBytes (take 16 bytes))

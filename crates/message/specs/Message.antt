@@ -8,7 +8,8 @@ use Rattle.sha256.specs.Digest.{digest}
 use Rattle.profile.specs.declared.Profile.{Profile}
 use Rattle.counts.specs.Counts.{count}
 
--- what an edition takes of the leaf: "the leaf (4 bytes, most significant first)"; "Old cabinets keep the old rule", edition 1, which takes none
+-- what an edition takes of the leaf: "the leaf (4 bytes, most significant first)"; "Old cabinets keep the old rule", edition 1, which
+-- takes none
 unfoldable pub leafPart : (edition leaf : ℕ) → List ℕ
 leafPart edition leaf = cond (eqb edition 2) (toBytes 4 leaf) []
 

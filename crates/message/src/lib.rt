@@ -20,7 +20,8 @@ use sha256::Hash;
 
 // The digest over R, the public seed, the root, the bytes of the leaf that the edition takes, and the message.
 fn joined_digest(r: &[u8], seed: &[u8], root: &[u8], leaf: &[u8], message: &[u8]) -> [u8; 32]
-    requires { ⌜ (length (now r) ≤ 200) × (length (now seed) ≤ 200) × (length (now root) ≤ 200) × (length (now leaf) ≤ 200) × (length (now message) ≤ 200) ⌝ }
+    requires { ⌜ (length (now r) ≤ 200) × (length (now seed) ≤ 200) × (length (now root) ≤ 200) × (length (now leaf) ≤ 200)
+        × (length (now message) ≤ 200) ⌝ }
     ensures { λ d. ⌜ d ≡ digest (now (r .entry) ++ now (seed .entry) ++ now (root .entry) ++ now (leaf .entry) ++ now (message .entry)) ⌝ }
 {
     let with_r = Hash::start().add(r);

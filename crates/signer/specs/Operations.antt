@@ -1,4 +1,5 @@
--- Document 02, point 5, "sign uses the marked leaf and clears the mark", with document 01, "Issue", which Reserve and Sign have replaced: what Sign answers and leaves.
+-- Document 02, point 5, "sign uses the marked leaf and clears the mark", with document 01, "Issue", which Reserve and Sign have replaced:
+-- what Sign answers and leaves.
 use mathlib.Core.Path.{_≡_}
 use mathlib.Core.Bool.{Bool, not, cond}
 use mathlib.Core.List.{List, [], _∷_, _++_}

@@ -68,7 +68,7 @@ fn way_up(hasher: Hasher, p: Profile, secret: &[u8; 16], leaf: u32) -> Way
     requires { ⌜ InLimits (p .shape) × (p .height ≤ 10) × (leaf < 2 ^ p .height) ⌝ }
     ensures siblings { λ r. ⌜
         take (16 * p .height) (r .siblings) ≡ siblingsOf (hasher .domain) (chainsOf (p .shape)) (now (secret .entry)) (p .height) leaf
-    ⌝ }
+        ⌝ }
     ensures root { λ r. ⌜ r .root ≡ rootOf (hasher .domain) p (now (secret .entry)) ⌝ }
 {
     let shape = p.shape;
@@ -92,7 +92,7 @@ fn make_signature(
     ensures { λ made. ⌜
         take (signatureLength p) made
         ≡ joinedParts leaf r (revealed (hasher .domain) (chainsOf (p .shape)) (now (secret .entry)) leaf row) (take (16 * p .height) siblings)
-    ⌝ }
+        ⌝ }
 {
     let shape = p.shape;
     let chains = chains_of(shape);
@@ -126,7 +126,9 @@ pub fn sign(
     table: &mut [u32],
     signature: &mut [u8],
 ) -> Signed
-    ensures { λ answer. ⌜ Signs key (record { r = r; message = now (message .entry); work = now (table .entry); out = now (signature .entry) }) (now (table .exit)) (now (signature .exit)) answer ⌝ }
+    ensures { λ answer. ⌜ Signs key
+        (record { r = r; message = now (message .entry); work = now (table .entry); out = now (signature .entry) })
+        (now (table .exit)) (now (signature .exit)) answer ⌝ }
 {
     let p = key.profile;
     let shape = p.shape;
@@ -134,13 +136,15 @@ pub fn sign(
     let early = sign_outcome(checked, key, message.len(), signature.len());
     let count = fill_past(early, shape, table);
     let outcome = early.then(count_too_small(count), Refusal::CountTooSmall);
+    let counter = key.counter;
+    let cleared = clear(counter);
+    let after = with_counter(key, cleared);
     match outcome {
         Outcome::Refused(_) => Signed {
             outcome: outcome,
             key: key,
         },
         Outcome::Granted => {
-            let counter = key.counter;
             let leaf = counter.next - 1;
             let seed = key.seed;
             let secret = key.secret;
@@ -154,8 +158,6 @@ pub fn sign(
             let made = make_signature(hasher, p, &secret, leaf, r, row, siblings);
             let bytes = signature_length(p);
             copy(&made, bytes, signature, 0);
-            let cleared = clear(counter);
-            let after = with_counter(key, cleared);
             Signed {
                 outcome: outcome,
                 key: after,

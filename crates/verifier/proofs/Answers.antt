@@ -33,7 +33,7 @@ use Rattle.message.proofs.NumberLaws.{number-fits}
 use Rattle.window.specs.Window.{passed}
 use Rattle.verifier.specs.Verifying.{withAccepted, numberIn, rowIn, rootAlong, rootIn, stepsIn, sameBytes}
 use Rattle.verifier.specs.Operations.{VerifyingCall, verifyCauses, causesBeforeRoot, verifyCode, verifierAfter, stepsMade, Verifies}
-use Rattle.verifier.specs.Judging.{Ready, judgeCauses, judgeCode, judgeSteps, Judges}
+use Rattle.verifier.specs.inner.Judging.{Ready, judgeCauses, judgeCode, judgeSteps, Judges}
 use Rattle.verifier.specs.declared.Verifier.{Verifier}
 use Rattle.verifier.specs.declared.Verdict.{Verdict}
 

@@ -1,4 +1,4 @@
 -- The checking cabinet.
 pub mod Verifying
 pub mod Operations
-pub mod Judging
+pub mod inner

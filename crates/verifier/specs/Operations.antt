@@ -1,11 +1,11 @@
 -- Document 01, "Check", with document 02, points 3 and 4: what Check answers, and what the cabinet is afterwards.
 use mathlib.Core.Path.{_≡_}
-use mathlib.Core.Bool.{Bool, not, _&&_, _||_, cond}
+use mathlib.Core.Bool.{Bool, not, _||_, cond}
 use mathlib.Core.List.{List, [], _∷_, _++_}
 use Prim.Native.Nat.{ℕ}
 use lib.Dec.{eqb}
 use lib.ListN.{length}
-use Rattle.refusal.specs.Code.{outcomeCode, firstCause, thenFirst}
+use Rattle.refusal.specs.Code.{outcomeCode, firstCause}
 use Rattle.profile.specs.Checks.{leafBeyond}
 use Rattle.signature.specs.Signature.{outsideText, signatureLength, leafIn}
 use Rattle.counts.specs.Counts.{count}
@@ -22,7 +22,7 @@ pub record VerifyingCall : Type 0 where
   pub signature : List ℕ
   pub work : List ℕ
 
--- "16; 13 signature not 20 + 16 × l + 16 × h bytes; 11; 14 …", where 14 now means that the leaf is passed by the rule of the cabinet's window
+-- "16; 13 signature not 20 + 16 × l + 16 × h bytes; 11; 14 …", where 14 now means that the leaf is passed by the rule of the window
 abbrev pub verifyCauses : Verifier → (text : ℕ) (signature : List ℕ) → List (Bool × ℕ)
 verifyCauses v text signature =
     (outsideText text, 16) ∷ (not (eqb (length signature) (signatureLength (v .profile))), 13)

@@ -17,7 +17,7 @@ ghost use Rattle.message.specs.Message.{countTooSmall};
 ghost use Rattle.window.specs.Window as window;
 ghost use Rattle.verifier.specs.Verifying.{withAccepted, numberIn, rowIn, sameBytes};
 ghost use Rattle.verifier.specs.Operations.{verifyCauses, Verifies};
-ghost use Rattle.verifier.specs.Judging.{Ready, Judges};
+ghost use Rattle.verifier.specs.inner.Judging.{Ready, Judges};
 use chains::chains_of;
 use codewords::unranking::write_codeword;
 use counts::table::fill_past;
@@ -38,7 +38,8 @@ use window::Window;
 use window::passed;
 use window::take;
 
-// A cabinet (document 01; document 02, point 4): its profile, the public seed, the root, and the window over the leaves that it has accepted.
+// A cabinet (document 01; document 02, point 4): its profile, the public seed, the root, and the window over the leaves that
+// it has accepted.
 pub struct Verifier {
     pub profile: Profile,
     pub seed: [u8; 16],
@@ -156,11 +157,11 @@ pub fn verify_outcome(checked: Outcome, v: Verifier, text: usize, signature: &[u
 fn recover_root(v: Verifier, leaf: u32, row: [u8; 40], signature: &[u8]) -> RootFound
     requires { ⌜
         InLimits (v .profile .shape) × (v .profile .height ≤ 10) × (length (now signature) ≡ signatureLength (v .profile))
-    ⌝ }
+        ⌝ }
     ensures root { λ r. ⌜
         r .root ≡ recoveredRoot (firstDomain (v .seed)) (chainsOf (v .profile .shape)) (v .profile .height) leaf row
         (valuesIn (v .profile) (now (signature .entry))) (siblingsIn (v .profile) (now (signature .entry)))
-    ⌝ }
+        ⌝ }
     ensures steps { λ r. ⌜ r .steps ≡ stepsLeft (chainsOf (v .profile .shape)) row ⌝ }
 {
     let p = v.profile;
@@ -215,7 +216,9 @@ pub fn judge(
 
 // Check: whether the signature of the message leads to the cabinet's root.
 pub fn verify(v: Verifier, message: &[u8], signature: &[u8], table: &mut [u32]) -> Verdict
-    ensures { λ answer. ⌜ Verifies v (record { message = now (message .entry); signature = now (signature .entry); work = now (table .entry) }) (now (table .exit)) answer ⌝ }
+    ensures { λ answer. ⌜ Verifies v
+        (record { message = now (message .entry); signature = now (signature .entry); work = now (table .entry) })
+        (now (table .exit)) answer ⌝ }
 {
     let p = v.profile;
     let shape = p.shape;

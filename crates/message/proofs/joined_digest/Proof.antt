@@ -22,7 +22,8 @@ returns c =
     let a = begin .args in
     let pre = begin .pre in
     let taken =
-    all-taken (now (a .r)) (now (a .seed)) (now (a .root)) (now (a .leaf)) (now (a .message)) (pre .0) (pre .1) (pre .2) (pre .3) (pre .4) (started .start .ensures)
+    all-taken (now (a .r)) (now (a .seed)) (now (a .root)) (now (a .leaf)) (now (a .message))
+    (pre .0) (pre .1) (pre .2) (pre .3) (pre .4) (started .start .ensures)
     (first .add .ensures .state) (second .add2 .ensures .state) (third .add3 .ensures .state) (fourth .add4 .ensures .state) (fifth .add5 .ensures .state) in
     digest-made (now (a .r) ++ now (a .seed) ++ now (a .root) ++ now (a .leaf) ++ now (a .message)) taken
     (c .digest .ensures ∙ ap (λ (h : Hash). wordBytes (h .words)) (finished .finish .ensures))

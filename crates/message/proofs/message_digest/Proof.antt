@@ -48,7 +48,8 @@ returns c =
     let t = c .before .before .before .before .before in
     let w = t .before in
     let a = w .before .before .args in
-    let part : take (t .leaf-bytes .result) (w .word-bytes .result) ≡ leafPart (a .edition) (a .leaf) = rw (t .leaf-bytes .ensures, w .word-bytes .ensures) (part-taken (a .edition) (a .leaf)) in
+    let part : take (t .leaf-bytes .result) (w .word-bytes .result) ≡ leafPart (a .edition) (a .leaf) =
+    rw (t .leaf-bytes .ensures, w .word-bytes .ensures) (part-taken (a .edition) (a .leaf)) in
     c .joined-digest .ensures ∙ ap (λ leaf. digest (a .t3 ++ a .t4 ++ a .t5 ++ leaf ++ now (a .message))) part
 
 pub message-digest-spec : {M : Type 1} → statement M

@@ -13,7 +13,9 @@ returns c =
     let start = c .before .before in
     let digest = start .args .digest in
     let long : length digest ≡ 32 = search needs in
-    c .shift-right .ensures ∙ rw (c .before .first-words .ensures) (sym (first-16 (start .args .bits) digest (start .pre) long (below-fits w8 digest (λ j. search needs))))
+    c .shift-right .ensures
+    ∙ rw (c .before .first-words .ensures)
+    (sym (first-16 (start .args .bits) digest (start .pre) long (below-fits w8 digest (λ j. search needs))))
 
 pub number-of-digest-spec : {M : Type 1} → statement M
 number-of-digest-spec = tie.close (tie.spec (λ c κs. search needs) (λ c. search needs) (λ c κs. search needs) returns)

@@ -33,10 +33,11 @@ write-values-requires c κs =
     let second = c .before .before in
     let first = second .before .before .before in
     let begin = begun first in
-    let limits = begin .pre .1 .0 in
-    (begin .pre .0,
-    rw (chained first .chains-of .ensures)
-    (chains-fit (begin .args .p .shape) limits, omega (arith, limits .few-chains, first .write-leaf .kept .0, second .write-16 .kept .0)))
+    let limits = begin .pre .1 .0 in (
+      begin .pre .0,
+      rw (chained first .chains-of .ensures)
+          (chains-fit (begin .args .p .shape) limits, omega (arith, limits .few-chains, first .write-leaf .kept .0, second .write-16 .kept .0)),
+    )
 
 longs : (s : tie.Start) → (length (s .args .r) ≡ 16) × (length (s .args .t7) ≡ 160)
 longs s = search needs
@@ -49,9 +50,10 @@ copy-requires c κs =
     let third = c .before .before .before in
     let begin = start third in
     let few = begin .pre .1 .0 .few-chains in
-    let written = third .write-values .kept .1 .1 .1 .1 .1 .0 in
-    (omega (arith, begin .pre .1 .1, longs begin .1),
-    omega (arith, few, begin .pre .1 .1, first third .write-leaf .kept .0, second third .write-16 .kept .0, written))
+    let written = third .write-values .kept .1 .1 .1 .1 .1 .0 in (
+      omega (arith, begin .pre .1 .1, longs begin .1),
+      omega (arith, few, begin .pre .1 .1, first third .write-leaf .kept .0, second third .write-16 .kept .0, written),
+    )
 
 returns : tie.Need-returns
 returns c =

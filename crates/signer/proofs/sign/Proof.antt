@@ -44,7 +44,8 @@ fits-at f none =
     sign-fits (begun f .args .key) (called (begun f)) (early f .before .table-outcome .ensures) (early f .sign-outcome .ensures) none
 
 -- the count that is given
-counted : (f : tie.After-fill-past) → outcomeCode (early f .sign-outcome .result) ≡ 0 → value (f .fill-past .result) ≡ count (begun f .args .key .profile .shape)
+counted : (f : tie.After-fill-past) → outcomeCode (early f .sign-outcome .result) ≡ 0
+    → value (f .fill-past .result) ≡ count (begun f .args .key .profile .shape)
 counted f none = count-value (begun f .args .key .profile .shape) (fits-at f none .limits) (rw none at (f .fill-past .ensures .counted))
 
 -- the count is looked at
@@ -57,15 +58,15 @@ means t none = t .before .count-too-small .ensures ∙ ap countTooSmall (counted
 
 returns : tie.Need-returns
 returns c =
-    let t = c .before .before in
+    let t = c .before .before .before .before .before in
     let f = filled t in
     let e = early f in
-    sign-refused (begun f .args .key) (called (begun f)) (e .before .table-outcome .ensures) (e .sign-outcome .ensures) (means t) (t .then .result) (t .then .ensures)
-    (f .fill-past .ensures .table) (c .enum-told .given .1)
+    sign-refused (begun f .args .key) (called (begun f)) (e .before .table-outcome .ensures) (e .sign-outcome .ensures) (means t)
+    (t .then .result) (t .then .ensures) (f .fill-past .ensures .table) (c .enum-told .given .1)
 
 -- the way on which none of the causes holds
 abbrev looked : tie.After-enum-told2 → tie.After-then
-looked g = g .before .before
+looked g = g .before .before .before .before .before
 
 abbrev at-fill : tie.After-enum-told2 → tie.After-fill-past
 at-fill g = filled (looked g)
@@ -89,10 +90,10 @@ fits g = fits-at (at-fill g) (none g .0)
 
 -- a leaf is marked, so that there is one before the next
 sub-leaf : tie.Need-sub-leaf
-sub-leaf c = omega (arith, fits (c .before .before) .some)
+sub-leaf c = omega (arith, fits (c .before) .some)
 
 abbrev granted : tie.After-first-hasher → tie.After-enum-told2
-granted h = h .before .before .before .before .before
+granted h = h .before .before .before .before
 
 way-up-requires : tie.Need-way-up-requires
 way-up-requires c κs = let known = fits (granted (c .before)) in (c .before .first-hasher .ensures .1, (known .limits, known .low, known .in-tree))
@@ -111,7 +112,8 @@ number : (n : tie.After-message-number)
     → value (n .message-number .result) ≡ keyNumber (numbered-at n .args .key) (numbered-at n .args .r) (now (numbered-at n .args .message))
 number n =
     let a = numbered-at n .args in
-    number-is (a .key) (a .r) (now (a .message)) (rw (hasher n .first-hasher .ensures .0) at (n .before .before .way-up .ensures .1)) (n .message-number .ensures)
+    number-is (a .key) (a .r) (now (a .message))
+    (rw (hasher n .first-hasher .ensures .0) at (n .before .before .way-up .ensures .1)) (n .message-number .ensures)
 
 write-codeword-requires : tie.Need-write-codeword-requires
 write-codeword-requires c κs =
@@ -150,11 +152,11 @@ copy-requires c κs =
     let known = fits (way made) in
     omega (arith, made-long made, known .limits .few-chains, known .low, known .room, c .before .before .signature-length .ensures)
 
--- and copied to the output, and the mark is cleared
-abbrev copied : tie.After-with-counter → tie.After-copy
-copied t = t .before .before .before .before
+-- and copied to the output
+abbrev copied : tie.After-slice-known4 → tie.After-copy
+copied t = t .before .before
 
-abbrev made-for : tie.After-with-counter → tie.After-make-signature
+abbrev made-for : tie.After-slice-known4 → tie.After-make-signature
 made-for t = copied t .before .before .before .before
 
 same-length-2 : tie.Need-same-length-2
@@ -169,12 +171,13 @@ returns-2 c =
     let e = early (at-fill g) in
     let s = at-start g in
     let a = s .args in
+    let kept = g .before .before in
     let is = signature-is (a .key) (a .r) (now (a .message)) (none g .1) _ (made .make-signature .result) (hasher n .first-hasher .ensures .0)
     (number n) (row .write-codeword .ensures) (n .before .before .way-up .ensures .0) (made .make-signature .ensures) in
     sign-granted (a .key) (called s) (e .before .table-outcome .ensures) (e .sign-outcome .ensures) (means (looked g)) (looked g .then .result)
     (looked g .then .ensures)
     (at-fill g .fill-past .ensures .table) (made .make-signature .result) (zero g) is (copied c .before .before .before .signature-length .ensures)
-    (copied c .copy .ensures) (c .with-counter .ensures ∙ ap (recounted (a .key)) (c .before .clear .ensures))
+    (copied c .copy .ensures) (kept .with-counter .ensures ∙ ap (recounted (a .key)) (kept .before .clear .ensures))
 
 pub sign-spec : {M : Type 1} → statement M
 sign-spec =
@@ -182,7 +185,7 @@ sign-spec =
     (tie.spec
     (λ c κs. search needs) (λ c κs. search needs)
     fill-past-requires
-    (λ c κs. search needs) (λ c κs. search needs) (λ c. search needs) (λ c. search needs)
+    (λ c κs. search needs) (λ c κs. search needs) (λ c κs. search needs) (λ c κs. search needs) (λ c. search needs) (λ c. search needs)
     sub-leaf
     (λ c κs. search needs)
     way-up-requires
@@ -192,7 +195,7 @@ sign-spec =
     make-signature-requires
     (λ c κs. search needs) (λ c. search needs)
     copy-requires
-    (λ c κs. search needs) (λ c κs. search needs) (λ c. search needs)
+    (λ c. search needs)
     returns
     same-length-2
     (λ c. search needs)

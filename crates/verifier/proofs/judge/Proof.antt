@@ -7,7 +7,7 @@ use Rattle.refusal.specs.Code.{outcomeCode}
 use Rattle.counts.specs.Counts.{count}
 use Rattle.message.specs.Message.{countTooSmall}
 use Rattle.verifier.specs.Verifying.{sameBytes}
-use Rattle.verifier.specs.Judging.{Ready}
+use Rattle.verifier.specs.inner.Judging.{Ready}
 use Rattle.verifier.proofs.Answers.{ready-front, judge-refused, judge-none, top-recovered, steps-full, judge-decided}
 use Rattle.verifier.proofs.judge.Statement.{statement}
 use Rattle.verifier.proofs.judge.Tie as tie
@@ -78,7 +78,8 @@ returns-2 c =
     let top = top-recovered (a .v) message signature (row .row-in .result) (row .row-in .ensures) own (r .recover-root .ensures .0) in
     let steps = steps-full (a .v) message signature (row .row-in .result) (row .row-in .ensures) own (r .recover-root .ensures .1) in
     let compared = ap not (j .before .same-root .ensures ∙ ap (λ found. sameBytes found (a .v .root)) top) in
-    judge-decided (a .v) message signature (none g .0) (none g .1) compared (j .then2 .result) (zero g) (j .then2 .ensures) own (c .verifier-after .ensures) steps
+    judge-decided (a .v) message signature (none g .0) (none g .1) compared (j .then2 .result) (zero g) (j .then2 .ensures) own
+    (c .verifier-after .ensures) steps
 
 pub judge-spec : {M : Type 1} → statement M
 judge-spec =

@@ -14,7 +14,9 @@ returns c =
     let s = f .before .before .before .before .before .before in
     let v = s .args .v in
     let message = now (s .args .message) in
-    c .message-number .ensures ∙ ap (λ leaf. messageNumber (v .profile) leaf (c .before .random-in .result) (v .seed) (v .root) message) (f .leaf-in .ensures) ∙ rw (c .before .random-in .ensures)
+    c .message-number .ensures
+    ∙ ap (λ leaf. messageNumber (v .profile) leaf (c .before .random-in .result) (v .seed) (v .root) message) (f .leaf-in .ensures)
+    ∙ rw (c .before .random-in .ensures)
 
 pub number-in-spec : {M : Type 1} → statement M
 number-in-spec = tie.close (tie.spec (λ c κs. search needs) (λ c κs. search needs) (λ c κs. search needs) returns)

@@ -28,13 +28,17 @@ returns : tie.Need-returns Inv-loop μ-loop
 returns c =
     let at-loop = c .before .before in
     let start = at-loop .before in
-    sym (at-loop .loop .inv .1 ∙ same-here (start .args .t1) (start .args .t2) (at-loop .loop .i) (omega (arith, long-a start)) (omega (arith, long-b start)) (c .if1 .taken))
+    sym
+    (at-loop .loop .inv .1
+    ∙ same-here (start .args .t1) (start .args .t2) (at-loop .loop .i) (omega (arith, long-a start)) (omega (arith, long-b start)) (c .if1 .taken))
 
 loop-again : tie.Need-loop-again Inv-loop μ-loop
 loop-again c =
     let at-loop = c .before .before in
     let start = at-loop .before in
-    (omega arith, at-loop .loop .inv .1 ∙ same-later (start .args .t1) (start .args .t2) (at-loop .loop .i) (omega (arith, long-a start)) (omega (arith, long-b start)) (c .if1 .left))
+    let later =
+    same-later (start .args .t1) (start .args .t2) (at-loop .loop .i) (omega (arith, long-a start)) (omega (arith, long-b start)) (c .if1 .left) in
+    (omega arith, at-loop .loop .inv .1 ∙ later)
 
 returns-2 : tie.Need-returns-2 Inv-loop μ-loop
 returns-2 c =

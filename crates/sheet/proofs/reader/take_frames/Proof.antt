@@ -48,7 +48,7 @@ use denote.Triple.Clauses.{ensured, lasts}
 use Rattle.profile.specs.declared.Profile.{Profile}
 use Rattle.profile.proofs.Profile as F
 use Rattle.profile.proofs.Profile.Laws as F′
-use Rattle.frames.specs.Frames.{Within}
+use Rattle.frames.specs.Frames.{SizesInLimits as Within}
 use Rattle.sheet.specs.Reader.{start, placeAt}
 use Rattle.sheet.specs.declared.place.Place.{Place}
 use Rattle.sheet.specs.declared.reader.Reader.{Reader}

@@ -17,7 +17,8 @@ use Rattle.verifier.specs.Verifying.{withAccepted, rootIn, stepsIn, same
 use Rattle.verifier.specs.declared.Verifier.{Verifier}
 use Rattle.verifier.specs.declared.Verdict.{Verdict}
 
--- past the causes before 19: all is within its limits, the signature has its length, the leaf that it names is not passed; the work slice holds the table, and its count is given
+-- past the causes before 19: all is within its limits, the signature has its length, and the leaf that it names is not passed; the work
+-- slice holds the table, and its count is given
 pub record Ready (v : Verifier) (counted message signature work : List ℕ) : Type 0 where
   pub limits : InLimits (v .profile .shape)
   pub low : v .profile .height ≤ 10
