@@ -8,6 +8,8 @@ ghost use Rattle.chains.specs.Leaves.{ChainsFit, revealed, leafKey, reco
 use super::Chains;
 use super::steps::chain_value;
 use super::steps::walk;
+use octets::read_16;
+use octets::write_16;
 use tweak::Chain;
 use tweak::Hasher;
 use tweak::Leaf;
@@ -15,8 +17,6 @@ use tweak::absorb;
 use tweak::begin;
 use tweak::end;
 use tweak::leaf_key_address;
-use octets::read_16;
-use octets::write_16;
 
 // The leaf key. Each top goes into the hash as it is made.
 pub fn key_of_leaf(hasher: Hasher, chains: Chains, secret: &[u8; 16], leaf: Leaf) -> [u8; 16]
@@ -52,7 +52,7 @@ pub fn write_values(
     ensures { λ _. ⌜
         now (out .exit) ≡ take at (now (out .entry)) ++ revealed (hasher .domain) chains (now (secret .entry)) (leaf .0) row
         ++ drop (at + 16 * chains .count) (now (out .entry))
-    ⌝ }
+        ⌝ }
 {
     let mut c: u32 = 0;
     while c < chains.count {

@@ -2,6 +2,7 @@
 ghost use mathlib.Core.Path.{_≡_};
 ghost use Rattle.chains.specs.Leaves.{chainsOf};
 use profile::Shape;
+
 pub mod leaves;
 pub mod steps;
 

@@ -38,7 +38,14 @@ pub struct Walked {
 }
 
 // The steps from one height up to another, counted one by one.
-pub fn walk(hasher: Hasher, leaf: Leaf, chain: Chain, low: u32, high: u32, value: [u8; 16]) -> Walked
+pub fn walk(
+    hasher: Hasher,
+    leaf: Leaf,
+    chain: Chain,
+    low: u32,
+    high: u32,
+    value: [u8; 16],
+) -> Walked
     requires { ⌜ Seeded hasher ⌝ }
     ensures value { λ r. ⌜ r .value ≡ walked (hasher .domain) (leaf .0) (chain .0) low (high - low) value ⌝ }
     ensures steps { λ r. ⌜ r .steps ≡ high - low ⌝ }
@@ -60,7 +67,13 @@ pub fn walk(hasher: Hasher, leaf: Leaf, chain: Chain, low: u32, high: u32, value
 }
 
 // The value of a chain at a height, from the secret seed.
-pub fn chain_value(hasher: Hasher, leaf: Leaf, chain: Chain, secret: &[u8; 16], height: u32) -> [u8; 16]
+pub fn chain_value(
+    hasher: Hasher,
+    leaf: Leaf,
+    chain: Chain,
+    secret: &[u8; 16],
+    height: u32,
+) -> [u8; 16]
     requires { ⌜ Seeded hasher ⌝ }
     ensures { λ r. ⌜ r ≡ chainValue (hasher .domain) (now (secret .entry)) (leaf .0) (chain .0) height ⌝ }
 {

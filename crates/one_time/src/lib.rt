@@ -6,7 +6,7 @@ ghost use Rattle.refusal.specs.Code.{code, outcomeCode, thenFirst};
 ghost use Rattle.numbers.specs.Number.{value};
 ghost use Rattle.counts.specs.Table.{leavesTable};
 ghost use Rattle.one_time.specs.Operations.{leafKeyCode, LeafKeys, ownCauses, Reveals, Recovers};
-ghost use Rattle.one_time.specs.Placing.{Places};
+ghost use Rattle.one_time.specs.inner.Placing.{Places};
 use chains::chains_of;
 use chains::leaves::key_of_leaf;
 use chains::leaves::recover_key;
@@ -69,7 +69,7 @@ fn place_row(
     ensures { λ r. ⌜
         Places p leaf (value number) wrong (code refusal)
         (now (table .entry)) (now (row .entry)) (now (table .exit)) (now (row .exit)) r
-    ⌝ }
+        ⌝ }
 {
     let shape = p.shape;
     let height = p.height;
@@ -114,7 +114,7 @@ pub fn one_time_sign(
     ensures { λ r. ⌜
         Reveals p seed (now (secret .entry)) leaf (value number)
         (now (table .entry)) (now (values .entry)) (now (table .exit)) (now (values .exit)) r
-    ⌝ }
+        ⌝ }
 {
     let shape = p.shape;
     let count = shape.chains as usize;
@@ -144,7 +144,7 @@ pub fn one_time_recover(
 ) -> Recovered
     ensures { λ r. ⌜
         Recovers p seed leaf (value number) (now (values .entry)) (now (table .entry)) (now (table .exit)) r
-    ⌝ }
+        ⌝ }
 {
     let shape = p.shape;
     let count = shape.chains as usize;

@@ -14,13 +14,13 @@ use chains::leaves::recover_key;
 use merkle::climb_path;
 use merkle::parent;
 use merkle::sibling;
+use octets::write_16;
 use profile::Profile;
 use profile::check_profile;
 use refusal::Outcome;
 use tweak::Hasher;
 use tweak::Leaf;
 use tweak::first_hasher;
-use octets::write_16;
 
 // What Root answers. Refused, the root is zero.
 pub struct TreeRoot {
@@ -57,7 +57,7 @@ pub fn write_path(
     ensures { λ _. ⌜
         now (out .exit) ≡ siblingsOf (hasher .domain) chains (now (secret .entry)) height leaf
         ++ drop (16 * height) (now (out .entry))
-    ⌝ }
+        ⌝ }
 {
     let mut index = leaf;
     let mut k: u32 = 0;
@@ -112,7 +112,7 @@ pub fn recover_root(
     requires { ⌜ ChainsFit chains × (16 * chains .count ≤ length (now values)) × (16 * height ≤ length (now siblings)) ⌝ }
     ensures root { λ r. ⌜
         r .root ≡ recoveredRoot (hasher .domain) chains height leaf row (now (values .entry)) (now (siblings .entry))
-    ⌝ }
+        ⌝ }
     ensures steps { λ r. ⌜ r .steps ≡ stepsLeft chains row ⌝ }
 {
     let found = recover_key(hasher, chains, Leaf(leaf), row, values);

@@ -28,9 +28,11 @@ loop-again c =
     let at-loop = turn .before .before in
     let a = at-loop .before .before .args in
     let now-here = at-loop .loop in
-    let next = climbed-next (a .hasher .domain) (a .leaf) (a .key) (now (a .siblings)) (now-here .k) (now-here .index) (now-here .inv .1) in
-    (omega arith, ap (λ (i : ℕ). i / 2) (now-here .inv .1) ∙ half-place (a .leaf) (now-here .k),
-    next (now-here .inv .2) (turn .read-16 .ensures) (c .climb-once .ensures))
+    let next = climbed-next (a .hasher .domain) (a .leaf) (a .key) (now (a .siblings)) (now-here .k) (now-here .index) (now-here .inv .1) in (
+      omega arith,
+      ap (λ (i : ℕ). i / 2) (now-here .inv .1) ∙ half-place (a .leaf) (now-here .k),
+      next (now-here .inv .2) (turn .read-16 .ensures) (c .climb-once .ensures),
+    )
 
 returns : tie.Need-returns Inv-loop μ-loop
 returns c = let all : c .before .loop .k ≡ c .before .before .before .args .height = omega arith in rw all at (c .before .loop .inv .2)

@@ -39,9 +39,11 @@ loop-again c =
     λ i _. length-value d (a .leaf .0) i (now (a .secret)) (getD (a .t5) i 0) in
     let next =
     write-next shown 16 (a .chains .count) each (a .at) (now (a .out)) (start .pre .1 .1)
-    (at-loop .loop .c) (omega arith) in
-    (omega arith, written .write-16 .kept .0 ∙ at-loop .loop .inv .1,
-    next (valued .chain-value .ensures) (at-loop .loop .inv .2) (written .write-16 .ensures))
+    (at-loop .loop .c) (omega arith) in (
+      omega arith,
+      written .write-16 .kept .0 ∙ at-loop .loop .inv .1,
+      next (valued .chain-value .ensures) (at-loop .loop .inv .2) (written .write-16 .ensures),
+    )
 
 same-length : tie.Need-same-length Inv-loop μ-loop
 same-length c = c .before .before .loop .inv .1
