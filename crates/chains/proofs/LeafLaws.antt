@@ -32,13 +32,14 @@ taken d leaf f c = seedBlock (d .seed) ++ leafKeyAddress d leaf ++ joinTo f c
 
 module _ (d : Domain) (leaf : ℕ) (f : ℕ → List ℕ) where
   -- before the first top
-  pub no-top : {a : List ℕ} {h : Hash} → a ≡ leafKeyAddress d leaf → h ≡ hashed (seedBlock (d .seed) ++ a) → h ≡ hashed (taken d leaf f 0)
+  pub no-top : {a : List ℕ} {hash : Hash} → a ≡ leafKeyAddress d leaf → hash ≡ hashed (seedBlock (d .seed) ++ a)
+      → hash ≡ hashed (taken d leaf f 0)
   unfolding joinTo
   no-top p e = e ∙ rw (p, append-nil)
 
   -- a top more
-  pub top-more : (c n : ℕ) {top : List ℕ} {h next : Hash} → length (d .seed) ≡ 16 → n ≤ 40 → c < n
-      → ((i : ℕ) → i < n → length (f i) ≡ 16) → h ≡ hashed (taken d leaf f c) → top ≡ f c → next ≡ addState h top → next ≡ hashed (taken d leaf f (c + 1))
+  pub top-more : (c n : ℕ) {top : List ℕ} {hash next : Hash} → length (d .seed) ≡ 16 → n ≤ 40 → c < n
+      → ((i : ℕ) → i < n → length (f i) ≡ 16) → hash ≡ hashed (taken d leaf f c) → top ≡ f c → next ≡ addState hash top → next ≡ hashed (taken d leaf f (c + 1))
   top-more c n long most low each e s absorbed =
       let front = seedBlock (d .seed) ++ leafKeyAddress d leaf in
       let before : length front ≡ 86 =
@@ -48,7 +49,7 @@ module _ (d : Domain) (leaf : ℕ) (f : ℕ → List ℕ) where
       ∙ ap hashed (joinTo-behind front f c)
 
   -- after the last top
-  pub all-tops : (c n : ℕ) {h : Hash} {r : List ℕ} → c ≡ n → h ≡ hashed (taken d leaf f c) → r ≡ take 16 (wordBytes (finished h .words))
+  pub all-tops : (c n : ℕ) {hash : Hash} {r : List ℕ} → c ≡ n → hash ≡ hashed (taken d leaf f c) → r ≡ take 16 (wordBytes (finished hash .words))
       → r ≡ keyOfTops d leaf (joinTo f n)
   unfolding keyOfTops
   all-tops c n last e ended = tweak-ended d (leafKeyAddress d leaf) (joinTo f n) (rw last at e) ended

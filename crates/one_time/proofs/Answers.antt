@@ -20,7 +20,7 @@ use Rattle.tweak.specs.Tweak.{firstDomain}
 use Rattle.chains.specs.Leaves.{chainsOf, ChainsFit, revealed, leafKeyOf, recovered, stepsLeft}
 use Rattle.chains.proofs.LeafLaws.{chains-fit}
 use Rattle.one_time.specs.Operations.{leafKeyCode, LeafKeys, revealedBy, Reveals, recoveredBy, stepsOf, Recovers}
-use Rattle.one_time.specs.Placing.{Places}
+use Rattle.one_time.specs.inner.Placing.{Places}
 use Rattle.one_time.proofs.PlaceAnswer.{place-some, place-grants}
 use Rattle.one_time.proofs.RowLaws.{revealed-row, recovered-row, steps-row}
 

@@ -23,7 +23,7 @@ use Rattle.codewords.specs.Placing.{Placeable, PlacesPast}
 use Rattle.codewords.proofs.TableOperation.{early-code, none-before, answer-after, table-after}
 use Rattle.codewords.proofs.UnrankAnswer.{placeable}
 use Rattle.one_time.specs.Operations.{ownCauses, placeCode}
-use Rattle.one_time.specs.Placing.{Places}
+use Rattle.one_time.specs.inner.Placing.{Places}
 
 -- the causes before 7: those of the table, then the size of the values and the leaf
 module _ (p : Profile) (work : List ℕ) (leaf : ℕ) (wrong : Bool) (size : ℕ) (other : leavesTable size ≡ false)
@@ -50,13 +50,14 @@ module _ (p : Profile) (work : List ℕ) (leaf : ℕ) (wrong : Bool) (size : ℕ
   pub place-passed : n ≡ 0 → TablePassed p (length work)
   place-passed none = table-passed p (length work) (sym checked ∙ none)
 
-  pub place-answers : {k : ℕ} {left row row′ : List ℕ} {r : Outcome} → left ≡ cond (eqb m 0) (withTable (p .shape) work) work → PlacesPast m (p .shape) k row row′ r
-      → Places p leaf k wrong size work row left row′ r
+  pub place-answers : {k : ℕ} {left row row′ : List ℕ} {r : Outcome} → left ≡ cond (eqb m 0) (withTable (p .shape) work) work
+      → PlacesPast m (p .shape) k row row′ r → Places p leaf k wrong size work row left row′ r
   unfolding placeCode
   place-answers {k} filled places =
       let seven : List (Bool × ℕ) = (leb (count (p .shape)) k, 7) ∷ [] in
       let answer = places .answer ∙ answer-after first own early between code seven (refl, tt) refl in
-      record { code = answer; table = table-after first own early between code seven (refl, tt) refl (p .shape) work filled; placed = rw answer at (places .placed) }
+      let table = table-after first own early between code seven (refl, tt) refl (p .shape) work filled in
+      record { code = answer; table = table; placed = rw answer at (places .placed) }
 
   pub place-placeable : {left counted row : List ℕ} → FillsPast m (p .shape) work left counted → length row ≡ 40 → m ≡ 0 → Placeable (p .shape) counted left row
   place-placeable fills long none =
@@ -71,7 +72,8 @@ pub record Grants (code : ℕ) (p : Profile) (n : ℕ) (wrong : Bool) (row row�
   pub below : n < count (p .shape)
   pub placed : row′ ≡ rowOf (p .shape) n ++ drop (p .shape .chains) row
 
-module _ {p : Profile} {leaf n : ℕ} {wrong : Bool} {size : ℕ} {work row work′ row′ : List ℕ} {r : Outcome} (places : Places p leaf n wrong size work row work′ row′ r) where
+module _ {p : Profile} {leaf n : ℕ} {wrong : Bool} {size : ℕ} {work row work′ row′ : List ℕ} {r : Outcome}
+    (places : Places p leaf n wrong size work row work′ row′ r) where
   pub place-some : {x : Refusal} → r ≡ Refused x → eqb (placeCode p leaf n wrong size work) 0 ≡ false
   place-some {x} q = refused-number r (placeCode p leaf n wrong size work) x (places .code) q
 

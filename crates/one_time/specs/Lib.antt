@@ -1,3 +1,3 @@
 -- The one-time signatures of a leaf.
 pub mod Operations
-pub mod Placing
+pub mod inner

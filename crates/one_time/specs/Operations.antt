@@ -50,7 +50,9 @@ pub record Reveals (p : Profile) (seed secret : List ℕ) (leaf n : ℕ) (work v
   pub code : outcomeCode r ≡ revealCode p leaf n work values
   pub table : work′ ≡ tableAfter (revealCode p leaf n work values) (p .shape) work
   pub written : values′
-      ≡ cond (eqb (revealCode p leaf n work values) 0) (revealedBy (firstDomain seed) p secret leaf n ++ drop (16 * p .shape .chains) values) values
+      ≡ cond (eqb (revealCode p leaf n work values) 0)
+      (revealedBy (firstDomain seed) p secret leaf n ++ drop (16 * p .shape .chains) values)
+      values
 
 -- "Recover …: profile checks, 5; 13 values not 16 × l bytes; 11, 7"
 abbrev pub recoverCode : Profile → (leaf n : ℕ) (values work : List ℕ) → ℕ

@@ -6,7 +6,7 @@ ghost use Rattle.refusal.specs.Code.{code, outcomeCode, thenFirst};
 ghost use Rattle.numbers.specs.Number.{value};
 ghost use Rattle.counts.specs.Table.{leavesTable};
 ghost use Rattle.one_time.specs.Operations.{leafKeyCode, LeafKeys, ownCauses, Reveals, Recovers};
-ghost use Rattle.one_time.specs.Placing.{Places};
+ghost use Rattle.one_time.specs.inner.Placing.{Places};
 use chains::chains_of;
 use chains::leaves::key_of_leaf;
 use chains::leaves::recover_key;

@@ -13,7 +13,8 @@ returns c =
     let a = sized .before .before .args in
     let size = code (a .refusal) in
     let so-far = outcomeCode (a .checked) in
-    let values = chain-next {meant = a .wrong} size (refused-number (Refused (a .refusal)) size (a .refusal) refl refl) (chain-behind so-far) refl (sized .then .ensures) in
+    let numbered = refused-number (Refused (a .refusal)) size (a .refusal) refl refl in
+    let values = chain-next {meant = a .wrong} size numbered (chain-behind so-far) refl (sized .then .ensures) in
     chain-ends so-far (chain-next 11 refl values (sized .before .leaf-beyond .ensures) (c .then2 .ensures))
 
 pub early-outcome-spec : {M : Type 1} → statement M

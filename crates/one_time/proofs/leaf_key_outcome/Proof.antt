@@ -12,7 +12,8 @@ returns : tie.Need-returns
 unfolding leafKeyCode
 returns c =
     let p = c .before .before .before .args .p in
-    chain-next 11 refl (chain-begins (profileCauses p) (profile-numbered p) (c .before .before .check-profile .ensures)) (c .before .leaf-beyond .ensures) (c .then .ensures) .answer
+    let checked = chain-begins (profileCauses p) (profile-numbered p) (c .before .before .check-profile .ensures) in
+    chain-next 11 refl checked (c .before .leaf-beyond .ensures) (c .then .ensures) .answer
 
 pub leaf-key-outcome-spec : {M : Type 1} → statement M
 leaf-key-outcome-spec = tie.close (tie.spec (λ c κs. search needs) (λ c κs. search needs) (λ c κs. search needs) returns)

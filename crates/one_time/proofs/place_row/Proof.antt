@@ -16,9 +16,12 @@ fill-past-requires c κs =
     let early = c .before in
     let begin = start early in
     let a = begin .args in
+    let size = code (a .refusal) in
     let table = early .before .table-outcome .ensures in
-    let kept = place-kept (a .p) (now (a .table)) (a .leaf) (a .wrong) (code (a .refusal)) (begin .pre .0) table (early .early-outcome .ensures) in
-    λ none. let passed = place-passed (a .p) (now (a .table)) (a .leaf) (a .wrong) (code (a .refusal)) (begin .pre .0) table (early .early-outcome .ensures) (omega arith) in (passed .limits, passed .room)
+    let kept = place-kept (a .p) (now (a .table)) (a .leaf) (a .wrong) size (begin .pre .0) table (early .early-outcome .ensures) in
+    λ none.
+    let passed = place-passed (a .p) (now (a .table)) (a .leaf) (a .wrong) size (begin .pre .0) table (early .early-outcome .ensures) (omega arith) in
+    (passed .limits, passed .room)
 
 returns : tie.Need-returns
 returns c =
@@ -27,7 +30,9 @@ returns c =
     let early = filled .before .before in
     let begin = start early in
     let a = begin .args in
-    place-answers (a .p) (now (a .table)) (a .leaf) (a .wrong) (code (a .refusal)) (begin .pre .0) (early .before .table-outcome .ensures) (early .early-outcome .ensures) (filled .fill-past .ensures .table) (placed .place-past .ensures)
+    let table = early .before .table-outcome .ensures in
+    place-answers (a .p) (now (a .table)) (a .leaf) (a .wrong) (code (a .refusal)) (begin .pre .0) table (early .early-outcome .ensures)
+    (filled .fill-past .ensures .table) (placed .place-past .ensures)
 
 place-past-requires : tie.Need-place-past-requires
 place-past-requires c κs =
@@ -35,7 +40,9 @@ place-past-requires c κs =
     let early = filled .before .before in
     let begin = start early in
     let a = begin .args in
-    place-placeable (a .p) (now (a .table)) (a .leaf) (a .wrong) (code (a .refusal)) (begin .pre .0) (early .before .table-outcome .ensures) (early .early-outcome .ensures) (filled .fill-past .ensures) (begin .pre .1)
+    let table = early .before .table-outcome .ensures in
+    place-placeable (a .p) (now (a .table)) (a .leaf) (a .wrong) (code (a .refusal)) (begin .pre .0) table (early .early-outcome .ensures)
+    (filled .fill-past .ensures) (begin .pre .1)
 
 pub place-row-spec : {M : Type 1} → statement M
 place-row-spec =

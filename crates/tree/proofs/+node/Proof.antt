@@ -66,7 +66,9 @@ module _ (t : ℕ) where
   add-node c = omega (arith, small (c .before))
 
   node-requires-2 : node-lts.Need-node-requires-2 (calls t) (node-at t) node.Post
-  node-requires-2 c κs = let e = c .before in (omega (arith, above e), (e .before .pre .1 .0, (e .before .pre .1 .1 .0, omega (arith, above e), omega (arith, within e))))
+  node-requires-2 c κs =
+      let e = c .before in
+      (omega (arith, above e), (e .before .pre .1 .0, (e .before .pre .1 .1 .0, omega (arith, above e), omega (arith, within e))))
 
   parent-requires : node-lts.Need-parent-requires (calls t) (node-at t) node.Post
   parent-requires c κs = search needs

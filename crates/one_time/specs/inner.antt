@@ -1,0 +1,2 @@
+-- What only inner steps need.
+pub mod Placing
