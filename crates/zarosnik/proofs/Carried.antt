@@ -37,7 +37,8 @@ use Rattle.sheet_writer.specs.Operations.{WritesSheet}
 use Rattle.sheet_writer.specs.declared.writer.SheetWritten.{SheetWritten}
 use Rattle.stored_key.specs.Operations.{WritesKey}
 use Rattle.stored_key.specs.declared.writer.KeyWritten.{KeyWritten}
-use Rattle.zarosnik.specs.Interface.{counterOf, markLeft, verifierOf, CountCall, UnrankCall, RankCall, LeafKeyCall, RootCall, RevealCall, RecoverCall, ReserveCall, SignCall, VerifyCall, ReadSheetCall, WriteSheetCall, WriteKeyCall}
+use Rattle.zarosnik.specs.Interface.{counterOf, markLeft, verifierOf, CountCall, UnrankCall, RankCall, LeafKeyCall, RootCall, RevealCall}
+use Rattle.zarosnik.specs.Interface.{RecoverCall, ReserveCall, SignCall, VerifyCall, ReadSheetCall, WriteSheetCall, WriteKeyCall}
 
 -- of a shape
 module _ {p q : Shape} (e : p ≡ q) {r : ℕ} {work work′ : List ℕ} where
@@ -101,17 +102,24 @@ module _ {p q : Profile} (e : p ≡ q) {r : ℕ} where
       subst (λ (s : Profile). ReadSheetCall s sheet signature message signature′ message′ (a .length) (a .line) r) e
       (record { answer = a; reads = h; returned = n; length-written = refl; line-written = refl })
 
-  pub write-sheet-call : {signature message sheet sheet′ : List ℕ} {a : SheetWritten} → WritesSheet p signature message sheet sheet′ a → r ≡ outcomeCode (a .outcome)
-      → WriteSheetCall q signature message sheet sheet′ (a .length) r
+  pub write-sheet-call : {signature message sheet sheet′ : List ℕ} {a : SheetWritten}
+      → WritesSheet p signature message sheet sheet′ a → r ≡ outcomeCode (a .outcome) → WriteSheetCall q signature message sheet sheet′ (a .length) r
   write-sheet-call {signature} {message} {sheet} {sheet′} {a} h n =
       subst (λ (s : Profile). WriteSheetCall s signature message sheet sheet′ (a .length) r) e
       (record { answer = a; writes = h; returned = n; length-written = refl })
 
-  pub reserve-call : {next mark mark′ : ℕ} {c : Counter} {a : Reserved} → Reserves p c a → c ≡ counterOf next mark → r ≡ outcomeCode (a .outcome) → mark′ ≡ markLeft (outcomeCode (a .outcome)) mark (a .counter .mark)
+  pub reserve-call : {next mark mark′ : ℕ} {c : Counter} {a : Reserved} → Reserves p c a → c ≡ counterOf next mark → r ≡ outcomeCode (a .outcome)
+      → mark′ ≡ markLeft (outcomeCode (a .outcome)) mark (a .counter .mark)
       → ReserveCall q next mark (a .counter .next) mark′ r
   reserve-call {next} {mark} {mark′} {c} {a} h f n m =
       subst (λ (s : Profile). ReserveCall s next mark (a .counter .next) mark′ r) e
-      (record { answer = a; reserves = rw f at h; returned = n; next-written = refl; mark-written = m ∙ ap (λ k. markLeft k mark (a .counter .mark)) (sym n) })
+      (record {
+        answer = a;
+        reserves = rw f at h;
+        returned = n;
+        next-written = refl;
+        mark-written = m ∙ ap (λ k. markLeft k mark (a .counter .mark)) (sym n);
+      })
 
   pub verify-call : {seed root : List ℕ} {highest marks : ℕ} {call : VerifyingCall} {work′ : List ℕ} {a : Verdict}
       → Verifies (verifierOf p seed root highest marks) call work′ a → r ≡ outcomeCode (a .outcome)
@@ -130,12 +138,14 @@ module _ {p q : Profile} (e : p ≡ q) {r : ℕ} where
       })
 
 -- a key of a profile that is named by numbers
-pub key-of : {p q : Profile} {k : SigningKey} {seed secret : List ℕ} {c : Counter} → p ≡ q → k ≡ keyWith p seed secret c → k ≡ keyWith q seed secret c
+pub key-of : {p q : Profile} {k : SigningKey} {seed secret : List ℕ} {c : Counter} → p ≡ q → k ≡ keyWith p seed secret c
+    → k ≡ keyWith q seed secret c
 key-of {seed} {secret} {c} e f = f ∙ ap (λ (s : Profile). keyWith s seed secret c) e
 
 -- of a key
 module _ {k key : SigningKey} (e : k ≡ key) {r : ℕ} where
-  pub write-key-call : {frame frame′ : List ℕ} {a : KeyWritten} → WritesKey k frame frame′ a → r ≡ outcomeCode (a .outcome) → WriteKeyCall key frame frame′ (a .length) r
+  pub write-key-call : {frame frame′ : List ℕ} {a : KeyWritten} → WritesKey k frame frame′ a → r ≡ outcomeCode (a .outcome)
+      → WriteKeyCall key frame frame′ (a .length) r
   write-key-call {frame} {frame′} {a} h n =
       subst (λ (x : SigningKey). WriteKeyCall x frame frame′ (a .length) r) e (record { answer = a; writes = h; returned = n; length-written = refl })
 

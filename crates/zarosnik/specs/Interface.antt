@@ -43,17 +43,23 @@ use Rattle.stored_key.specs.Operations.{WritesKey, ReadsKey}
 use Rattle.stored_key.specs.declared.writer.KeyWritten.{KeyWritten}
 use Rattle.stored_key.specs.declared.reader.KeyRead.{KeyRead}
 
--- a profile by its five numbers, and its shape by the first three
+-- a shape by its three numbers
 abbrev pub shapeOf : (l w s : ℕ) → Shape
 shapeOf l w s = record { chains = l; width = w; sum = s }
 
+-- a profile by its five numbers
 abbrev pub profileOf : (l w s h edition : ℕ) → Profile
 profileOf l w s h edition = record { shape = shapeOf l w s; height = h; edition = edition }
 
--- a key and a cabinet by their fields; a mark is the word 1, and every other word is none
+-- the five numbers of a profile
+abbrev pub numbersOf : Profile → List ℕ
+numbersOf p = p .shape .chains ∷ p .shape .width ∷ p .shape .sum ∷ p .height ∷ p .edition ∷ []
+
+-- a counter by its next leaf and the word of its mark: a mark is the word 1, and every other word is none
 abbrev pub counterOf : (next mark : ℕ) → Counter
 counterOf next mark = record { next = next; mark = eqb mark 1 }
 
+-- a key by its fields
 abbrev pub signingKeyOf : Profile → (seed secret : List ℕ) (next mark : ℕ) → SigningKey
 signingKeyOf p seed secret next mark = keyWith p seed secret (counterOf next mark)
 
@@ -65,8 +71,10 @@ markWord mark = cond mark 1 0
 abbrev pub markLeft : (code old : ℕ) (mark : Bool) → ℕ
 markLeft code old mark = cond (eqb code 0) (markWord mark) old
 
+-- a cabinet by its fields
 abbrev pub verifierOf : Profile → (seed root : List ℕ) (highest marks : ℕ) → Verifier
-verifierOf p seed root highest marks = record { profile = p; seed = seed; root = root; window = record { highest = highest; marks = marks } }
+verifierOf p seed root highest marks =
+    record { profile = p; seed = seed; root = root; window = record { highest = highest; marks = marks } }
 
 -- "Hash, as start, add and finish", in one call: add's code on a started hash; granted, the digest, else 32 zero bytes
 pub record HashCall (bytes digest′ : List ℕ) (r : ℕ) : Type 0 where
@@ -180,8 +188,7 @@ pub record ReadKeyCall (frame fields′ seed′ secret′ : List ℕ) (next′ m
   pub answer : KeyRead
   pub reads : ReadsKey frame answer
   pub returned : r ≡ outcomeCode (answer .outcome)
-  pub fields-written : fields′
-      ≡ answer .key .profile .shape .chains ∷ answer .key .profile .shape .width ∷ answer .key .profile .shape .sum ∷ answer .key .profile .height ∷ answer .key .profile .edition ∷ []
+  pub fields-written : fields′ ≡ numbersOf (answer .key .profile)
   pub seed-written : seed′ ≡ answer .key .seed
   pub secret-written : secret′ ≡ answer .key .secret
   pub next-written : next′ ≡ answer .key .counter .next

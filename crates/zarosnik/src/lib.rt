@@ -1,7 +1,7 @@
 // The C interface: one exported function an operation, which returns the code of the refusal, 0 for granted.
 // Parameters stand in the header's order. Contracts would have to quote `data` and names with an underscore, so `bytes`, `seed`, `secret`,
-// `next`, `highest` and `written` are the header's `data`, `public_seed`, `secret_seed`, `next_leaf`, `highest_leaf` and `message_written`, and
-// `length` is its `sheet_written` or `frame_written`. `profile` is a function here: `fields` is the header's `profile`.
+// `next`, `highest` and `written` are the header's `data`, `public_seed`, `secret_seed`, `next_leaf`, `highest_leaf` and `message_written`,
+// and `length` is its `sheet_written` or `frame_written`. `profile` is a function here: `fields` is the header's `profile`.
 ghost use mathlib.Core.Path.{_≡_};
 ghost use mathlib.Core.Bool.{cond};
 ghost use lib.Dec.{eqb};
@@ -11,7 +11,10 @@ ghost use lib.ListN.{replicate};
 ghost use Rattle.refusal.specs.Code.{outcomeCode};
 ghost use Rattle.sha256.specs.Digest.{digest as digestOf};
 ghost use Rattle.sha256.specs.Running.{started, addCode, Adds};
-ghost use Rattle.zarosnik.specs.Interface.{shapeOf, profileOf, counterOf, signingKeyOf, markWord, markLeft, verifierOf, HashCall, CountCall, UnrankCall, RankCall, CompareCall, LeafKeyCall, RootCall, RevealCall, RecoverCall, ReserveCall, SignCall, VerifyCall, ReadSheetCall, WriteSheetCall, WriteKeyCall, ReadKeyCall};
+ghost use Rattle.zarosnik.specs.Interface.{shapeOf, profileOf, counterOf, signingKeyOf, verifierOf, markWord, markLeft};
+ghost use Rattle.zarosnik.specs.Interface.{HashCall, CountCall, UnrankCall, RankCall, CompareCall, LeafKeyCall, RootCall};
+ghost use Rattle.zarosnik.specs.Interface.{RevealCall, RecoverCall, ReserveCall, SignCall, VerifyCall};
+ghost use Rattle.zarosnik.specs.Interface.{ReadSheetCall, WriteSheetCall, WriteKeyCall, ReadKeyCall};
 use codewords::ranking::rank;
 use codewords::unrank;
 use counts::table::codeword_count;
@@ -107,7 +110,8 @@ fn signing_key(p: Profile, seed: &[u8; 16], secret: &[u8; 16], next: u32, mark: 
 
 // The digest where the bytes were granted, else zero.
 fn digest_of(added: Added) -> [u8; 32]
-    ensures { λ r. ⌜ ((bytes : List ℕ) → Adds started bytes added → r ≡ cond (eqb (addCode started bytes) 0) (digestOf bytes) (replicate 32 0)) ⌝ }
+    ensures { λ r. ⌜ ((bytes : List ℕ) → Adds started bytes added
+        → r ≡ cond (eqb (addCode started bytes) 0) (digestOf bytes) (replicate 32 0)) ⌝ }
 {
     let outcome = added.outcome;
     match outcome {
@@ -156,7 +160,8 @@ pub extern "C" fn zarosnik_unrank(
     table: &mut [u32],
     row: &mut [u8],
 ) -> u32
-    ensures { λ r. ⌜ UnrankCall (shapeOf l w s) (now (number .entry)) (now (table .entry)) (now (row .entry)) (now (table .exit)) (now (row .exit)) r ⌝ }
+    ensures { λ r. ⌜ UnrankCall (shapeOf l w s) (now (number .entry)) (now (table .entry)) (now (row .entry))
+        (now (table .exit)) (now (row .exit)) r ⌝ }
 {
     returned(unrank(shape(l, w, s), *number, table, row))
 }
@@ -255,7 +260,8 @@ pub extern "C" fn zarosnik_one_time_sign(
     table: &mut [u32],
     values: &mut [u8],
 ) -> u32
-    ensures { λ r. ⌜ RevealCall (profileOf l w s h edition) (now (seed .entry)) (now (secret .entry)) leaf (now (number .entry)) (now (table .entry)) (now (values .entry)) (now (table .exit)) (now (values .exit)) r ⌝ }
+    ensures { λ r. ⌜ RevealCall (profileOf l w s h edition) (now (seed .entry)) (now (secret .entry)) leaf
+        (now (number .entry)) (now (table .entry)) (now (values .entry)) (now (table .exit)) (now (values .exit)) r ⌝ }
 {
     returned(one_time_sign(
         profile(l, w, s, h, edition),
@@ -284,7 +290,8 @@ pub extern "C" fn zarosnik_one_time_recover(
     key: &mut [u8; 16],
     steps: &mut u32,
 ) -> u32
-    ensures { λ r. ⌜ RecoverCall (profileOf l w s h edition) (now (seed .entry)) leaf (now (number .entry)) (now (values .entry)) (now (table .entry)) (now (table .exit)) (now (key .exit)) (now (steps .exit)) r ⌝ }
+    ensures { λ r. ⌜ RecoverCall (profileOf l w s h edition) (now (seed .entry)) leaf (now (number .entry))
+        (now (values .entry)) (now (table .entry)) (now (table .exit)) (now (key .exit)) (now (steps .exit)) r ⌝ }
 {
     let recovered = one_time_recover(
         profile(l, w, s, h, edition),
@@ -312,14 +319,14 @@ pub extern "C" fn zarosnik_reserve(
     next: &mut u32,
     mark: &mut u32,
 ) -> u32
-    ensures { λ code. ⌜ ReserveCall (profileOf l w s h edition) (now (next .entry)) (now (mark .entry)) (now (next .exit)) (now (mark .exit)) code ⌝ }
+    ensures { λ code. ⌜ ReserveCall (profileOf l w s h edition) (now (next .entry)) (now (mark .entry))
+        (now (next .exit)) (now (mark .exit)) code ⌝ }
 {
     let found = counter(*next, *mark);
     let reserved = reserve(profile(l, w, s, h, edition), found);
-    let after = reserved.counter;
     let outcome = reserved.outcome;
-    *next = after.next;
-    *mark = mark_left(outcome, *mark, after.mark);
+    *next = reserved.counter.next;
+    *mark = mark_left(outcome, *mark, reserved.counter.mark);
     returned(outcome)
 }
 
@@ -340,14 +347,15 @@ pub extern "C" fn zarosnik_sign(
     table: &mut [u32],
     signature: &mut [u8],
 ) -> u32
-    ensures { λ code. ⌜ SignCall (signingKeyOf (profileOf l w s h edition) (now (seed .entry)) (now (secret .entry)) next (now (mark .entry))) (record { r = now (r .entry); message = now (message .entry); work = now (table .entry); out = now (signature .entry) }) (now (table .exit)) (now (signature .exit)) (now (mark .entry)) (now (mark .exit)) code ⌝ }
+    ensures { λ code. ⌜ SignCall
+        (signingKeyOf (profileOf l w s h edition) (now (seed .entry)) (now (secret .entry)) next (now (mark .entry)))
+        (record { r = now (r .entry); message = now (message .entry); work = now (table .entry); out = now (signature .entry) })
+        (now (table .exit)) (now (signature .exit)) (now (mark .entry)) (now (mark .exit)) code ⌝ }
 {
     let key = signing_key(profile(l, w, s, h, edition), seed, secret, next, *mark);
     let signed = sign(key, *r, message, table, signature);
-    let after = signed.key;
-    let kept = after.counter;
     let outcome = signed.outcome;
-    *mark = mark_left(outcome, *mark, kept.mark);
+    *mark = mark_left(outcome, *mark, signed.key.counter.mark);
     returned(outcome)
 }
 
@@ -368,7 +376,10 @@ pub extern "C" fn zarosnik_verify(
     table: &mut [u32],
     steps: &mut u32,
 ) -> u32
-    ensures { λ code. ⌜ VerifyCall (verifierOf (profileOf l w s h edition) (now (seed .entry)) (now (root .entry)) (now (highest .entry)) (now (marks .entry))) (record { message = now (message .entry); signature = now (signature .entry); work = now (table .entry) }) (now (table .exit)) (now (highest .exit)) (now (marks .exit)) (now (steps .exit)) code ⌝ }
+    ensures { λ code. ⌜ VerifyCall
+        (verifierOf (profileOf l w s h edition) (now (seed .entry)) (now (root .entry)) (now (highest .entry)) (now (marks .entry)))
+        (record { message = now (message .entry); signature = now (signature .entry); work = now (table .entry) })
+        (now (table .exit)) (now (highest .exit)) (now (marks .exit)) (now (steps .exit)) code ⌝ }
 {
     let verifier = Verifier {
         profile: profile(l, w, s, h, edition),
@@ -380,10 +391,8 @@ pub extern "C" fn zarosnik_verify(
         },
     };
     let verdict = verify(verifier, message, signature, table);
-    let after = verdict.verifier;
-    let kept = after.window;
-    *highest = kept.highest;
-    *marks = kept.marks;
+    *highest = verdict.verifier.window.highest;
+    *marks = verdict.verifier.window.marks;
     *steps = verdict.steps;
     let outcome = verdict.outcome;
     returned(outcome)
@@ -403,7 +412,8 @@ pub extern "C" fn zarosnik_read_sheet(
     written: &mut usize,
     line: &mut u32,
 ) -> u32
-    ensures { λ r. ⌜ ReadSheetCall (profileOf l w s h edition) (now (sheet .entry)) (now (signature .entry)) (now (message .entry)) (now (signature .exit)) (now (message .exit)) (now (written .exit)) (now (line .exit)) r ⌝ }
+    ensures { λ r. ⌜ ReadSheetCall (profileOf l w s h edition) (now (sheet .entry)) (now (signature .entry))
+        (now (message .entry)) (now (signature .exit)) (now (message .exit)) (now (written .exit)) (now (line .exit)) r ⌝ }
 {
     let read = read_sheet(profile(l, w, s, h, edition), sheet, signature, message);
     *written = read.length as usize;
@@ -425,7 +435,8 @@ pub extern "C" fn zarosnik_write_sheet(
     sheet: &mut [u8],
     length: &mut usize,
 ) -> u32
-    ensures { λ r. ⌜ WriteSheetCall (profileOf l w s h edition) (now (signature .entry)) (now (message .entry)) (now (sheet .entry)) (now (sheet .exit)) (now (length .exit)) r ⌝ }
+    ensures { λ r. ⌜ WriteSheetCall (profileOf l w s h edition) (now (signature .entry)) (now (message .entry))
+        (now (sheet .entry)) (now (sheet .exit)) (now (length .exit)) r ⌝ }
 {
     let made = write_sheet(profile(l, w, s, h, edition), signature, message, sheet);
     *length = made.length;
@@ -448,7 +459,9 @@ pub extern "C" fn zarosnik_write_key(
     frame: &mut [u8],
     length: &mut usize,
 ) -> u32
-    ensures { λ r. ⌜ WriteKeyCall (signingKeyOf (profileOf l w s h edition) (now (seed .entry)) (now (secret .entry)) next mark) (now (frame .entry)) (now (frame .exit)) (now (length .exit)) r ⌝ }
+    ensures { λ r. ⌜ WriteKeyCall
+        (signingKeyOf (profileOf l w s h edition) (now (seed .entry)) (now (secret .entry)) next mark)
+        (now (frame .entry)) (now (frame .exit)) (now (length .exit)) r ⌝ }
 {
     let key = signing_key(profile(l, w, s, h, edition), seed, secret, next, mark);
     let made = write_key(key, frame);
@@ -468,20 +481,21 @@ pub extern "C" fn zarosnik_read_key(
     mark: &mut u32,
     line: &mut u32,
 ) -> u32
-    ensures { λ r. ⌜ ReadKeyCall (now (frame .entry)) (now (fields .exit)) (now (seed .exit)) (now (secret .exit)) (now (next .exit)) (now (mark .exit)) (now (line .exit)) r ⌝ }
+    ensures { λ r. ⌜ ReadKeyCall (now (frame .entry)) (now (fields .exit)) (now (seed .exit)) (now (secret .exit))
+        (now (next .exit)) (now (mark .exit)) (now (line .exit)) r ⌝ }
 {
     let read = read_key(frame);
     let key = read.key;
-    let p = key.profile;
-    let shape = p.shape;
-    let found = key.counter;
+    let shape = key.profile.shape;
     let seed_read = key.seed;
     let secret_read = key.secret;
-    *fields = [shape.chains, shape.width, shape.sum, p.height, p.edition];
+    let height = key.profile.height;
+    let edition = key.profile.edition;
+    *fields = [shape.chains, shape.width, shape.sum, height, edition];
     *seed = seed_read;
     *secret = secret_read;
-    *next = found.next;
-    *mark = mark_word(found.mark);
+    *next = key.counter.next;
+    *mark = mark_word(key.counter.mark);
     *line = read.line;
     let outcome = read.outcome;
     returned(outcome)

@@ -6,7 +6,7 @@ use Rattle.zarosnik.proofs.zarosnik_verify.Tie as tie
 
 returns : tie.Need-returns
 returns c =
-    let operation = c .before .before .before .before .before in
+    let operation = c .before .before .before in
     verify-call (operation .before .before .before .before .before .before .profile .ensures) (operation .verify .ensures) (c .returned .ensures)
 
 pub zarosnik-verify-spec : {M : Type 1} → statement M

@@ -11,4 +11,6 @@ returns c =
     write-key-call (key-of (keyed .before .profile .ensures) (keyed .signing-key .ensures)) (operation .write-key .ensures) (c .returned .ensures)
 
 pub zarosnik-write-key-spec : {M : Type 1} → statement M
-zarosnik-write-key-spec = tie.close (tie.spec (λ c κs. search needs) (λ c κs. search needs) (λ c κs. search needs) (λ c κs. search needs) (λ c. search needs) returns)
+zarosnik-write-key-spec =
+    tie.close
+    (tie.spec (λ c κs. search needs) (λ c κs. search needs) (λ c κs. search needs) (λ c κs. search needs) (λ c. search needs) returns)
