@@ -14,10 +14,10 @@ use Rattle.profile.specs.declared.Profile.{Profile}
 use Rattle.profile.proofs.Limits.{profile-numbered, profile-limits}
 use Rattle.message.specs.Message.{signatureLength}
 use Rattle.frames.specs.Lines.{sheetOf}
-use Rattle.sheet.specs.Sheet.{Reading, wrongLine, read, readSheet, Carried}
-use Rattle.sheet.specs.Operation.{lineIn, signatureIn, textIn, isWrong, sheetCauses, sheetCode, ReadsSheet}
-use Rattle.sheet.specs.declared.SheetRead.{SheetRead}
-use Rattle.sheet.proofs.Exactness.{exact}
+use Rattle.sheet_reader.specs.Sheet.{Reading, wrongLine, read, readSheet, Carried}
+use Rattle.sheet_reader.specs.Operation.{lineIn, signatureIn, textIn, isWrong, sheetCauses, sheetCode, ReadsSheet}
+use Rattle.sheet_reader.specs.declared.SheetRead.{SheetRead}
+use Rattle.sheet_reader.proofs.Exactness.{exact}
 use Rattle.sheet_writer.specs.Writing.{carriedCauses, writeCode, WritesSheet}
 use Rattle.sheet_writer.specs.declared.writer.SheetWritten.{SheetWritten}
 use Rattle.sheet_writer.proofs.WriteAnswer.{carried-numbered, carried-fit, fit-carried, room-granted}

@@ -6,7 +6,7 @@ ghost use Rattle.sha256.specs.Running.{RunningHash};
 ghost use Rattle.counts.specs.Counts.{CountsFit};
 ghost use Rattle.codewords.specs.Operations.{RankUnrank};
 ghost use Rattle.listing.specs.Listing.{FirstEleven, Example};
-ghost use Rattle.sheet.specs.Sheet.{Exact, ProfileLine};
+ghost use Rattle.sheet_reader.specs.Sheet.{Exact, ProfileLine};
 ghost use Rattle.stored_key.specs.RoundTrip.{WrittenIsRead as WrittenKeyIsRead, ReadIsWritten as ReadKeyIsWritten};
 ghost use Rattle.claims.specs.Arrivals.{NoLeafAcceptedTwice, ArrivalsAccepted};
 ghost use Rattle.claims.specs.Bits.{LargestBits, NumbersFit, SmallCounts};

@@ -210,7 +210,7 @@ fn sheet(signature: &mut [u8], text: &mut [u8]) {
 
 fn read_sheet(sheet: &mut [u8], signature: &mut [u8], text: &mut [u8]) {
     io::read_full(0, sheet);
-    let a = sheet::read_sheet(profile(), sheet, signature, text);
+    let a = sheet_reader::read_sheet(profile(), sheet, signature, text);
     let outcome = a.outcome;
     outcome_is(outcome);
     decimal(b", line ", a.line);

@@ -35,8 +35,8 @@ use Rattle.signer.specs.declared.Signed.{Signed}
 use Rattle.verifier.specs.Verifying.{Verifies}
 use Rattle.verifier.specs.declared.Verifier.{Verifier}
 use Rattle.verifier.specs.declared.Verdict.{Verdict}
-use Rattle.sheet.specs.Operation.{ReadsSheet}
-use Rattle.sheet.specs.declared.SheetRead.{SheetRead}
+use Rattle.sheet_reader.specs.Operation.{ReadsSheet}
+use Rattle.sheet_reader.specs.declared.SheetRead.{SheetRead}
 use Rattle.sheet_writer.specs.Writing.{WritesSheet}
 use Rattle.sheet_writer.specs.declared.writer.SheetWritten.{SheetWritten}
 use Rattle.stored_key.specs.Operations.{WritesKey, ReadsKey}

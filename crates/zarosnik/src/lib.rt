@@ -23,7 +23,7 @@ use profile::Shape;
 use refusal::Outcome;
 use sha256::Added;
 use sha256::Hash;
-use sheet::read_sheet;
+use sheet_reader::read_sheet;
 use sheet_writer::write_sheet;
 use signer::sign;
 use signing_key::Counter;

@@ -1,5 +1,5 @@
 -- The profile's line of a sheet is its frame alone.
-use Rattle.sheet.proofs.OtherProfile.{profile-line}
+use Rattle.sheet_reader.proofs.OtherProfile.{profile-line}
 use Rattle.claims.proofs.profile_line.Statement.{statement}
 use Rattle.claims.proofs.profile_line.Tie as tie
 

@@ -1,5 +1,5 @@
 -- The right sheets are those that are read.
-use Rattle.sheet.proofs.Exactness.{exact}
+use Rattle.sheet_reader.proofs.Exactness.{exact}
 use Rattle.claims.proofs.sheets_exact.Statement.{statement}
 use Rattle.claims.proofs.sheets_exact.Tie as tie
 
