@@ -2,8 +2,8 @@
 ghost use mathlib.Core.Path.{_≡_};
 ghost use Rattle.frames.specs.Frames.{Within};
 ghost use Rattle.sheet_reader.specs.Sheet.{readSheet};
-ghost use Rattle.sheet_reader.specs.Reader.{judgement};
-use super::reader::take_frames;
+ghost use Rattle.sheet_reader.specs.inner.Judging.{judgement};
+use frame_reader::take_frames;
 use frames::frame_count;
 use frames::frame_size;
 use profile::Profile;

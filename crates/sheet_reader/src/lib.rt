@@ -2,13 +2,10 @@
 ghost use mathlib.Core.Path.{_≡_};
 ghost use Rattle.refusal.specs.Code.{firstCause};
 ghost use Rattle.profile.specs.Checks.{profileCauses};
-ghost use Rattle.sheet_reader.specs.Operation.{ReadsSheet};
+ghost use Rattle.sheet_reader.specs.Operations.{ReadsSheet};
 
-mod frame;
 mod judge;
 mod payload;
-mod place;
-mod reader;
 
 use judge::judge;
 use message::signature_length;
@@ -29,7 +26,8 @@ pub struct SheetRead {
 // Read sheet for a profile within its limits.
 fn read_checked(p: Profile, sheet: &[u8], signature: &mut [u8], message: &mut [u8]) -> SheetRead
     requires { ⌜ firstCause (profileCauses p) ≡ 0 ⌝ }
-    ensures { λ r. ⌜ ReadsSheet p (now (sheet .entry)) (now (signature .entry)) (now (message .entry)) (now (signature .exit)) (now (message .exit)) r ⌝ }
+    ensures { λ r. ⌜ ReadsSheet p (now (sheet .entry)) (now (signature .entry)) (now (message .entry))
+        (now (signature .exit)) (now (message .exit)) r ⌝ }
 {
     let judged = judge(sheet, p);
     let line = judged.line;
@@ -59,7 +57,8 @@ fn read_checked(p: Profile, sheet: &[u8], signature: &mut [u8], message: &mut [u
 
 // Read sheet, for an expected profile.
 pub fn read_sheet(p: Profile, sheet: &[u8], signature: &mut [u8], message: &mut [u8]) -> SheetRead
-    ensures { λ r. ⌜ ReadsSheet p (now (sheet .entry)) (now (signature .entry)) (now (message .entry)) (now (signature .exit)) (now (message .exit)) r ⌝ }
+    ensures { λ r. ⌜ ReadsSheet p (now (sheet .entry)) (now (signature .entry)) (now (message .entry))
+        (now (signature .exit)) (now (message .exit)) r ⌝ }
 {
     let checked = check_profile(p);
     match checked {
