@@ -33,10 +33,10 @@ fn read_checked(p: Profile, sheet: &[u8], signature: &mut [u8], message: &mut [u
     let line = judged.line;
     let length = judged.length;
     let needed = signature_length(p);
-    let outcome = Outcome::Granted
+    let held = Outcome::Granted
         .then(0 < line, Refusal::SheetLine)
-        .then(signature.len() < needed, Refusal::OutputTooShort)
-        .then(message.len() < length, Refusal::OutputTooShort);
+        .then(signature.len() < needed, Refusal::OutputTooShort);
+    let outcome = held.then(message.len() < length, Refusal::OutputTooShort);
     match outcome {
         Outcome::Refused(_) => SheetRead {
             outcome,

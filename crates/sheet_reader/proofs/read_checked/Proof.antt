@@ -53,8 +53,8 @@ open-at c =
 judge-requires : tie.Need-judge-requires
 judge-requires c κs = let s = c .before .before .before in profile-limits (s .args .p) (s .pre)
 
-cast-t23 : tie.Need-cast-t23
-cast-t23 c =
+cast-t20 : tie.Need-cast-t20
+cast-t20 c =
     let j = c .before .before .before .before .before .before in
     let s = j .before .before .before .before in
     omega (arith, line-is j, line-small (s .args .p) (now (s .args .sheet)) (profile-limits (s .args .p) (s .pre)))
@@ -78,8 +78,8 @@ copy-text-requires c κs =
     omega (arith, copied .copy-signature .ensures .0, w .long, j .before .before .before .before .good .1 .0) in
     (fits, open-at o .room)
 
-cast-t29 : tie.Need-cast-t29
-cast-t29 c =
+cast-t26 : tie.Need-cast-t26
+cast-t26 c =
     let o = c .before .before .before .before .before .before .before .before in
     let j = o .before .before .before .before .before .before in
     let a = j .before .before .before .before .args in
@@ -114,11 +114,11 @@ read-checked-spec =
     (tie.spec
     judge-requires
     (λ c κs. search needs) (λ c κs. search needs) (λ c κs. search needs) (λ c κs. search needs) (λ c. search needs)
-    cast-t23
+    cast-t20
     (λ c. search needs)
     copy-signature-requires
     copy-text-requires
-    cast-t29
+    cast-t26
     returns
     (λ c. search needs) (λ c. search needs)
     returns-2)
