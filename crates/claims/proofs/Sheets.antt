@@ -15,7 +15,7 @@ use Rattle.profile.proofs.Limits.{profile-numbered, profile-limits}
 use Rattle.signature.specs.Signature.{signatureLength}
 use Rattle.frames.specs.Lines.{sheetOf}
 use Rattle.sheet_reader.specs.Sheet.{Reading, wrongLine, read, readSheet, Carried}
-use Rattle.sheet_reader.specs.Operation.{lineIn, signatureIn, textIn, isWrong, sheetCauses, sheetCode, ReadsSheet}
+use Rattle.sheet_reader.specs.Operations.{lineIn, signatureIn, textIn, isWrong, sheetCauses, sheetCode, ReadsSheet}
 use Rattle.sheet_reader.specs.declared.SheetRead.{SheetRead}
 use Rattle.sheet_reader.proofs.Exactness.{exact}
 use Rattle.sheet_writer.specs.Operations.{carriedCauses, writeSheetCode, WritesSheet}

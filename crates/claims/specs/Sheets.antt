@@ -6,7 +6,7 @@ use lib.ListN.{length, getD, take, drop}
 use Rattle.refusal.specs.Code.{outcomeCode}
 use Rattle.profile.specs.declared.Profile.{Profile}
 use Rattle.signature.specs.Signature.{signatureLength}
-use Rattle.sheet_reader.specs.Operation.{ReadsSheet}
+use Rattle.sheet_reader.specs.Operations.{ReadsSheet}
 use Rattle.sheet_reader.specs.declared.SheetRead.{SheetRead}
 use Rattle.sheet_writer.specs.Operations.{WritesSheet}
 use Rattle.sheet_writer.specs.declared.writer.SheetWritten.{SheetWritten}

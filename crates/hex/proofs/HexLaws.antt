@@ -147,7 +147,8 @@ line-of-read (c ∷ []) {bytes} {rest} e = by (eqb c lineEnd) refl e
 line-of-read (c ∷ d ∷ more) {bytes} {rest} e =
     by (eqb c lineEnd) (ltb (digitOf c) 16) (ltb (digitOf d) 16) (λ bytes′ rest′. line-of-read more {bytes = bytes′} {rest = rest′}) refl refl refl e
   where
-    by : (t u v : Bool) → ((bytes′ rest′ : List ℕ) → readLine more ≡ right bytes′ rest′ → Written more bytes′ rest′) → eqb c lineEnd ≡ t → ltb (digitOf c) 16 ≡ u → ltb (digitOf d) 16 ≡ v
+    by : (t u v : Bool) → ((bytes′ rest′ : List ℕ) → readLine more ≡ right bytes′ rest′ → Written more bytes′ rest′) → eqb c lineEnd ≡ t
+        → ltb (digitOf c) 16 ≡ u → ltb (digitOf d) 16 ≡ v
         → cond t (right [] (d ∷ more)) (cond u (cond v (behind (16 * digitOf c + digitOf d) (readLine more)) wrong) wrong) ≡ right bytes rest
         → Written (c ∷ d ∷ more) bytes rest
     by true u v inner p q r k = ended c (d ∷ more) (eqb-true c lineEnd p) k

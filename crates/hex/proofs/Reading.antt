@@ -10,7 +10,7 @@ use lib.Dec.{ltb, eqb}
 use lib.ListN.{length, getD, take, drop, set, length-append, take-append-drop, drop-of-length-le}
 use lib.Seq.{drop-cons, append-snoc, take-all, take-suc-set, drop-set-lt}
 use Rattle.lists.proofs.Lists.{drop-two, getD-within}
-use Rattle.hex.specs.Digits.{byteOf, byteAt, hasBytes, orKept, readInto, ReadsLine}
+use Rattle.hex.specs.inner.Digits.{byteOf, byteAt, hasBytes, orKept, readInto, ReadsLine}
 use Rattle.hex.specs.Hex.{lineEnd, digitOf, Line, wrong, right, behind, readLine}
 use Rattle.hex.specs.declared.Digits.{Digits}
 use Rattle.hex.specs.declared.Digits.the-variants.{Wrong, Byte}
@@ -69,7 +69,8 @@ module _ (chars : List ℕ) (at : ℕ) where
   pub line-wrong : byteAt chars at ≡ Wrong → (getD chars at 0 ≡ lineEnd → ⊥) → readLine (drop at chars) ≡ wrong
   unfolding readLine
   line-wrong e other =
-      by (ltb at (length chars)) (ltb (length chars) (at + 2)) (ltb (digitOf (getD chars at 0)) 16) (ltb (digitOf (getD chars (at + 1) 0)) 16) refl refl refl refl
+      by (ltb at (length chars)) (ltb (length chars) (at + 2)) (ltb (digitOf (getD chars at 0)) 16) (ltb (digitOf (getD chars (at + 1) 0)) 16) refl refl refl
+      refl
     where
       not-end : eqb (getD chars at 0) lineEnd ≡ false
       not-end = ne-eqb (getD chars at 0) lineEnd other
@@ -151,7 +152,8 @@ module _ (chars : List ℕ) (at : ℕ) where
       ∙ rw (next, add-one i, take-suc-set bytes i b h)
 
   pub read-all : (bytes : List ℕ) (i : ℕ) {n : ℕ} → i ≤ length bytes → length bytes ≤ i → length bytes ≡ n → getD chars (at + 2 * i) 0 ≡ lineEnd
-      → readLine (drop at chars) ≡ ahead (take i bytes) (readLine (drop (at + 2 * i) chars)) → readLine (drop at chars) ≡ right bytes (drop (at + 2 * n + 1) chars)
+      → readLine (drop at chars) ≡ ahead (take i bytes) (readLine (drop (at + 2 * i) chars)) → readLine (drop at chars)
+      ≡ right bytes (drop (at + 2 * n + 1) chars)
   read-all bytes i {n} low high long e before =
       let all : i ≡ n = omega arith in
       before ∙ rw (← all, take-all i bytes high) (whole-line bytes chars (at + 2 * i) e)
@@ -168,7 +170,16 @@ module _ (chars : List ℕ) (at : ℕ) where
     into-next {b} h e =
         let next : at + 2 * (i + 1) ≡ at + 2 * i + 2 = omega arith in
         before
-        ∙ rw (drop-cons bytes i 0 h, e, next, add-one i, take-suc-set bytes i b h, drop-set-lt (suc i) bytes i b (omega arith), append-snoc (take i bytes) b (readInto chars (at + 2 * i + 2) (drop (suc i) bytes)))
+        ∙ rw (
+          drop-cons bytes i 0 h,
+          e,
+          next,
+          add-one i,
+          take-suc-set bytes i b h,
+          drop-set-lt (suc i) bytes i b (omega arith),
+          append-snoc (take i bytes) b
+              (readInto chars (at + 2 * i + 2) (drop (suc i) bytes)),
+        )
 
     -- no byte stands at the index
     pub into-wrong : byteAt chars (at + 2 * i) ≡ Wrong → bytes ≡ left

@@ -32,7 +32,8 @@ pair-long bytes i = refl
 pairs-joined : (bytes : List ℕ) (i : ℕ) → i ≤ length bytes → joinTo (pairOf bytes) i ≡ hexOf (take i bytes)
 unfolding joinTo hexOf
 pairs-joined bytes zero h = refl
-pairs-joined bytes (suc i) h = rw (pairs-joined bytes i (omega arith), take-suc bytes i 0 (omega arith)) (sym (hexOf-append (take i bytes) (getD bytes i 0 ∷ [])))
+pairs-joined bytes (suc i) h =
+    rw (pairs-joined bytes i (omega arith), take-suc bytes i 0 (omega arith)) (sym (hexOf-append (take i bytes) (getD bytes i 0 ∷ [])))
 
 pub all-joined : (bytes : List ℕ) → joinTo (pairOf bytes) (length bytes) ≡ hexOf bytes
 all-joined bytes = pairs-joined bytes (length bytes) (omega arith) ∙ ap hexOf (take-length bytes)
@@ -47,4 +48,5 @@ written-line o at bytes {out} fits e =
     let end : ℕ = at + 2 * length bytes in
     let front-long : length front ≡ end = length-append (take at o) (hexOf bytes) ∙ rw (length-take-le at o (omega arith), length-hexOf) in
     let long : length out ≡ length o = ap length e ∙ length-append front (drop end o) ∙ omega (arith, front-long, length-drop end o) in
-    written-behind front (lineEnd ∷ []) o end 1 front-long e (sets-eq (lineEnd ∷ []) out end (omega (arith, long))) ∙ rw (append-assoc (take at o) (hexOf bytes) (lineEnd ∷ []))
+    written-behind front (lineEnd ∷ []) o end 1 front-long e (sets-eq (lineEnd ∷ []) out end (omega (arith, long)))
+    ∙ rw (append-assoc (take at o) (hexOf bytes) (lineEnd ∷ []))

@@ -1,3 +1,3 @@
--- Bytes as upper-case hex.
-pub mod Digits
+-- Bytes as upper-case hex; in `inner` what only inner steps need.
 pub mod Hex
+pub mod inner

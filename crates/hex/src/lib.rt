@@ -1,10 +1,10 @@
 // Bytes as upper-case hex, two characters a byte, and lines of them.
 ghost use mathlib.Core.Path.{_≡_};
-ghost use mathlib.Core.List.{[], _∷_, _++_};
+ghost use mathlib.Core.List.{[], _∷_};
 ghost use Prim.Native.Nat.{_+_, _*_, _≤_, _<_};
-ghost use lib.ListN.{length, take, drop};
+ghost use lib.ListN.{length};
 ghost use Rattle.hex.specs.Hex.{hexDigit, hexOf, lineOf, digitOf};
-ghost use Rattle.hex.specs.Digits.{byteAt, ReadsLine};
+ghost use Rattle.hex.specs.inner.Digits.{byteAt, between, ReadsLine};
 
 // What two characters are read as.
 pub enum Digits {
@@ -87,7 +87,7 @@ pub fn read_line(chars: &[u8], at: usize, bytes: &mut [u8]) -> bool
 // Writes a byte as two characters from index `at` on.
 pub fn write_byte(out: &mut [u8], at: usize, byte: u8)
     requires { ⌜ at + 2 ≤ length (now out) ⌝ }
-    ensures { λ _. ⌜ now (out .exit) ≡ take at (now (out .entry)) ++ hexOf (byte ∷ []) ++ drop (at + 2) (now (out .entry)) ⌝ }
+    ensures { λ _. ⌜ now (out .exit) ≡ between (now (out .entry)) at (hexOf (byte ∷ [])) (at + 2) ⌝ }
 {
     let high = hex_digit(byte / 16);
     let low = hex_digit(byte % 16);
@@ -98,7 +98,7 @@ pub fn write_byte(out: &mut [u8], at: usize, byte: u8)
 // Writes bytes from index `at` on.
 pub fn write_bytes(out: &mut [u8], at: usize, bytes: &[u8])
     requires { ⌜ at + 2 * length (now bytes) ≤ length (now out) ⌝ }
-    ensures { λ _. ⌜ now (out .exit) ≡ take at (now (out .entry)) ++ hexOf (now (bytes .entry)) ++ drop (at + 2 * length (now (bytes .entry))) (now (out .entry)) ⌝ }
+    ensures { λ _. ⌜ now (out .exit) ≡ between (now (out .entry)) at (hexOf (now (bytes .entry))) (at + 2 * length (now (bytes .entry))) ⌝ }
 {
     let mut i = 0;
     while i < bytes.len() {
@@ -110,7 +110,8 @@ pub fn write_bytes(out: &mut [u8], at: usize, bytes: &[u8])
 // Writes bytes as a line from index `at` on, and gives the index behind it.
 pub fn write_line(out: &mut [u8], at: usize, bytes: &[u8]) -> usize
     requires { ⌜ at + 2 * length (now bytes) + 1 ≤ length (now out) ⌝ }
-    ensures { λ r. ⌜ (r ≡ at + length (lineOf (now (bytes .entry)))) × (now (out .exit) ≡ take at (now (out .entry)) ++ lineOf (now (bytes .entry)) ++ drop r (now (out .entry))) ⌝ }
+    ensures { λ r. ⌜ (r ≡ at + length (lineOf (now (bytes .entry))))
+        × (now (out .exit) ≡ between (now (out .entry)) at (lineOf (now (bytes .entry))) r) ⌝ }
 {
     write_bytes(out, at, bytes);
     let end = at + 2 * bytes.len();

@@ -9,7 +9,7 @@ use borrow.Author.Tests.{eqb-true, eq-eqb, ne-eqb, ltb-true, ltb-false}
 use lib.Dec.{ltb, eqb}
 use lib.ListN.{length, take, drop, length-append, take-append-drop}
 use lib.Seq.{take-at}
-use Rattle.hex.specs.Digits.{hasBytes}
+use Rattle.hex.specs.inner.Digits.{hasBytes}
 use Rattle.hex.specs.Hex.{lineEnd, lineOf, digitOf, Line, wrong, right, behind, readLine}
 use Rattle.hex.proofs.HexLaws.{read-line-of, line-of-read}
 use Rattle.hex.proofs.Writing.{length-lineOf}

@@ -8,7 +8,7 @@ use borrow.Author.Tests.{eq-eqb, ne-eqb}
 use lib.ListN.{length, getD, drop, drop-of-length-le}
 use lib.Seq.{drop-cons}
 use Rattle.octets.specs.Bytes.{fromBytes}
-use Rattle.hex.specs.Digits.{hasBytes}
+use Rattle.hex.specs.inner.Digits.{hasBytes}
 use Rattle.hex.specs.Hex.{Line, wrong, right}
 use Rattle.profile.specs.declared.Shape.{Shape}
 use Rattle.listing.specs.Listing.{requestOf, requestIn}

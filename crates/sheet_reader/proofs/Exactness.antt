@@ -26,7 +26,8 @@ lines-read (f ∷ fs) line bytes text s b long below last =
     let rest : length (drop (f .high) bytes) ≡ total fs = length-drop (f .high) bytes ∙ omega arith in
     rw (
       append-assoc (lineOf (f .head ++ take (f .high) bytes)) (linesOf fs (drop (f .high) bytes)) (lineOf (6 ∷ text)),
-      frame-read f (take (f .high) bytes) (linesOf fs (drop (f .high) bytes) ++ lineOf (6 ∷ text)) (b .0) (below-take 256 (f .high) bytes (lit< tt) below) (omega (arith, s .0)) (omega arith),
+      frame-read f (take (f .high) bytes) (linesOf fs (drop (f .high) bytes) ++ lineOf (6 ∷ text)) (b .0) (below-take 256 (f .high) bytes (lit< tt) below)
+          (omega (arith, s .0)) (omega arith),
       lines-read fs (suc line) (drop (f .high) bytes) text (s .1) (b .1) rest (below-drop 256 (f .high) bytes below) last,
       take-append-drop,
     )
@@ -80,7 +81,8 @@ one-more f fs sheet bytes rest more text s g a =
       short-text = a .short-text;
     }
 
-pub read-lines : (fs : List Frame) (line : ℕ) (sheet signature text : List ℕ) → Sized fs → readFrames fs line sheet ≡ read signature text → Apart fs sheet signature text
+pub read-lines : (fs : List Frame) (line : ℕ) (sheet signature text : List ℕ) → Sized fs → readFrames fs line sheet ≡ read signature text
+    → Apart fs sheet signature text
 unfolding readFrames followed inFront
 read-lines [] line sheet signature text s e = read-text line sheet signature text e
 read-lines (f ∷ fs) line sheet signature text s e =

@@ -1,4 +1,5 @@
--- A small sheet by the definitions, in both editions: its first two lines and what it is read as; in edition 1 with a byte after it, cut behind a line and cut before an ending;
+-- A small sheet by the definitions, in both editions: its first two lines and what it is read as; in edition 1 with a byte after it, cut behind a line and cut
+-- before an ending;
 -- and where the other edition is expected.
 use mathlib.Core.Path.{_≡_, refl}
 use mathlib.Core.List.{List, [], _∷_, _++_}
@@ -38,5 +39,6 @@ example : (take 7 (sheet 1) ≡ firstCharacters ++ (lineEnd ∷ []))
     × (readSheet (small 2) (sheet 2) ≡ read signature text)
     × (readSheet (small 1) (sheet 2) ≡ wrongLine 2)
     × (readSheet (small 2) (sheet 1) ≡ wrongLine 2)
-unfolding readSheet readFrames ended followed inFront readFrame within without readLine behind digitOf sheetOf linesOf frames numbered profileFrame editionByte toBytes lineOf hexOf hexDigit
+unfolding readSheet readFrames ended followed inFront readFrame within without readLine behind digitOf sheetOf linesOf frames numbered profileFrame editionByte
+    toBytes lineOf hexOf hexDigit
 example = (refl, refl, refl, refl, refl, refl, refl, refl, refl, refl)

@@ -2,8 +2,6 @@
 pub mod Exactness
 pub mod Example
 pub mod OtherProfile
-pub mod ParserLaws
+pub mod JudgeLaws
 pub mod PayloadLaws
-pub mod PlaceLaws
-pub mod ReaderLaws
 pub mod SheetAnswer

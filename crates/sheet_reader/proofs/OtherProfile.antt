@@ -30,13 +30,15 @@ unfolding readSheet frames readFrames followed inFront
 second-wrong p rest e = rw (first-read rest, e)
 
 -- a line that is read as the profile's frame is that frame
-frame-alone : (p : Profile) (rest : List ℕ) (line : Line) → readFrame (profileFrame p) rest ≡ line → ((tail : List ℕ) → rest ≡ lineOf (profileFrame p .head) ++ tail → ⊥) → line ≡ wrong
+frame-alone : (p : Profile) (rest : List ℕ) (line : Line) → readFrame (profileFrame p) rest ≡ line
+    → ((tail : List ℕ) → rest ≡ lineOf (profileFrame p .head) ++ tail → ⊥) → line ≡ wrong
 unfolding profileFrame
 frame-alone p rest wrong q other = refl
 frame-alone p rest (right [] tail) q other = absurd (other tail (rw append-nil at (read-frame (profileFrame p) rest [] tail q .line)))
 frame-alone p rest (right (b ∷ bytes) tail) q other = absurd (omega (arith, read-frame (profileFrame p) rest (b ∷ bytes) tail q .few))
 
-wrong-frame : (p : Profile) (rest : List ℕ) → ((tail : List ℕ) → rest ≡ lineOf (profileFrame p .head) ++ tail → ⊥) → readSheet p (lineOf (firstFrame .head) ++ rest) ≡ wrongLine 2
+wrong-frame : (p : Profile) (rest : List ℕ) → ((tail : List ℕ) → rest ≡ lineOf (profileFrame p .head) ++ tail → ⊥)
+    → readSheet p (lineOf (firstFrame .head) ++ rest) ≡ wrongLine 2
 wrong-frame p rest other = second-wrong p rest (frame-alone p rest (readFrame (profileFrame p) rest) refl other)
 
 -- an edition by its byte
@@ -55,7 +57,8 @@ numbers chains width sum height edition = record { shape = record { chains = cha
 same-numbers : (p q : Profile) → p .shape .chains ≡ q .shape .chains → p .shape .width ≡ q .shape .width → p .shape .sum ≡ q .shape .sum → p .height ≡ q .height
     → p .edition ≡ q .edition → p ≡ q
 same-numbers p q l w s h e =
-    let same : numbers (p .shape .chains) (p .shape .width) (p .shape .sum) (p .height) (p .edition) ≡ numbers (q .shape .chains) (q .shape .width) (q .shape .sum) (q .height) (q .edition) = rw (l, w, s, h, e) in
+    let same : numbers (p .shape .chains) (p .shape .width) (p .shape .sum) (p .height) (p .edition)
+    ≡ numbers (q .shape .chains) (q .shape .width) (q .shape .sum) (q .height) (q .edition) = rw (l, w, s, h, e) in
     same
 
 module _ (p q : Profile) (passed-p : firstCause (profileCauses p) ≡ 0) (passed-q : firstCause (profileCauses q) ≡ 0) where

@@ -11,7 +11,7 @@ use lib.Seq.{length-take-le, take-all, take-at, drop-at, drop-drop, getD-drop, p
 use Rattle.lists.proofs.Lists.{Below, below-take, below-drop}
 use Rattle.profile.specs.declared.Profile.{Profile}
 use Rattle.hex.specs.Hex.{hexDigit, hexOf, lineEnd, lineOf, digitOf}
-use Rattle.hex.specs.Digits.{byteAt}
+use Rattle.hex.specs.inner.Digits.{byteAt}
 use Rattle.hex.specs.declared.Digits.the-variants.{Byte}
 use Rattle.hex.proofs.HexLaws.{digit-hex, length-hexOf, hexOf-append}
 use Rattle.hex.proofs.Reading.{byte-right}
@@ -20,7 +20,7 @@ use Rattle.frames.specs.Lines.{linesOf}
 use Rattle.frames.specs.inner.Size.{behindFrame, behindAll}
 use Rattle.frames.proofs.FrameLaws.{line-behind, line-within}
 use Rattle.frames.proofs.FrameList.{total}
-use Rattle.sheet_reader.specs.Payload.{byteOr, bytesIn, payloads}
+use Rattle.sheet_reader.specs.inner.Payload.{byteOr, bytesIn, payloads}
 use Rattle.sheet_reader.proofs.Exactness.{Apart}
 
 length-bytesIn : (sheet : List ℕ) (at n : ℕ) → length (bytesIn sheet at n) ≡ n
@@ -63,7 +63,8 @@ module _ (sheet : List ℕ) (fs : List Frame) (o : List ℕ) where
   pub copying-start : Copying o 0 0 fs
   copying-start = record { room = zero-add (total fs); place = refl; copied = refl; kept = refl; long = refl }
 
-  pub copying-next : (f : Frame) (left : List Frame) (s : List ℕ) (at from fixed n : ℕ) {s′ : List ℕ} → fixed ≡ length (f .head) → n ≡ f .high → Copying s at from (f ∷ left) → from + n ≤ length s
+  pub copying-next : (f : Frame) (left : List Frame) (s : List ℕ) (at from fixed n : ℕ) {s′ : List ℕ} → fixed ≡ length (f .head) → n ≡ f .high
+      → Copying s at from (f ∷ left) → from + n ≤ length s
       → s′ ≡ take from s ++ bytesIn sheet (at + 2 * fixed) n ++ drop (from + n) s → length s′ ≡ length s → Copying s′ (at + 2 * (fixed + n) + 1) (from + n) left
   unfolding behindAll payloads
   copying-next f left s at from fixed n {s′} d h c fits e same =
@@ -75,7 +76,9 @@ module _ (sheet : List ℕ) (fs : List Frame) (o : List ℕ) where
       record {
         room = omega (arith, c .room);
         place = rw (d, h) (c .place);
-        copied = c .copied ∙ rw (front, d, h) (sym (append-assoc (take from s) (bytesIn sheet (at + 2 * length (f .head)) (f .high)) (payloads sheet (behindFrame at f) left)));
+        copied =
+            c .copied ∙ rw (front, d, h) (sym (append-assoc (take from s) (bytesIn sheet (at + 2 * length (f .head)) (f .high))
+            (payloads sheet (behindFrame at f) left)));
         kept = back ∙ sym (drop-drop n from s) ∙ ap (drop n) (c .kept) ∙ drop-drop n from o;
         long = same ∙ c .long;
       }
@@ -130,7 +133,8 @@ module _ (sheet : List ℕ) (at : ℕ) (f : Frame) (fs : List Frame) (bytes tail
   first-payload : Below 256 bytes → bytesIn sheet (at + 2 * length (f .head)) (f .high) ≡ take (f .high) bytes
   first-payload below =
       ap (bytesIn sheet (at + 2 * length (f .head))) (sym (length-take-le (f .high) bytes enough))
-      ∙ line-payload sheet at (f .head) (take (f .high) bytes) (linesOf fs (drop (f .high) bytes) ++ tail) first-line (below-take 256 (f .high) bytes (lit< tt) below)
+      ∙ line-payload sheet at (f .head) (take (f .high) bytes) (linesOf fs (drop (f .high) bytes) ++ tail) first-line
+      (below-take 256 (f .high) bytes (lit< tt) below)
 
   first-behind : drop (behindFrame at f) sheet ≡ linesOf fs (drop (f .high) bytes) ++ tail
   first-behind =
@@ -138,7 +142,8 @@ module _ (sheet : List ℕ) (at : ℕ) (f : Frame) (fs : List Frame) (bytes tail
       ∙ line-behind sheet at (f .head) (take (f .high) bytes) (linesOf fs (drop (f .high) bytes) ++ tail) first-line
 
 -- the payloads in the lines of frames are the bytes that the lines carry, whatever stands behind them
-lines-payloads : (sheet : List ℕ) (at : ℕ) (fs : List Frame) (bytes tail : List ℕ) → length bytes ≡ total fs → Below 256 bytes → drop at sheet ≡ linesOf fs bytes ++ tail
+lines-payloads : (sheet : List ℕ) (at : ℕ) (fs : List Frame) (bytes tail : List ℕ) → length bytes ≡ total fs → Below 256 bytes
+    → drop at sheet ≡ linesOf fs bytes ++ tail
     → (payloads sheet at fs ≡ bytes) × (drop (behindAll at fs) sheet ≡ tail)
 unfolding payloads behindAll linesOf
 lines-payloads sheet at [] [] tail long below e = (refl, e)
@@ -146,7 +151,8 @@ lines-payloads sheet at [] (b ∷ bytes) tail long below e = absurd (omega arith
 lines-payloads sheet at (f ∷ fs) bytes tail long below e =
     let enough : f .high ≤ length bytes = omega arith in
     let rest : length (drop (f .high) bytes) ≡ total fs = length-drop (f .high) bytes ∙ omega arith in
-    let inner = lines-payloads sheet (behindFrame at f) fs (drop (f .high) bytes) tail rest (below-drop 256 (f .high) bytes below) (first-behind sheet at f fs bytes tail enough e) in
+    let inner = lines-payloads sheet (behindFrame at f) fs (drop (f .high) bytes) tail rest (below-drop 256 (f .high) bytes below)
+    (first-behind sheet at f fs bytes tail enough e) in
     (rw (first-payload sheet at f fs bytes tail enough e below, inner .0) (take-append-drop (f .high) bytes), inner .1)
 
 -- a right sheet: where the signature and the text stand

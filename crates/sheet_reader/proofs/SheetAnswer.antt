@@ -17,14 +17,14 @@ use Rattle.profile.specs.declared.Profile.{Profile}
 use Rattle.profile.proofs.Limits.{profile-numbered, profile-without}
 use Rattle.hex.specs.Hex.{Line, wrong, right}
 use Rattle.signature.specs.Signature.{signatureLength}
-use Rattle.frames.specs.Frames.{SizesInLimits as Within, Frame, frames, textFrame}
+use Rattle.frames.specs.Frames.{SizesInLimits, Frame, frames, textFrame}
 use Rattle.frames.specs.Lines.{readFrame}
 use Rattle.frames.specs.inner.Size.{behindAll}
 use Rattle.frames.proofs.FrameList.{frames-sized}
 use Rattle.frames.proofs.FrameNumbers.{length-frames}
 use Rattle.sheet_reader.specs.Sheet.{Reading, wrongLine, read, inFront, followed, ended, readFrames, readSheet}
-use Rattle.sheet_reader.specs.Operation.{lineIn, signatureIn, textIn, isWrong, sheetCauses, sheetCode, ReadsSheet}
-use Rattle.sheet_reader.specs.Payload.{bytesIn, payloads}
+use Rattle.sheet_reader.specs.Operations.{lineIn, signatureIn, textIn, isWrong, sheetCauses, sheetCode, ReadsSheet}
+use Rattle.sheet_reader.specs.inner.Payload.{bytesIn, payloads}
 use Rattle.sheet_reader.proofs.Exactness.{Apart, read-lines}
 use Rattle.sheet_reader.proofs.PayloadLaws.{signature-here, text-here}
 
@@ -63,11 +63,13 @@ unfolding readFrames followed inFront
 line-counted [] line sheet n e = line-end line n (readFrame textFrame sheet) e
 line-counted (f ∷ fs) line sheet n e = by (readFrame f sheet) e (λ rest. line-counted fs (suc line) rest n)
   where
-    next : (bytes : List ℕ) (r : Reading) → inFront bytes r ≡ wrongLine n → (r ≡ wrongLine n → Counted (suc line) (length fs) n) → Counted line (length (f ∷ fs)) n
+    next : (bytes : List ℕ) (r : Reading) → inFront bytes r ≡ wrongLine n → (r ≡ wrongLine n → Counted (suc line) (length fs) n)
+        → Counted line (length (f ∷ fs)) n
     next bytes (wrongLine m) e inner = let c = inner e in (omega arith, omega arith)
     next bytes (read signature text) e inner = let z : _≡_ {A = ℕ} 0 1 = cc in absurd (omega arith)
 
-    by : (l : Line) → followed line l (readFrames fs (suc line)) ≡ wrongLine n → ((rest : List ℕ) → readFrames fs (suc line) rest ≡ wrongLine n → Counted (suc line) (length fs) n)
+    by : (l : Line) → followed line l (readFrames fs (suc line)) ≡ wrongLine n
+        → ((rest : List ℕ) → readFrames fs (suc line) rest ≡ wrongLine n → Counted (suc line) (length fs) n)
         → Counted line (length (f ∷ fs)) n
     by wrong e inner = let same : line ≡ n = cc in (omega arith, omega arith)
     by (right bytes rest) e inner = next bytes (readFrames fs (suc line) rest) e (inner rest)
@@ -82,7 +84,7 @@ module _ (p : Profile) (sheet : List ℕ) where
       by (wrongLine n) e = lt-ltb 0 n (omega (arith, line-counted (frames p) 1 sheet n e))
       by (read signature text) e = refl
 
-  pub line-small : Within p → lineIn (readSheet p sheet) ≤ 56
+  pub line-small : SizesInLimits p → lineIn (readSheet p sheet) ≤ 56
   unfolding lineIn readSheet
   line-small h = by (readSheet p sheet) refl
     where
@@ -150,7 +152,8 @@ module _ (p : Profile) (sheet signature message : List ℕ) where
           room = rw long (ltb-false (length message) (length (textIn (readSheet p sheet))) (third .0));
         }
 
-    pub sheet-granted : (n : ℕ) (o : Outcome) → outcomeCode o ≡ firstCause late → o ≡ Granted → Whole p sheet n → {at : ℕ} {signature′ message′ : List ℕ} → at ≡ behindAll 0 (frames p)
+    pub sheet-granted : (n : ℕ) (o : Outcome) → outcomeCode o ≡ firstCause late → o ≡ Granted → Whole p sheet n → {at : ℕ} {signature′ message′ : List ℕ}
+        → at ≡ behindAll 0 (frames p)
         → signature′ ≡ payloads sheet 0 (frames p) ++ drop (signatureLength p) signature
         → message′ ≡ bytesIn sheet (at + 2 * length (textFrame .head)) n ++ drop n message
         → ReadsSheet p sheet signature message signature′ message′ (record { outcome = o; line = 0; length = n })

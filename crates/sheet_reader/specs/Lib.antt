@@ -1,5 +1,4 @@
--- What a sheet is read as, and what Read sheet answers; behind them what the inner functions answer.
+-- What a sheet is read as, and what Read sheet answers; in `inner` what only inner steps need.
 pub mod Sheet
-pub mod Operation
-pub mod Reader
-pub mod Payload
+pub mod Operations
+pub mod inner

@@ -9,13 +9,14 @@ use Rattle.hex.specs.Hex.{Line, wrong, right, lineOf}
 use Rattle.signature.specs.Signature.{signatureLength}
 use Rattle.profile.specs.Checks.{profileCauses}
 use Rattle.profile.specs.declared.Profile.{Profile}
-use Rattle.frames.specs.Frames.{SizesInLimits as Within, Frame, firstFrame, profileFrame, frames, textFrame}
+use Rattle.frames.specs.Frames.{SizesInLimits, Frame, firstFrame, profileFrame, frames, textFrame}
 use Rattle.frames.specs.Lines.{sheetOf, readFrame}
 
 -- what a sheet is read as
 pub data Reading : Type 0 where
   -- "the number, from 1, of the first line that is wrong or missing, or stands after the last frame"
   wrongLine : (line : ℕ) → Reading
+  -- the signature and the text that its frames carry
   read : (signature text : List ℕ) → Reading
 
 -- bytes in front of a signature
@@ -39,6 +40,7 @@ unfoldable pub readFrames : List Frame → (line : ℕ) → List ℕ → Reading
 readFrames [] line sheet = ended line (readFrame textFrame sheet)
 readFrames (f ∷ fs) line sheet = followed line (readFrame f sheet) (readFrames fs (suc line))
 
+-- a whole sheet, its lines numbered from 1
 unfoldable pub readSheet : Profile → List ℕ → Reading
 readSheet p sheet = readFrames (frames p) 1 sheet
 
@@ -53,13 +55,15 @@ pub record Carried (p : Profile) (signature text : List ℕ) : Type 0 where
 -- for every profile within these limits, in any edition: what is read is a right sheet, and each right sheet is read as what it carries
 abbrev pub Exact : Type 0
 Exact =
-    (p : Profile) → Within p → (sheet signature text : List ℕ)
+    (p : Profile) → SizesInLimits p → (sheet signature text : List ℕ)
     → (readSheet p sheet ≡ read signature text) ↔ (Carried p signature text × (sheet ≡ sheetOf p signature text))
 
--- "17 with the number, from 1, of the first line that is wrong", where that is the profile's, behind the right first line; document 02, point 6: its last byte, 02 or none, tells the edition
+-- "17 with the number, from 1, of the first line that is wrong", where that is the profile's, behind the right first line;
+-- document 02, point 6: its last byte, 02 or none, tells the edition
 pub record ProfileLine : Type 0 where
   -- any line but the frame of the expected profile, whatever its last byte
-  pub wrong-frame : (p : Profile) (rest : List ℕ) → ((tail : List ℕ) → rest ≡ lineOf (profileFrame p .head) ++ tail → ⊥) → readSheet p (lineOf (firstFrame .head) ++ rest) ≡ wrongLine 2
+  pub wrong-frame : (p : Profile) (rest : List ℕ) → ((tail : List ℕ) → rest ≡ lineOf (profileFrame p .head) ++ tail → ⊥)
+      → readSheet p (lineOf (firstFrame .head) ++ rest) ≡ wrongLine 2
   -- so every sheet of another profile that passes its checks, and be it another in its edition alone
   pub other-profile : (p q : Profile) → firstCause (profileCauses p) ≡ 0 → firstCause (profileCauses q) ≡ 0 → (p ≡ q → ⊥)
       → (signature text : List ℕ) → readSheet p (sheetOf q signature text) ≡ wrongLine 2

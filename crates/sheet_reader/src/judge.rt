@@ -1,9 +1,9 @@
 // A whole sheet, judged.
 ghost use mathlib.Core.Path.{_≡_};
-ghost use Rattle.frames.specs.Frames.{SizesInLimits as Within};
+ghost use Rattle.frames.specs.Frames.{SizesInLimits};
 ghost use Rattle.sheet_reader.specs.Sheet.{readSheet};
-ghost use Rattle.sheet_reader.specs.Reader.{judgement};
-use super::reader::take_frames;
+ghost use Rattle.sheet_reader.specs.inner.Judging.{judgement};
+use frame_reader::take_frames;
 use frames::frame_count;
 use frames::frame_size;
 use profile::Profile;
@@ -16,7 +16,7 @@ pub struct Judged {
 
 // The frames, the text, and the end of the sheet.
 pub fn judge(sheet: &[u8], p: Profile) -> Judged
-    requires { ⌜ Within p ⌝ }
+    requires { ⌜ SizesInLimits p ⌝ }
     ensures { λ r. ⌜ r ≡ judgement (readSheet p (now (sheet .entry))) ⌝ }
 {
     let count = frame_count(p);

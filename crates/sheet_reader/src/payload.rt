@@ -2,12 +2,12 @@
 ghost use mathlib.Core.Path.{_≡_};
 ghost use mathlib.Core.List.{_++_};
 ghost use Prim.Native.Nat.{_+_, _*_, _^_, _≤_, _<_};
-ghost use lib.ListN.{length, take, drop};
-ghost use Rattle.hex.specs.Digits.{byteAt};
+ghost use lib.ListN.{length, drop};
+ghost use Rattle.hex.specs.inner.Digits.{byteAt, between};
 ghost use Rattle.signature.specs.Signature.{signatureLength};
-ghost use Rattle.frames.specs.Frames.{SizesInLimits as Within, frames, textFrame};
+ghost use Rattle.frames.specs.Frames.{SizesInLimits, frames, textFrame};
 ghost use Rattle.frames.specs.inner.Size.{behindAll};
-ghost use Rattle.sheet_reader.specs.Payload.{byteOr, bytesIn, payloads};
+ghost use Rattle.sheet_reader.specs.inner.Payload.{byteOr, bytesIn, payloads};
 use frames::frame_count;
 use frames::frame_size;
 use hex::Digits;
@@ -27,7 +27,7 @@ fn byte_or_zero(sheet: &[u8], at: usize) -> u8
 // Copies n bytes that stand from an index of the sheet on to an index of a slice.
 pub fn copy(sheet: &[u8], at: usize, n: usize, out: &mut [u8], from: usize)
     requires { ⌜ (at + 2 * n < 2 ^ 64) × (from + n ≤ length (now out)) ⌝ }
-    ensures { λ _. ⌜ now (out .exit) ≡ take from (now (out .entry)) ++ bytesIn (now (sheet .entry)) at n ++ drop (from + n) (now (out .entry)) ⌝ }
+    ensures { λ _. ⌜ now (out .exit) ≡ between (now (out .entry)) from (bytesIn (now (sheet .entry)) at n) (from + n) ⌝ }
 {
     let mut i = 0;
     while i < n {
@@ -38,8 +38,9 @@ pub fn copy(sheet: &[u8], at: usize, n: usize, out: &mut [u8], from: usize)
 
 // Copies the bytes behind the fixed ones of all frames in front of the text, and gives the place behind those frames.
 pub fn copy_signature(sheet: &[u8], p: Profile, signature: &mut [u8]) -> usize
-    requires { ⌜ Within p × (signatureLength p ≤ length (now signature)) ⌝ }
-    ensures { λ r. ⌜ (r ≡ behindAll 0 (frames p)) × (now (signature .exit) ≡ payloads (now (sheet .entry)) 0 (frames p) ++ drop (signatureLength p) (now (signature .entry))) ⌝ }
+    requires { ⌜ SizesInLimits p × (signatureLength p ≤ length (now signature)) ⌝ }
+    ensures { λ r. ⌜ (r ≡ behindAll 0 (frames p))
+        × (now (signature .exit) ≡ payloads (now (sheet .entry)) 0 (frames p) ++ drop (signatureLength p) (now (signature .entry))) ⌝ }
 {
     let count = frame_count(p);
     let mut at = 0;
@@ -60,7 +61,8 @@ pub fn copy_signature(sheet: &[u8], p: Profile, signature: &mut [u8]) -> usize
 // Copies a text of n bytes, whose frame begins at an index.
 pub fn copy_text(sheet: &[u8], p: Profile, at: usize, n: usize, message: &mut [u8])
     requires { ⌜ (at + 2 * (length (textFrame .head) + n) < 2 ^ 64) × (n ≤ length (now message)) ⌝ }
-    ensures { λ _. ⌜ now (message .exit) ≡ bytesIn (now (sheet .entry)) (at + 2 * length (textFrame .head)) n ++ drop n (now (message .entry)) ⌝ }
+    ensures { λ _. ⌜ now (message .exit)
+        ≡ bytesIn (now (sheet .entry)) (at + 2 * length (textFrame .head)) n ++ drop n (now (message .entry)) ⌝ }
 {
     let size = frame_size(p, frame_count(p));
     let fixed = size.fixed;

@@ -14,7 +14,7 @@ use Rattle.octets.specs.Bytes.{fromBytes}
 use Rattle.lists.proofs.Lists.{drop-two, below-drop}
 use Rattle.lists.proofs.Tests.{both}
 use Rattle.hex.specs.Hex.{right, lineOf, readLine}
-use Rattle.hex.specs.Digits.{hasBytes, ReadsLine}
+use Rattle.hex.specs.inner.Digits.{hasBytes, ReadsLine}
 use Rattle.hex.proofs.HexLaws.{line-of-read}
 use Rattle.profile.specs.Checks.{profileCauses}
 use Rattle.profile.specs.declared.Profile.{Profile}

@@ -31,7 +31,7 @@ use Rattle.verifier.specs.Operations.{VerifyingCall, Verifies, verifyCode, veri
 use Rattle.signature.specs.Signature.{leafIn}
 use Rattle.verifier.specs.declared.Verifier.{Verifier}
 use Rattle.verifier.specs.declared.Verdict.{Verdict}
-use Rattle.sheet_reader.specs.Operation.{ReadsSheet}
+use Rattle.sheet_reader.specs.Operations.{ReadsSheet}
 use Rattle.sheet_reader.specs.declared.SheetRead.{SheetRead}
 use Rattle.sheet_writer.specs.Operations.{WritesSheet}
 use Rattle.sheet_writer.specs.declared.writer.SheetWritten.{SheetWritten}

@@ -35,7 +35,7 @@ use Rattle.signer.specs.declared.Signed.{Signed}
 use Rattle.verifier.specs.Operations.{VerifyingCall, Verifies}
 use Rattle.verifier.specs.declared.Verifier.{Verifier}
 use Rattle.verifier.specs.declared.Verdict.{Verdict}
-use Rattle.sheet_reader.specs.Operation.{ReadsSheet}
+use Rattle.sheet_reader.specs.Operations.{ReadsSheet}
 use Rattle.sheet_reader.specs.declared.SheetRead.{SheetRead}
 use Rattle.sheet_writer.specs.Operations.{WritesSheet}
 use Rattle.sheet_writer.specs.declared.writer.SheetWritten.{SheetWritten}

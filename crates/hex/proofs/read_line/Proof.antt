@@ -8,14 +8,18 @@ use borrow.Author.Needs.{needs}
 use denote.Ref.{now}
 use lib.ListN.{length, getD, take, drop, length-set}
 use lib.Seq.{length-take-le}
-use Rattle.hex.specs.Digits.{readInto, ReadsLine}
+use Rattle.hex.specs.inner.Digits.{readInto, ReadsLine}
 use Rattle.hex.specs.Hex.{lineEnd, readLine}
-use Rattle.hex.proofs.Reading.{ending-within, ahead, short-line, long-line, read-begins, read-next, read-all, into-begins, into-next, into-wrong, into-all, byte-room, answer-no, answer-yes}
+use Rattle.hex.proofs.Reading.{ending-within, ahead, short-line, long-line, read-begins, read-next, read-all, into-begins, into-next, into-wrong}
+use Rattle.hex.proofs.Reading.{into-all, byte-room, answer-no, answer-yes}
 use Rattle.hex.proofs.read_line.Statement.{statement}
 use Rattle.hex.proofs.read_line.Tie as tie
 
 abbrev Inv-loop : tie.InvT-loop
-Inv-loop chars at bytes₀ i₀ bytes i = (i ≤ length bytes) × (at + 2 * i ≤ length chars) × (length bytes ≡ length bytes₀) × (readLine (drop at chars) ≡ ahead (take i bytes) (readLine (drop (at + 2 * i) chars))) × (readInto chars at bytes₀ ≡ take i bytes ++ readInto chars (at + 2 * i) (drop i bytes))
+Inv-loop chars at bytes₀ i₀ bytes i =
+    (i ≤ length bytes) × (at + 2 * i ≤ length chars) × (length bytes ≡ length bytes₀)
+    × (readLine (drop at chars) ≡ ahead (take i bytes) (readLine (drop (at + 2 * i) chars)))
+    × (readInto chars at bytes₀ ≡ take i bytes ++ readInto chars (at + 2 * i) (drop i bytes))
 
 abbrev μ-loop : tie.MeasureT-loop
 μ-loop chars at bytes₀ i₀ bytes i = length bytes - i
@@ -42,8 +46,14 @@ not-ended q all other =
 
 loop-holds : tie.Need-loop-holds Inv-loop μ-loop
 loop-holds c =
-    let args = c .before .before .args in
-    (omega arith, omega arith, refl, read-begins (now (args .chars)) (args .at) (now (args .bytes)), into-begins (now (args .chars)) (args .at) (now (args .bytes)))
+    let args = c .before .before .args in (
+      omega arith,
+      omega arith,
+      refl,
+      read-begins (now (args .chars)) (args .at) (now (args .bytes)),
+      into-begins (now (args .chars)) (args .at)
+          (now (args .bytes)),
+    )
 
 same-length : tie.Need-same-length Inv-loop μ-loop
 same-length c = c .before .before .before .before .loop .inv .2
@@ -64,8 +74,15 @@ loop-again c =
     let called = c .before .before .before in
     let q = called .before .before in
     let args = start q .args in
-    let byte = sym (called .byte-at .ensures) ∙ c .before .b .given .1 in
-    (simp length-set (omega arith), omega (arith, byte-room (now (args .chars)) (args .at + 2 * q .loop .i) byte), simp length-set (q .loop .inv .2), read-next (now (args .chars)) (args .at) (q .loop .bytes) (q .loop .i) (omega arith) byte (q .loop .inv .3), into-next (now (args .chars)) (args .at) (q .loop .bytes) (q .loop .i) (q .loop .inv .4) (omega arith) byte)
+    let byte = sym (called .byte-at .ensures) ∙ c .before .b .given .1 in (
+      simp length-set (omega arith),
+      omega (arith, byte-room (now (args .chars)) (args .at + 2 * q .loop .i) byte),
+      simp length-set (q .loop .inv .2),
+      read-next
+          (now (args .chars)) (args .at) (q .loop .bytes) (q .loop .i) (omega arith) byte (q .loop .inv .3),
+      into-next (now (args .chars)) (args .at) (q .loop .bytes)
+          (q .loop .i) (q .loop .inv .4) (omega arith) byte,
+    )
 
 same-length-2 : tie.Need-same-length-2 Inv-loop μ-loop
 same-length-2 c = c .before .before .loop .inv .2

@@ -23,7 +23,8 @@ kept-long : (q : tie.At-loop Inv-loop μ-loop) → length (q .loop .out) ≡ len
 kept-long q =
     let s = q .before .before .before in
     let bytes = now (s .args .bytes) in
-    write-long (pairOf bytes) 2 (length bytes) (λ i h. pair-long bytes i) (s .args .at) (now (s .args .out)) (s .pre) (q .loop .i) (q .loop .inv .0) (q .loop .inv .1)
+    write-long (pairOf bytes) 2 (length bytes) (λ i h. pair-long bytes i) (s .args .at) (now (s .args .out)) (s .pre) (q .loop .i) (q .loop .inv .0)
+    (q .loop .inv .1)
 
 loop-holds : tie.Need-loop-holds Inv-loop μ-loop
 loop-holds c = let a = c .before .before .args in (omega arith, write-start (pairOf (now (a .bytes))) 2 (a .at) (now (a .out)))
@@ -35,8 +36,11 @@ loop-again : tie.Need-loop-again Inv-loop μ-loop
 loop-again c =
     let head = c .before .before .before .before .before .before in
     let s = head .before .before .before in
-    let bytes = now (s .args .bytes) in
-    (omega arith, write-next (pairOf bytes) 2 (length bytes) (λ i h. pair-long bytes i) (s .args .at) (now (s .args .out)) (s .pre) (head .loop .i) (omega arith) refl (head .loop .inv .1) (c .before .before .write-byte .ensures))
+    let bytes = now (s .args .bytes) in (
+      omega arith,
+      write-next (pairOf bytes) 2 (length bytes) (λ i h. pair-long bytes i) (s .args .at) (now (s .args .out)) (s .pre) (head .loop .i)
+          (omega arith) refl (head .loop .inv .1) (c .before .before .write-byte .ensures),
+    )
 
 same-length : tie.Need-same-length Inv-loop μ-loop
 same-length c = kept-long (c .before)

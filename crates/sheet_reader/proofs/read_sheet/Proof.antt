@@ -19,7 +19,8 @@ returns : tie.Need-returns
 returns c =
     let checked = c .before .before in
     let a = checked .before .before .before .before .args in
-    profile-refused (a .p) (now (a .sheet)) (now (a .signature)) (now (a .message)) (checked .check-profile .result) (checked .check-profile .ensures) _ (c .enum-told .given .1)
+    profile-refused (a .p) (now (a .sheet)) (now (a .signature)) (now (a .message)) (checked .check-profile .result) (checked .check-profile .ensures) _
+    (c .enum-told .given .1)
 
 returns-2 : tie.Need-returns-2
 returns-2 c = c .before .before .before .before .read-checked .ensures

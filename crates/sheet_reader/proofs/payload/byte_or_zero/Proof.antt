@@ -1,7 +1,7 @@
 -- `sheet_reader::payload::byte_or_zero` meets its contract, case by case.
 use mathlib.Core.Path.{sym, ap, _∙_}
 use borrow.Author.Needs.{needs}
-use Rattle.sheet_reader.specs.Payload.{byteOr}
+use Rattle.sheet_reader.specs.inner.Payload.{byteOr}
 use Rattle.sheet_reader.proofs.payload.byte_or_zero.Statement.{statement}
 use Rattle.sheet_reader.proofs.payload.byte_or_zero.Tie as tie
 

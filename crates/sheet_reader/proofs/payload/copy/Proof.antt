@@ -5,7 +5,7 @@ use native.Mathlib.Omega.{arith}
 use borrow.Author.Needs.{needs}
 use denote.Ref.{now}
 use lib.Seq.{paste, paste-zero}
-use Rattle.sheet_reader.specs.Payload.{bytesIn}
+use Rattle.sheet_reader.specs.inner.Payload.{bytesIn}
 use Rattle.sheet_reader.proofs.PayloadLaws.{copy-next, copy-long, copy-all}
 use Rattle.sheet_reader.proofs.payload.copy.Statement.{statement}
 use Rattle.sheet_reader.proofs.payload.copy.Tie as tie
@@ -32,8 +32,11 @@ loop-again : tie.Need-loop-again Inv-loop μ-loop
 loop-again c =
     let l = c .before .before in
     let s = l .before .before .before in
-    let a = s .args in
-    (omega arith, copy-next (now (a .sheet)) (a .at) (a .n) (now (a .out)) (a .from) (s .pre .1) (l .loop .i) (c .byte-or-zero .result) (c .before .loop-test .taken) (l .loop .inv .1) (c .byte-or-zero .ensures))
+    let a = s .args in (
+      omega arith,
+      copy-next (now (a .sheet)) (a .at) (a .n) (now (a .out)) (a .from) (s .pre .1) (l .loop .i) (c .byte-or-zero .result)
+          (c .before .loop-test .taken) (l .loop .inv .1) (c .byte-or-zero .ensures),
+    )
 
 same-length : tie.Need-same-length Inv-loop μ-loop
 same-length c =

@@ -22,7 +22,8 @@ abbrev μ-loop : tie.MeasureT-loop
 
 -- frame k is the next, and k is small
 left : (c : tie.After-frame-size Inv-loop μ-loop) → let l = c .before .before in let a = l .before .before .before .before .args in
-    Copying (now (a .sheet)) (frames (a .p)) (now (a .signature)) (l .loop .signature) (l .loop .at) (l .loop .from) (frameAt (a .p) (l .loop .k) ∷ drop (l .loop .k + 1) (frames (a .p)))
+    Copying (now (a .sheet)) (frames (a .p)) (now (a .signature)) (l .loop .signature) (l .loop .at) (l .loop .from)
+    (frameAt (a .p) (l .loop .k) ∷ drop (l .loop .k + 1) (frames (a .p)))
 left c =
     let l = c .before .before in
     rw (frames-cut (l .before .before .before .before .args .p) (l .loop .k) (omega (arith, l .before .frame-count .ensures))) at (l .loop .inv .2)
@@ -48,19 +49,28 @@ add-copy : tie.Need-add-copy Inv-loop μ-loop
 add-copy c = omega (arith, c .frame-size .ensures .few, small c, c .before .before .loop .inv .1)
 
 copy-requires : tie.Need-copy-requires Inv-loop μ-loop
-copy-requires c κs = let f = c .before in (omega (arith, f .frame-size .ensures .few, f .frame-size .ensures .short, small f, f .before .before .loop .inv .1), room f)
+copy-requires c κs =
+    let f = c .before in (omega (arith, f .frame-size .ensures .few, f .frame-size .ensures .short, small f, f .before .before .loop .inv .1), room f)
 
 add-at : tie.Need-add-at Inv-loop μ-loop
-add-at c = let f = c .before .before .before .before in omega (arith, f .frame-size .ensures .few, f .frame-size .ensures .short, small f, f .before .before .loop .inv .1)
+add-at c =
+    let f = c .before .before .before .before in
+    omega (arith, f .frame-size .ensures .few, f .frame-size .ensures .short, small f, f .before .before .loop .inv .1)
 
 mul-at : tie.Need-mul-at Inv-loop μ-loop
-mul-at c = let f = c .before .before .before .before in omega (arith, f .frame-size .ensures .few, f .frame-size .ensures .short, small f, f .before .before .loop .inv .1)
+mul-at c =
+    let f = c .before .before .before .before in
+    omega (arith, f .frame-size .ensures .few, f .frame-size .ensures .short, small f, f .before .before .loop .inv .1)
 
 add-at-2 : tie.Need-add-at-2 Inv-loop μ-loop
-add-at-2 c = let f = c .before .before .before .before in omega (arith, f .frame-size .ensures .few, f .frame-size .ensures .short, small f, f .before .before .loop .inv .1)
+add-at-2 c =
+    let f = c .before .before .before .before in
+    omega (arith, f .frame-size .ensures .few, f .frame-size .ensures .short, small f, f .before .before .loop .inv .1)
 
 add-at-3 : tie.Need-add-at-3 Inv-loop μ-loop
-add-at-3 c = let f = c .before .before .before .before in omega (arith, f .frame-size .ensures .few, f .frame-size .ensures .short, small f, f .before .before .loop .inv .1)
+add-at-3 c =
+    let f = c .before .before .before .before in
+    omega (arith, f .frame-size .ensures .few, f .frame-size .ensures .short, small f, f .before .before .loop .inv .1)
 
 add-from : tie.Need-add-from Inv-loop μ-loop
 add-from c = omega (arith, room (c .before .before .before .before))
@@ -79,8 +89,10 @@ loop-again c =
     let copied = c .before .before .copy in (
       omega (arith, l .before .frame-count .ensures),
       omega (arith, f .frame-size .ensures .few, f .frame-size .ensures .short, l .loop .inv .1),
-      copying-next (now (a .sheet)) (frames (a .p)) (now (a .signature)) (frameAt (a .p) (l .loop .k)) (drop (l .loop .k + 1) (frames (a .p))) (l .loop .signature) (l .loop .at) (l .loop .from)
-          (f .frame-size .result .fixed) (f .frame-size .result .high) (f .frame-size .ensures .fixed) (f .frame-size .ensures .high) (left f) (room f) (copied .ensures) (copied .kept .1 .1 .1 .0),
+      copying-next (now (a .sheet)) (frames (a .p)) (now (a .signature)) (frameAt (a .p) (l .loop .k)) (drop (l .loop .k + 1) (frames (a .p)))
+          (l .loop .signature) (l .loop .at) (l .loop .from)
+          (f .frame-size .result .fixed) (f .frame-size .result .high) (f .frame-size .ensures .fixed) (f .frame-size .ensures .high) (left f) (room f)
+          (copied .ensures) (copied .kept .1 .1 .1 .0),
     )
 
 same-length : tie.Need-same-length Inv-loop μ-loop
@@ -91,7 +103,8 @@ returns c =
     let l = c .before in
     let a = l .before .before .before .before .args in
     let none : drop (l .loop .k) (frames (a .p)) ≡ [] = drop-of-length-le (frames (a .p)) {i = l .loop .k} (omega (arith, l .before .frame-count .ensures)) in
-    rw (← frames-total (a .p)) (copying-all (now (a .sheet)) (frames (a .p)) (now (a .signature)) (l .loop .signature) (l .loop .at) (l .loop .from) (rw none at (l .loop .inv .2)))
+    rw (← frames-total (a .p)) (copying-all (now (a .sheet)) (frames (a .p)) (now (a .signature)) (l .loop .signature) (l .loop .at) (l .loop .from)
+    (rw none at (l .loop .inv .2)))
 
 pub copy-signature-spec : {M : Type 1} → statement M
 copy-signature-spec =

@@ -1,0 +1,2 @@
+-- What only inner steps need: the frame parser.
+pub mod Parser

@@ -1,0 +1,2 @@
+-- What only inner steps need: a line read and written piece by piece.
+pub mod Digits
