@@ -8,13 +8,13 @@ mod judge;
 mod payload;
 
 use judge::judge;
-use signature::signature_length;
 use payload::copy_signature;
 use payload::copy_text;
 use profile::Profile;
 use profile::check_profile;
 use refusal::Outcome;
 use refusal::Refusal;
+use signature::signature_length;
 
 // What Read sheet answers. The line is 0 unless a line is wrong; refused, the length is 0.
 pub struct SheetRead {
