@@ -1,6 +1,6 @@
 -- Demand 3, its last sentences: one claim about a whole list of Reserve and Sign calls and the checks of what they issued.
 use mathlib.Core.Path.{_≡_}
-use mathlib.Core.Bool.{cond}
+use mathlib.Core.Bool.{Bool, true, false, cond}
 use mathlib.Core.List.{List, [], _∷_, _++_, map}
 use Prim.Native.Nat.{ℕ, _-_, _*_, _≤_}
 use lib.Dec.{eqb}
@@ -87,19 +87,42 @@ pub data Check : Type 0 where
 abbrev pub ownCheck : Issued → (work : List ℕ) → VerifyingCall
 ownCheck one work = record { message = one .message; signature = one .signature; work = work }
 
--- "Checked in the list's order, each with its own text, …, with long enough work slices, all of them are accepted. Each of these checks reports
--- l × (w − 1) − s chain steps. Refused checks in between change none of this": "A work slice is long enough when 5 doesn't refuse it", and
--- "The cabinet goes from check to check in the same way, refused checks included"
-unfoldable pub AllAccepted : Shape → Verifier → List Issued → List Check → Type 0
-AllAccepted p v signatures [] = Unit {0}
-AllAccepted p v [] (next work ∷ checks) = AllAccepted p v [] checks
-AllAccepted p v (one ∷ signatures) (next work ∷ checks) =
-    tableLength p ≤ length work
-    → (verifyCode v (ownCheck one work) ≡ 0)
-    × (stepsMade v (ownCheck one work) ≡ p .chains * (p .width - 1) - p .sum)
-    × AllAccepted p (verifierAfter v (ownCheck one work)) signatures checks
-AllAccepted p v signatures (other call ∷ checks) =
-    (verifyCode v call ≡ 0 → ⊥) → AllAccepted p (verifierAfter v call) signatures checks
+-- a check of a run: whether it is the check of one of the signatures, the call, and the cabinet that gets it
+pub record Checked : Type 0 where
+  pub own : Bool
+  pub call : VerifyingCall
+  pub cabinet : Verifier
+
+-- "Checked in the list's order, each with its own text": the checks of a run, one after another. "The cabinet goes from check to check in the
+-- same way, refused checks included". Behind the last signature `next` is no check
+unfoldable pub checkedAlong : Verifier → List Issued → List Check → List Checked
+checkedAlong v signatures [] = []
+checkedAlong v [] (next work ∷ checks) = checkedAlong v [] checks
+checkedAlong v (one ∷ signatures) (next work ∷ checks) =
+    record { own = true; call = ownCheck one work; cabinet = v } ∷ checkedAlong (verifierAfter v (ownCheck one work)) signatures checks
+checkedAlong v signatures (other call ∷ checks) =
+    record { own = false; call = call; cabinet = v } ∷ checkedAlong (verifierAfter v call) signatures checks
+
+-- every member of a list is as P says
+abbrev pub Every : {A : Type 0} → (P : A → Type 0) → List A → Type 0
+Every P [] = Unit {0}
+Every P (x ∷ xs) = P x × Every P xs
+
+-- "with long enough work slices", where "A work slice is long enough when 5 doesn't refuse it"; every other check is one of the "Refused
+-- checks in between"
+pub record CheckPremise (shape : Shape) (c : Checked) : Type 0 where
+  pub long-enough : c .own ≡ true → tableLength shape ≤ length (c .call .work)
+  pub refused : c .own ≡ false → verifyCode (c .cabinet) (c .call) ≡ 0 → ⊥
+
+-- of a check of one of the signatures: "all of them are accepted. Each of these checks reports l × (w − 1) − s chain steps"
+pub record CheckHolds (shape : Shape) (c : Checked) : Type 0 where
+  pub accepted : c .own ≡ true → verifyCode (c .cabinet) (c .call) ≡ 0
+  pub steps : c .own ≡ true → stepsMade (c .cabinet) (c .call) ≡ shape .chains * (shape .width - 1) - shape .sum
+
+-- of a whole run
+abbrev pub AllAccepted : Shape → Verifier → List Issued → List Check → Type 0
+AllAccepted shape v signatures checks =
+    Every (CheckPremise shape) (checkedAlong v signatures checks) → Every (CheckHolds shape) (checkedAlong v signatures checks)
 
 -- what demand 3 says of a list, for every list: "by a cabinet that starts fresh with that key's profile, public seed and root"; a profile names its edition, so document 02, point 6, is
 -- met too: "under either edition, the cabinet's being the key's"

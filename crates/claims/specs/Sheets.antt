@@ -1,4 +1,5 @@
--- Document 02, point 1: "Reading a written sheet yields the same signature and text, writing what was read the same bytes". Of what the operations answer and leave, for every profile, in either edition.
+-- Document 02, point 1: "Reading a written sheet yields the same signature and text, writing what was read the same bytes". Of what the
+-- operations answer and leave, for every profile, in either edition.
 use mathlib.Core.Path.{_≡_}
 use mathlib.Core.List.{List, _++_}
 use Prim.Native.Nat.{ℕ, _≤_, _<_}
@@ -15,30 +16,51 @@ use Rattle.sheet_writer.specs.declared.writer.SheetWritten.{SheetWritten}
 abbrev pub AllBytes : List ℕ → Type 0
 AllBytes l = (i : ℕ) → getD l i 0 < 256
 
+-- a call of Write sheet: the signature and the text, its slice before and after, and what it answers
+pub record SheetWriting (p : Profile) : Type 0 where
+  pub signature : List ℕ
+  pub text : List ℕ
+  pub slice : List ℕ
+  pub slice′ : List ℕ
+  pub made : SheetWritten
+  pub writes : WritesSheet p signature text slice slice′ made
+
+-- a call of Read sheet: the sheet, its slices before and after, and what it answers
+pub record SheetReading (p : Profile) : Type 0 where
+  pub sheet : List ℕ
+  pub signatureSlice : List ℕ
+  pub textSlice : List ℕ
+  pub signatureSlice′ : List ℕ
+  pub textSlice′ : List ℕ
+  pub found : SheetRead
+  pub reads : ReadsSheet p sheet signatureSlice textSlice signatureSlice′ textSlice′ found
+
 -- a reading that is granted, with this signature and text at the front of its slices
-pub record Yields (signature text signatureSlice textSlice signatureSlice′ textSlice′ : List ℕ) (found : SheetRead) : Type 0 where
-  pub granted : outcomeCode (found .outcome) ≡ 0
-  pub no-line : found .line ≡ 0
-  pub text-length : found .length ≡ length text
-  pub signature-read : signatureSlice′ ≡ signature ++ drop (length signature) signatureSlice
-  pub text-read : textSlice′ ≡ text ++ drop (length text) textSlice
+pub record Yields {p : Profile} (signature text : List ℕ) (r : SheetReading p) : Type 0 where
+  pub granted : outcomeCode (r .found .outcome) ≡ 0
+  pub no-line : r .found .line ≡ 0
+  pub text-length : r .found .length ≡ length text
+  pub signature-read : r .signatureSlice′ ≡ signature ++ drop (length signature) (r .signatureSlice)
+  pub text-read : r .textSlice′ ≡ text ++ drop (length text) (r .textSlice)
 
 -- "Reading a written sheet yields the same signature and text": the bytes that Write sheet wrote, read into slices that are long enough
-abbrev pub WrittenIsRead : Type 0
-WrittenIsRead =
-    (p : Profile) (signature text sheetSlice sheetSlice′ : List ℕ) (made : SheetWritten) → AllBytes signature → AllBytes text → WritesSheet p signature text sheetSlice sheetSlice′ made → outcomeCode (made .outcome) ≡ 0
-    → (signatureSlice textSlice signatureSlice′ textSlice′ : List ℕ) (found : SheetRead) → length signature ≤ length signatureSlice → length text ≤ length textSlice
-    → ReadsSheet p (take (made .length) sheetSlice′) signatureSlice textSlice signatureSlice′ textSlice′ found → Yields signature text signatureSlice textSlice signatureSlice′ textSlice′ found
+abbrev pub WrittenSheetIsRead : Type 0
+WrittenSheetIsRead =
+    (p : Profile) (w : SheetWriting p) → AllBytes (w .signature) → AllBytes (w .text) → outcomeCode (w .made .outcome) ≡ 0
+    → (r : SheetReading p) → r .sheet ≡ take (w .made .length) (w .slice′)
+    → length (w .signature) ≤ length (r .signatureSlice) → length (w .text) ≤ length (r .textSlice)
+    → Yields (w .signature) (w .text) r
 
 -- a writing that is granted, with this sheet at the front of its slice
-pub record Gives (sheet sheetSlice sheetSlice′ : List ℕ) (made : SheetWritten) : Type 0 where
-  pub granted : outcomeCode (made .outcome) ≡ 0
-  pub bytes : made .length ≡ length sheet
-  pub written : sheetSlice′ ≡ sheet ++ drop (length sheet) sheetSlice
+pub record Gives {p : Profile} (sheet : List ℕ) (w : SheetWriting p) : Type 0 where
+  pub granted : outcomeCode (w .made .outcome) ≡ 0
+  pub bytes : w .made .length ≡ length sheet
+  pub written : w .slice′ ≡ sheet ++ drop (length sheet) (w .slice)
 
 -- "writing what was read the same bytes": the signature and the text that Read sheet wrote, written into a slice that is long enough
-abbrev pub ReadIsWritten : Type 0
-ReadIsWritten =
-    (p : Profile) (sheet signatureSlice textSlice signatureSlice′ textSlice′ : List ℕ) (found : SheetRead) → ReadsSheet p sheet signatureSlice textSlice signatureSlice′ textSlice′ found → outcomeCode (found .outcome) ≡ 0
-    → (sheetSlice sheetSlice′ : List ℕ) (made : SheetWritten) → length sheet ≤ length sheetSlice → WritesSheet p (take (signatureLength p) signatureSlice′) (take (found .length) textSlice′) sheetSlice sheetSlice′ made
-    → Gives sheet sheetSlice sheetSlice′ made
+abbrev pub ReadSheetIsWritten : Type 0
+ReadSheetIsWritten =
+    (p : Profile) (r : SheetReading p) → outcomeCode (r .found .outcome) ≡ 0
+    → (w : SheetWriting p) → w .signature ≡ take (signatureLength p) (r .signatureSlice′)
+    → w .text ≡ take (r .found .length) (r .textSlice′) → length (r .sheet) ≤ length (w .slice)
+    → Gives (r .sheet) w

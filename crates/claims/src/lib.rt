@@ -19,7 +19,7 @@ ghost use Rattle.claims.specs.Largest.{LargestCode};
 ghost use Rattle.claims.specs.OneTime.{RecoversRevealed, ClimbsToRoot};
 ghost use Rattle.claims.specs.PowerCuts.{PowerCuts, RoundsInTurn};
 ghost use Rattle.claims.specs.Rows.{Ordered, RankExact};
-ghost use Rattle.claims.specs.Sheets.{WrittenIsRead, ReadIsWritten};
+ghost use Rattle.claims.specs.Sheets.{WrittenSheetIsRead, ReadSheetIsWritten};
 ghost use Rattle.claims.specs.Trial.{TrialValues};
 
 // Demand 3.
@@ -146,11 +146,11 @@ pub fn profile_line()
 {}
 
 pub fn written_is_read()
-    ensures { λ _. ⌜ WrittenIsRead ⌝ }
+    ensures { λ _. ⌜ WrittenSheetIsRead ⌝ }
 {}
 
 pub fn read_is_written()
-    ensures { λ _. ⌜ ReadIsWritten ⌝ }
+    ensures { λ _. ⌜ ReadSheetIsWritten ⌝ }
 {}
 
 pub fn first_eleven()
