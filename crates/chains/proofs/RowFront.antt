@@ -1,4 +1,5 @@
--- The values shown of a leaf's chains, the leaf key recovered from them and the steps go by as many lengths of a row as there are chains, whatever stands behind.
+-- The values shown of a leaf's chains, the leaf key recovered from them and the steps go by as many lengths of a row as there are chains, whatever stands
+-- behind.
 use mathlib.Core.Path.{_≡_, ap, sym, _∙_}
 use mathlib.Core.List.{List}
 use Prim.Native.Nat.{ℕ, _-_, _*_, _<_}

@@ -32,7 +32,10 @@ accepted-free v call e =
     let work = call .work in
     let counted : List (Bool × ℕ) = (countTooSmall (count (v .profile .shape)), 19) ∷ [] in
     let low : List (Bool × ℕ) = (passed (v .window) (leafIn signature), 14) ∷ counted in
-    let early : List (Bool × ℕ) = (outsideText (length message), 16) ∷ (not (eqb (length signature) (signatureLength (v .profile))), 13) ∷ (leafBeyond (v .profile .height) (leafIn signature), 11) ∷ [] in
+    let early : List (Bool × ℕ) = (outsideText (length message), 16) ∷ (
+      not (eqb (length signature) (signatureLength (v .profile))),
+      13,
+    ) ∷ (leafBeyond (v .profile .height) (leafIn signature), 11) ∷ [] in
     let root : List (Bool × ℕ) = (not (sameBytes (rootIn v message signature) (v .root)), 15) ∷ [] in
     let before = none-of-append (causesBeforeRoot v call) root (before-numbered v call) e .0 in
     let order = none-of-append (tableCauses (v .profile) (length work)) (early ++ low) (table-numbered (v .profile) (length work)) before .1 in
@@ -56,8 +59,10 @@ module _ (v : Verifier) (c : VerifyingCall) (later : List VerifyingCall) (once :
           let leaf = leafChecked c in
           let free = accepted-free v c (eqb-true _ 0 e) in
           let after : Once (withAccepted v leaf) later = rw e at once in
-          let still = each-imply (λ x. Free (withAccepted v leaf) (leafChecked x)) (λ x. Free v (leafChecked x)) (λ x none. free-before v leaf (leafChecked x) free none .0) later (after .0) in
-          let others = each-imply (λ x. Free (withAccepted v leaf) (leafChecked x)) (Apart leafChecked c) (λ x none. free-before v leaf (leafChecked x) free none .1) later (after .0) in
+          let still = each-imply (λ x. Free (withAccepted v leaf) (leafChecked x)) (λ x. Free v (leafChecked x))
+          (λ x none. free-before v leaf (leafChecked x) free none .0) later (after .0) in
+          let others = each-imply (λ x. Free (withAccepted v leaf) (leafChecked x)) (Apart leafChecked c)
+          (λ x none. free-before v leaf (leafChecked x) free none .1) later (after .0) in
           rw e ((free, still), (others, after .1))
       by false e = rw e (rw e at once)
 

@@ -67,12 +67,14 @@ module _ (key : SigningKey) (call : SigningCall) where
 
   sign-seven : signCode key call ≡ 7 → ⊥
   unfolding signCode
-  sign-seven = never-seven (key .profile) (length (call .work)) (sign-own ++ ((countTooSmall (count (key .profile .shape)), 19) ∷ [])) (refl, (refl, (refl, (refl, tt))))
+  sign-seven = never-seven (key .profile) (length (call .work)) (sign-own ++ ((countTooSmall (count (key .profile .shape)), 19) ∷ []))
+      (refl, (refl, (refl, (refl, tt))))
 
   sign-nineteen : (signCode key call ≡ 19) ↔ ((firstCause (sign-first ++ sign-own) ≡ 0) × (count (key .profile .shape) < 256))
   unfolding signCode
   sign-nineteen =
-      nineteen sign-first sign-own [] (count (key .profile .shape)) (without-append 0 sign-first sign-own (table-numbered (key .profile) (length (call .work))) (refl, (refl, (refl, tt))))
+      nineteen sign-first sign-own [] (count (key .profile .shape))
+      (without-append 0 sign-first sign-own (table-numbered (key .profile) (length (call .work))) (refl, (refl, (refl, tt))))
       (without-append 19 sign-first sign-own (table-without 19 (key .profile) (length (call .work)) (lit< tt) (lit< tt)) (refl, (refl, (refl, tt)))) tt
 
 module _ (v : Verifier) (call : VerifyingCall) where
@@ -91,13 +93,16 @@ module _ (v : Verifier) (call : VerifyingCall) where
 
   verify-seven : verifyCode v call ≡ 7 → ⊥
   verify-seven e =
-      never-seven (v .profile) (length (call .work)) (verify-own ++ ((countTooSmall (count (v .profile .shape)), 19) ∷ verify-last)) (refl, (refl, (refl, (refl, (refl, (refl, tt)))))) (sym verify-causes ∙ e)
+      never-seven (v .profile) (length (call .work)) (verify-own ++ ((countTooSmall (count (v .profile .shape)), 19) ∷ verify-last))
+      (refl, (refl, (refl, (refl, (refl, (refl, tt)))))) (sym verify-causes ∙ e)
 
   verify-nineteen : (verifyCode v call ≡ 19) ↔ ((firstCause (verify-first ++ verify-own) ≡ 0) × (count (v .profile .shape) < 256))
   verify-nineteen =
       rw verify-causes
-      (nineteen verify-first verify-own verify-last (count (v .profile .shape)) (without-append 0 verify-first verify-own (table-numbered (v .profile) (length (call .work))) (refl, (refl, (refl, (refl, tt)))))
-      (without-append 19 verify-first verify-own (table-without 19 (v .profile) (length (call .work)) (lit< tt) (lit< tt)) (refl, (refl, (refl, (refl, tt))))) (refl, tt))
+      (nineteen verify-first verify-own verify-last (count (v .profile .shape))
+      (without-append 0 verify-first verify-own (table-numbered (v .profile) (length (call .work))) (refl, (refl, (refl, (refl, tt)))))
+      (without-append 19 verify-first verify-own (table-without 19 (v .profile) (length (call .work)) (lit< tt) (lit< tt)) (refl, (refl, (refl, (refl, tt)))))
+      (refl, tt))
 
 pub small-counts : SmallCounts
 small-counts = record { sign-seven = sign-seven; verify-seven = verify-seven; sign-nineteen = sign-nineteen; verify-nineteen = verify-nineteen }

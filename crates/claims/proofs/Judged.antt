@@ -19,7 +19,8 @@ module _ (v : Verifier) (call : VerifyingCall) where
   pub before-numbered : Numbered (causesBeforeRoot v call)
   unfolding causesBeforeRoot
   before-numbered =
-      without-append 0 (tableCauses (v .profile) (length (call .work))) _ (table-numbered (v .profile) (length (call .work))) (refl, (refl, (refl, (refl, (refl, tt)))))
+      without-append 0 (tableCauses (v .profile) (length (call .work))) _ (table-numbered (v .profile) (length (call .work)))
+      (refl, (refl, (refl, (refl, (refl, tt)))))
 
   -- the last cause: the recovered root differs
   abbrev differs : Bool
@@ -32,7 +33,8 @@ module _ (v : Verifier) (call : VerifyingCall) where
 pub judged-by-root : JudgedByRoot
 judged-by-root v call none =
     let to : verifyCode v call ≡ 0 → rootIn v (call .message) (call .signature) ≡ v .root =
-    λ accepted. same-true (rootIn v (call .message) (call .signature)) (v .root) (not-false _ (none-here (differs v call) 15 [] refl (sym (judged v call none) ∙ accepted) .0)) in
+    λ accepted. same-true (rootIn v (call .message) (call .signature)) (v .root)
+    (not-false _ (none-here (differs v call) 15 [] refl (sym (judged v call none) ∙ accepted) .0)) in
     let from : rootIn v (call .message) (call .signature) ≡ v .root → verifyCode v call ≡ 0 =
     λ root. judged v call none ∙ rw (root, same-refl (v .root)) in
     (to, from)

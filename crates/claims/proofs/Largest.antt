@@ -51,12 +51,14 @@ module _ (p : Shape) (rows : List (List ℕ)) (half : p .sum ≡ p .chains * (p 
       let is-y = code .lengths j h-j in
       let one = rank-injective w l s (middle w s xs) (middle w s ys) (middle-codeword w l s half xs is-x) (middle-codeword w l s half ys is-y) same in
       let other = apart i j less h-j in
-      ⊎-elim (λ most. code .incomparable i j h-i h-j other most) (λ most. code .incomparable j i h-j h-i (λ e. other (sym e)) most) (same-middle w l s half xs ys is-x is-y one)
+      ⊎-elim (λ most. code .incomparable i j h-i h-j other most) (λ most. code .incomparable j i h-j h-i (λ e. other (sym e)) most)
+      (same-middle w l s half xs ys is-x is-y one)
 
   bound : length rows ≤ count p
   bound =
       let long = length-map rows number in
-      rw long at (pigeonhole (count p) (number []) (map number rows) (distinct-map number [] rows number-apart) (λ i h. rw (List·getD-map number rows i []) (number-below i (rw long at h))))
+      rw long at (pigeonhole (count p) (number []) (map number rows) (distinct-map number [] rows number-apart)
+      (λ i h. rw (List·getD-map number rows i []) (number-below i (rw long at h))))
 
 length-rows : (p : Shape) (n : ℕ) → length (rowsBelow p n) ≡ n
 unfolding rowsBelow

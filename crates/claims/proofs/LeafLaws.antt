@@ -94,7 +94,12 @@ module _ (p : Profile) (seed secret : List ℕ) where
     reserved-from from = by (eqb (reserveCode (key .profile) (key .counter)) 0) refl
       where
         by : (granted : Bool) → eqb (reserveCode (key .profile) (key .counter)) 0 ≡ granted → KeyFrom (reservedKey key) n
-        by true e = rw e (record { of = recounted-of key (reserved (key .counter)) (from .of); reached = omega (arith, from .reached); unsigned = λ m. omega (arith, from .reached) })
+        by true e = rw e (record {
+          of = recounted-of key (reserved (key .counter)) (from .of);
+          reached = omega (arith, from .reached);
+          unsigned =
+              λ m. omega (arith, from .reached);
+        })
         by false e = rw e (record { of = recounted-of key (key .counter) (from .of); reached = from .reached; unsigned = from .unsigned })
 
     -- a key that has signed: its next leaf is above the one that it used, and none is marked

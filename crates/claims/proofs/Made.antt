@@ -82,7 +82,8 @@ module _ (key : SigningKey) (c : OrderCall) where
   granted = eqb (signCode key (c .call)) 0
 
   -- a leaf is marked, and the signature is made with it
-  pub sign-made : granted ≡ true → (markCounts (2 ^ key .profile .height) (key .counter) ≡ true) × Made (key .profile) (key .seed) (key .secret) (leafToSign key) (signedBy key (c .call))
+  pub sign-made : granted ≡ true → (markCounts (2 ^ key .profile .height) (key .counter) ≡ true)
+      × Made (key .profile) (key .seed) (key .secret) (leafToSign key) (signedBy key (c .call))
   unfolding signCode tableCauses signedBy outputAfter keySignature keyNumber
   sign-made e =
       let p = key .profile in
@@ -91,7 +92,8 @@ module _ (key : SigningKey) (c : OrderCall) where
       let counted : List (Bool × ℕ) = (countTooSmall (count (p .shape)), 19) ∷ [] in
       let leaf : List (Bool × ℕ) = (unmarked, 20) ∷ counted in
       let output : List (Bool × ℕ) = (ltb (length (c .call .out)) (signatureLength p), 6) ∷ leaf in
-      let table = none-of-append (tableCauses p (length (c .call .work))) ((outsideText (length (c .call .message)), 16) ∷ output) (table-numbered p (length (c .call .work))) (eqb-true _ 0 e) in
+      let table = none-of-append (tableCauses p (length (c .call .work))) ((outsideText (length (c .call .message)), 16) ∷ output)
+      (table-numbered p (length (c .call .work))) (eqb-true _ 0 e) in
       let text = none-here (outsideText (length (c .call .message))) 16 output refl (table .1) in
       let room = none-here (ltb (length (c .call .out)) (signatureLength p)) 6 leaf refl (text .1) in
       let found = none-here unmarked 20 counted refl (room .1) in
@@ -131,7 +133,8 @@ module _ (key : SigningKey) (c : OrderCall) where
     unfolding issuedBy keyAfter
     sign-step = by granted refl
       where
-        by : (g : Bool) → granted ≡ g → (m : ℕ) × Rises leafOf (MadeOwn p seed secret) n (issuedBy key (c .call)) m × KeyFrom p seed secret (keyAfter key (c .call)) m
+        by : (g : Bool) → granted ≡ g → (m : ℕ) × Rises leafOf (MadeOwn p seed secret) n (issuedBy key (c .call)) m
+            × KeyFrom p seed secret (keyAfter key (c .call)) m
         by true e = rw e (key .counter .next, sign-granted e, cleared-from p seed secret key n (from .of))
         by false e = rw e (n, le-refl n, from)
 

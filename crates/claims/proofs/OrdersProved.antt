@@ -1,4 +1,5 @@
--- What demand 3 and document 02, point 4, say of signatures that a source of leaves that rise has issued, and so of a list of Reserve and Sign calls: no leaf twice, and all
+-- What demand 3 and document 02, point 4, say of signatures that a source of leaves that rise has issued, and so of a list of Reserve and Sign calls: no leaf
+-- twice, and all
 -- are accepted, in the list's order and in every order of arrival that the window allows.
 use mathlib.Core.Path.{sym}
 use mathlib.Core.List.{List, [], _∷_, map, List·Permᴰ}
@@ -34,7 +35,8 @@ in-time-pairs (x ∷ xs) t = (
   in-time-pairs xs (λ i j h k far. le-of-suc-le-suc (t (suc i) (suc j) (suc-le-suc h) (suc-le-suc k) far)),
 )
   where
-    by : (i : ℕ) → i < length (map leafOf xs) → (leafOf x < getD (map leafOf xs) i 0 + 32) ⊎ (getD (map leafOf xs) i 0 + 32 ≤ leafOf x) → leafOf x < getD (map leafOf xs) i 0 + 32
+    by : (i : ℕ) → i < length (map leafOf xs) → (leafOf x < getD (map leafOf xs) i 0 + 32) ⊎ (getD (map leafOf xs) i 0 + 32 ≤ leafOf x)
+        → leafOf x < getD (map leafOf xs) i 0 + 32
     by i h (inl near) = near
     by i h (inr far) = absurd (omega (arith, t (suc i) 0 (suc-le-suc h) (omega arith) far))
 
@@ -47,7 +49,8 @@ module _ (p : Profile) (seed secret : List ℕ) where
 
   fresh-accepts : (all : List Issued) → Each (MadeOwn p seed secret) all → Pairs Follows all → (checks : List Check) → AllAccepted (p .shape) cabinet all checks
   fresh-accepts all made follow checks =
-      all-accepted p seed secret checks cabinet all (fresh-cabinet p seed root) made (each-always (λ one. Free cabinet (leafOf one)) (λ one. fresh-passes-none p seed root (leafOf one)) all) follow
+      all-accepted p seed secret checks cabinet all (fresh-cabinet p seed root) made
+      (each-always (λ one. Free cabinet (leafOf one)) (λ one. fresh-passes-none p seed root (leafOf one)) all) follow
 
   -- signatures that a source of leaves that rise has issued
   module _ (all : List Issued) (m : ℕ) (rises : Rises leafOf (MadeOwn p seed secret) 0 all m) where
@@ -63,9 +66,11 @@ module _ (p : Profile) (seed secret : List ℕ) where
     pub risen-accepted : (checks : List Check) → AllAccepted (p .shape) cabinet all checks
     risen-accepted =
         fresh-accepts all made
-        (pairs-imply (λ x y. leafOf x < leafOf y) Follows (λ x y h. (λ same. omega arith, omega arith)) all (rises-pairs leafOf (MadeOwn p seed secret) 0 m all rises))
+        (pairs-imply (λ x y. leafOf x < leafOf y) Follows (λ x y h. (λ same. omega arith, omega arith)) all
+        (rises-pairs leafOf (MadeOwn p seed secret) 0 m all rises))
 
-    pub risen-arrivals : (arrivals : List Issued) → List·Permᴰ arrivals all → InTime (map leafOf arrivals) → (checks : List Check) → AllAccepted (p .shape) cabinet arrivals checks
+    pub risen-arrivals : (arrivals : List Issued) → List·Permᴰ arrivals all → InTime (map leafOf arrivals) → (checks : List Check)
+        → AllAccepted (p .shape) cabinet arrivals checks
     risen-arrivals arrivals order in-time =
         let others = pairs-permuted (Apart leafOf) (λ x y other same. other (sym same)) order apart in
         let follow = pairs-with (Apart leafOf) InTimeAfter Follows (λ x y other near. (other, near)) arrivals others (in-time-pairs arrivals in-time) in

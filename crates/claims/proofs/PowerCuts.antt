@@ -1,4 +1,5 @@
--- A desk that stores before it signs is a source of leaves that rise, at whichever step power fails: no leaf that has signed is at or above the next leaf of the stored frame.
+-- A desk that stores before it signs is a source of leaves that rise, at whichever step power fails: no leaf that has signed is at or above the next leaf of
+-- the stored frame.
 use mathlib.Core.Path.{_≡_, refl, sym, _∙_}
 use mathlib.Core.Bool.{Bool, true, false, true≢false}
 use mathlib.Core.List.{List}
@@ -25,7 +26,8 @@ use Rattle.stored_key.specs.RoundTrip.{Held}
 use Rattle.stored_key.proofs.StoredLaws.{stored-read}
 use Rattle.signer.specs.Operations.{keyAfter}
 use Rattle.claims.specs.Orders.{OrderCall, issuedBy, leafOf}
-use Rattle.claims.specs.PowerCuts.{Storing, Progress, Desk, Step, frameLeft, onceBegun, onceEnded, afterReserve, afterBegin, afterEnd, afterSign, afterCut, deskAfter, issuedAt, issuedAlong, InTurn, freshDesk, SeedBytes, PowerCuts}
+use Rattle.claims.specs.PowerCuts.{Storing, Progress, Desk, Step, frameLeft, onceBegun, onceEnded, afterReserve, afterBegin, afterEnd, afterSign}
+use Rattle.claims.specs.PowerCuts.{afterCut, deskAfter, issuedAt, issuedAlong, InTurn, freshDesk, SeedBytes, PowerCuts}
 use Rattle.claims.specs.PowerCuts.Storing.{nothing, new}
 use Rattle.claims.specs.PowerCuts.Progress.{unstored, begun, ended}
 use Rattle.claims.specs.PowerCuts.Step.{reserve, storeBegins, storeEnds, sign, cut}
@@ -64,7 +66,8 @@ module _ (p : Profile) (seed secret : List ℕ) (seed-bytes : SeedBytes seed) (s
           at = refl;
         }
 
-  -- a store in progress: its frame has a next leaf from that of the stored frame to that of the key in memory, and where it is that of the leaf reserved last, no smaller one
+  -- a store in progress: its frame has a next leaf from that of the stored frame to that of the key in memory, and where it is that of the leaf reserved last,
+  -- no smaller one
   pub record StoreAt (frame : List ℕ) (progress : Progress) (old next : ℕ) : Type 0 where
     pub new : ℕ
     pub is : FrameAt frame new
@@ -113,7 +116,14 @@ module _ (p : Profile) (seed secret : List ℕ) (seed-bytes : SeedBytes seed) (s
     storing-other : (s : Storing) → StoringAt s (d .progress) (at .old) (counter .next) → StoringAt s unstored (at .old) (counter .next + 1)
     storing-other nothing store = tt
     storing-other (new frame) store =
-        record { new = store .new; is = store .is; above = store .above; below = omega (arith, store .below); own = λ e. let no : _≡_ {A = ℕ} 0 1 = cc in omega arith }
+        record {
+          new = store .new;
+          is = store .is;
+          above = store .above;
+          below = omega (arith, store .below);
+          own = λ e. let no : _≡_ {A = ℕ} 0 1 = cc in
+              omega arith;
+        }
 
     reserved-desk : DeskFrom (afterReserve d) n
     unfolding afterReserve counterAfter
@@ -138,10 +148,20 @@ module _ (p : Profile) (seed secret : List ℕ) (seed-bytes : SeedBytes seed) (s
             })
         by false e =
             rw e
-            (record { from = rw e at from; in-tree = at .in-tree; old = at .old; is = at .is; reached = at .reached; below = at .below; storing = at .storing; past = at .past })
+            (record {
+              from = rw e at from;
+              in-tree = at .in-tree;
+              old = at .old;
+              is = at .is;
+              reached = at .reached;
+              below = at .below;
+              storing = at .storing;
+              past = at .past;
+            })
 
     -- a store begins: it is of the frame of the key in memory
-    written-frame : (slice : List ℕ) → eqb (writeKeyCode (d .key) slice) 0 ≡ true → take (bytesWritten (d .key) slice) (frameAfter (d .key) slice) ≡ storedKey (d .key)
+    written-frame : (slice : List ℕ) → eqb (writeKeyCode (d .key) slice) 0 ≡ true
+        → take (bytesWritten (d .key) slice) (frameAfter (d .key) slice) ≡ storedKey (d .key)
     unfolding bytesWritten frameAfter
     written-frame slice e = rw e (take-at (storedKey (d .key)) (drop (length (storedKey (d .key))) slice) (length (storedKey (d .key))) refl)
 
@@ -202,7 +222,8 @@ module _ (p : Profile) (seed secret : List ℕ) (seed-bytes : SeedBytes seed) (s
         past ended r e = omega (arith, at .past r, store .above)
 
     -- Sign, granted: its store has ended, so the stored frame is past the leaf that signs
-    signed-desk : (c : OrderCall) → InTurn d (sign c) → (m : ℕ) × Rises leafOf (MadeOwn p seed secret) n (issuedBy (d .key) (c .call)) m × DeskFrom (afterSign d c) m
+    signed-desk : (c : OrderCall) → InTurn d (sign c) → (m : ℕ) × Rises leafOf (MadeOwn p seed secret) n (issuedBy (d .key) (c .call)) m
+        × DeskFrom (afterSign d c) m
     unfolding afterSign InTurn issuedBy keyAfter
     signed-desk c turn = by (granted (d .key) c) refl
       where
@@ -267,7 +288,8 @@ power-cuts p seed secret seed-bytes secret-bytes passed steps turns =
     let all = issuedAlong d steps in
     let rising =
     issued-rises leafOf (MadeOwn p seed secret) deskAfter issuedAt InTurn (DeskFrom p seed secret seed-bytes secret-bytes passed)
-    (λ d n at step turn. desk-step p seed secret seed-bytes secret-bytes passed d n at step turn) d 0 (fresh-desk-from p seed secret seed-bytes secret-bytes passed) steps turns in
+    (λ d n at step turn. desk-step p seed secret seed-bytes secret-bytes passed d n at step turn) d 0
+    (fresh-desk-from p seed secret seed-bytes secret-bytes passed) steps turns in
     record {
       once = risen-once p seed secret all (rising .0) (rising .1);
       accepted = risen-accepted p seed secret all (rising .0) (rising .1);

@@ -16,7 +16,8 @@ use Rattle.stored_key.specs.KeyFrame.{storedKey}
 use Rattle.stored_key.specs.Operations.{writeKeyCode}
 use Rattle.stored_key.proofs.StoredLaws.{stored-right, right-long}
 use Rattle.claims.specs.Orders.{OrderCall, Along}
-use Rattle.claims.specs.PowerCuts.{Progress, Desk, Step, onceBegun, onceEnded, afterReserve, afterBegin, afterEnd, afterSign, afterCut, deskAfter, InTurn, StoredFirst, freshDesk, SeedBytes, Round, roundOf, stepsOf, WithRoom, RoundsInTurn}
+use Rattle.claims.specs.PowerCuts.{Progress, Desk, Step, onceBegun, onceEnded, afterReserve, afterBegin, afterEnd, afterSign, afterCut, deskAfter, InTurn}
+use Rattle.claims.specs.PowerCuts.{StoredFirst, freshDesk, SeedBytes, Round, roundOf, stepsOf, WithRoom, RoundsInTurn}
 use Rattle.claims.specs.PowerCuts.Storing.{nothing}
 use Rattle.claims.specs.PowerCuts.Progress.{unstored, begun, ended}
 use Rattle.claims.specs.PowerCuts.Step.{reserve, storeBegins, storeEnds, sign, cut}
@@ -107,7 +108,8 @@ module _ (p : Profile) (seed secret : List ℕ) (seed-bytes : SeedBytes seed) (s
     round-part (suc (suc (suc zero))) rest then = (tt, (tt, (tt, then stored (three .0) (three .1))))
     round-part (suc (suc (suc (suc k)))) rest then =
         let four = after stored (three .0) (three .1) (sign c) turn in
-        let last = subst (λ (l : List Step). StoredFirst (deskAfter stored (sign c)) (l ++ rest)) (sym (take-nil k)) (then (deskAfter stored (sign c)) (four .0) (four .1)) in
+        let last = subst (λ (l : List Step). StoredFirst (deskAfter stored (sign c)) (l ++ rest)) (sym (take-nil k))
+        (then (deskAfter stored (sign c)) (four .0) (four .1)) in
         (tt, (tt, (tt, (turn, last))))
 
   rounds-from : (rounds : List Round) → WithRoom rounds → (d : Desk) (n : ℕ) → Between d n → StoredFirst d (stepsOf rounds)
@@ -120,4 +122,5 @@ module _ (p : Profile) (seed secret : List ℕ) (seed-bytes : SeedBytes seed) (s
 
 pub rounds-in-turn : RoundsInTurn
 rounds-in-turn p seed secret seed-bytes secret-bytes passed rounds room =
-    rounds-from p seed secret seed-bytes secret-bytes passed rounds room (freshDesk p seed secret) 0 (fresh-desk-from p seed secret seed-bytes secret-bytes passed, refl)
+    rounds-from p seed secret seed-bytes secret-bytes passed rounds room (freshDesk p seed secret) 0
+    (fresh-desk-from p seed secret seed-bytes secret-bytes passed, refl)

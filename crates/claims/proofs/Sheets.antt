@@ -32,7 +32,8 @@ right-read p signature text r whole passed carried enough room =
     let reads : ReadsSheet p sheet (r .signatureSlice) (r .textSlice) (r .signatureSlice′) (r .textSlice′) (r .found) = rw whole at (r .reads) in
     let code : sheetCode p sheet (r .signatureSlice) (r .textSlice) ≡ 0 =
     none-then (profileCauses p) (sheetCauses p sheet (r .signatureSlice) (r .textSlice)) passed (profile-numbered p)
-    ∙ rw (is-read, le-ltb (length (r .signatureSlice)) (signatureLength p) (omega (arith, carried .whole)), le-ltb (length (r .textSlice)) (length text) room) in
+    ∙ rw (is-read, le-ltb (length (r .signatureSlice)) (signatureLength p) (omega (arith, carried .whole)), le-ltb (length (r .textSlice)) (length text) room)
+    in
     record {
       granted = reads .code ∙ code;
       no-line = reads .line ∙ rw code;

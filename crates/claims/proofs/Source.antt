@@ -1,4 +1,5 @@
--- A source of leaves: calls that hand a state on and may issue something with a leaf. Where each call's leaves are above those issued before, no leaf comes twice.
+-- A source of leaves: calls that hand a state on and may issue something with a leaf. Where each call's leaves are above those issued before, no leaf comes
+-- twice.
 use mathlib.Core.List.{List, [], _∷_, _++_}
 use Prim.Native.Nat.{ℕ, _+_, _<_, _≤_}
 use native.Mathlib.Nat.{le-refl}
@@ -27,8 +28,10 @@ module _ {Item : Type 0} (leafOf : Item → ℕ) (Good : Item → Type 0) where
 
   pub rises-pairs : (n m : ℕ) (xs : List Item) → Rises n xs m → Pairs (λ x y. leafOf x < leafOf y) xs
   rises-pairs n m [] r = tt
-  rises-pairs n m (x ∷ xs) r =
-      (each-imply (λ y. leafOf x + 1 ≤ leafOf y) (λ y. leafOf x < leafOf y) (λ y h. omega arith) xs (rises-least (leafOf x + 1) m xs (r .2)), rises-pairs (leafOf x + 1) m xs (r .2))
+  rises-pairs n m (x ∷ xs) r = (
+    each-imply (λ y. leafOf x + 1 ≤ leafOf y) (λ y. leafOf x < leafOf y) (λ y h. omega arith) xs (rises-least (leafOf x + 1) m xs (r .2)),
+    rises-pairs (leafOf x + 1) m xs (r .2),
+  )
 
   pub rises-good : (n m : ℕ) (xs : List Item) → Rises n xs m → Each Good xs
   rises-good n m [] r = tt

@@ -147,7 +147,11 @@ module _ (w l s : ℕ) (half : s ≡ l * (w - 1) / 2) where
       let has = passes row is in
       let k = s - total name in
       record {
-        lengths = record { chains = length-rowAt w name k ∙ has .long; digits = λ c h. below-rowAt w name k (has .lying .named) (has .upto) c (omega (arith, has .long)) };
+        lengths = record {
+          chains = length-rowAt w name k ∙ has .long;
+          digits =
+              λ c h. below-rowAt w name k (has .lying .named) (has .upto) c (omega (arith, has .long));
+        };
         sum = omega (arith, total-rowAt w name k (has .lying .named) (has .upto), has .from);
       }
 

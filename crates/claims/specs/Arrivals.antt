@@ -30,14 +30,17 @@ leafChecked c = leafIn (c .signature)
 -- "For every list of checks from fresh, no leaf is accepted twice"
 abbrev pub NoLeafAcceptedTwice : Type 0
 NoLeafAcceptedTwice =
-    (p : Profile) (seed root : List ℕ) (calls : List VerifyingCall) → Distinct 0 (map leafChecked (accepted (freshVerifier p seed root) calls))
+    (p : Profile) (seed root : List ℕ) (calls : List VerifyingCall)
+    → Distinct 0 (map leafChecked (accepted (freshVerifier p seed root) calls))
 
 -- "each comes before any leaf 32 or more above it": of the leaves at two places of an order of arrival
 abbrev pub InTime : (leaves : List ℕ) → Type 0
 InTime leaves = (i j : ℕ) → i < length leaves → j < length leaves → getD leaves i 0 + 32 ≤ getD leaves j 0 → i < j
 
--- "One fresh key's issued orders, each arriving once at its fresh cabinet, are all accepted in every arrival order in which each comes before any leaf 32 or
--- more above it": an arrival order is a permutation of the issued list (`List·Permᴰ` of the logic's library); "Acceptance … is under demand 3's premises on texts and work slices", with its steps
+-- "One fresh key's issued orders, each arriving once at its fresh cabinet, are all accepted in every arrival order in which each comes
+-- before any leaf 32 or
+-- more above it": an arrival order is a permutation of the issued list (`List·Permᴰ` of the logic's library); "Acceptance … is under demand
+-- 3's premises on texts and work slices", with its steps
 -- and its refused checks in between; in the key's edition, as demand 3
 abbrev pub ArrivalsAccepted : Type 0
 ArrivalsAccepted =

@@ -26,9 +26,11 @@ LargestBits =
 -- "the number is the first b bits of the digest", for every leaf of every profile, and every R, seed, root and text
 pub record NumbersFit : Type 0 where
   -- it is one of the numbers of b bits
-  pub bits : (p : Profile) (leaf : ℕ) (r seed root message : List ℕ) → messageNumber p leaf r seed root message < 2 ^ numberBits (count (p .shape))
+  pub bits : (p : Profile) (leaf : ℕ) (r seed root message : List ℕ)
+      → messageNumber p leaf r seed root message < 2 ^ numberBits (count (p .shape))
   -- and so below the count
-  pub below : (p : Profile) (leaf : ℕ) (r seed root message : List ℕ) → InLimits (p .shape) → messageNumber p leaf r seed root message < count (p .shape)
+  pub below : (p : Profile) (leaf : ℕ) (r seed root message : List ℕ) → InLimits (p .shape)
+      → messageNumber p leaf r seed root message < count (p .shape)
   -- with 128 bits it is document 01's: "the first 16 digest bytes, most significant first"
   pub earlier : (p : Profile) (leaf : ℕ) (r seed root message : List ℕ) → 2 ^ 128 ≤ count (p .shape)
       → messageNumber p leaf r seed root message ≡ fromBytes (take 16 (messageDigest (p .edition) leaf r seed root message))
@@ -41,7 +43,9 @@ pub record SmallCounts : Type 0 where
   -- "19 when the count is below 256": where no cause before it holds, exactly then
   pub sign-nineteen : (key : SigningKey) (call : SigningCall)
       → (signCode key call ≡ 19)
-      ↔ ((firstCause (tableCauses (key .profile) (length (call .work)) ++ signCauses key (length (call .message)) (length (call .out))) ≡ 0) × (count (key .profile .shape) < 256))
+      ↔ ((firstCause (tableCauses (key .profile) (length (call .work)) ++ signCauses key (length (call .message)) (length (call .out))) ≡ 0)
+      × (count (key .profile .shape) < 256))
   pub verify-nineteen : (v : Verifier) (call : VerifyingCall)
       → (verifyCode v call ≡ 19)
-      ↔ ((firstCause (tableCauses (v .profile) (length (call .work)) ++ verifyCauses v (length (call .message)) (call .signature)) ≡ 0) × (count (v .profile .shape) < 256))
+      ↔ ((firstCause (tableCauses (v .profile) (length (call .work)) ++ verifyCauses v (length (call .message)) (call .signature)) ≡ 0)
+      × (count (v .profile .shape) < 256))

@@ -9,7 +9,8 @@ use Rattle.counts.specs.Counts.{count}
 use Rattle.codewords.specs.Codeword.{IsRow, AtMost}
 use Rattle.codewords.specs.Operations.{rowOf}
 
--- a code: a "list of distinct rows of l lengths from 0 to w − 1, in which no row is at most another at each place"; another is a row that is not the same
+-- a code: a "list of distinct rows of l lengths from 0 to w − 1, in which no row is at most another at each place"; another is a row that
+-- is not the same
 pub record Antichain (w l : ℕ) (rows : List (List ℕ)) : Type 0 where
   pub lengths : (i : ℕ) → i < length rows → IsRow w l (getD rows i [])
   pub distinct : Distinct [] rows
@@ -24,6 +25,7 @@ rowsBelow p (suc n) = rowsBelow p n ++ (rowOf p n ∷ [])
 -- "no code with as many chains signs more numbers"
 pub record LargestCode : Type 0 where
   -- "For s the whole part of l × (w − 1) / 2, every list … has at most count members": for every l and w, also outside the limits
-  pub bound : (p : Shape) (rows : List (List ℕ)) → p .sum ≡ p .chains * (p .width - 1) / 2 → Antichain (p .width) (p .chains) rows → length rows ≤ count p
+  pub bound : (p : Shape) (rows : List (List ℕ)) → p .sum ≡ p .chains * (p .width - 1) / 2 → Antichain (p .width) (p .chains) rows
+      → length rows ≤ count p
   -- the rows of a shape, whatever its sum, are such a list with count members: those of the sum above reach the bound
   pub reached : (p : Shape) → Antichain (p .width) (p .chains) (rowsBelow p (count p)) × (length (rowsBelow p (count p)) ≡ count p)

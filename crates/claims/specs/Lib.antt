@@ -1,4 +1,5 @@
--- The claims of documents 00 and 01, and of document 02 as far as it has landed, over the definitions of several crates: each a closed statement, held by a
+-- The claims of documents 00 and 01, and of document 02 as far as it has landed, over the definitions of several crates: each a closed
+-- statement, held by a
 -- function of src/, which holds those of the crates below too.
 pub mod Arrivals
 pub mod Bits

@@ -1,4 +1,5 @@
--- What the definitions of the operations give together: Reveal and Recover, and a leaf's siblings and the root. Both hold in every domain, which has a public
+-- What the definitions of the operations give together: Reveal and Recover, and a leaf's siblings and the root. Both hold in every domain,
+-- which has a public
 -- seed, a layer and a tree; document 01 has layer and tree zero.
 use mathlib.Core.Path.{_≡_}
 use mathlib.Core.List.{List}
@@ -11,7 +12,8 @@ use Rattle.one_time.specs.Operations.{revealedBy, recoveredBy, stepsOf}
 use Rattle.merkle.specs.Nodes.{path, climbed}
 use Rattle.tree.specs.Tree.{rootOf}
 
--- "The checker steps on to w − 1, l × (w − 1) − s steps in all": what Recover finds of the values that Reveal shows, for the same number and leaf
+-- "The checker steps on to w − 1, l × (w − 1) − s steps in all": what Recover finds of the values that Reveal shows, for the same number
+-- and leaf
 abbrev pub RecoversRevealed : Type 0
 RecoversRevealed =
     (d : Domain) (p : Profile) (secret : List ℕ) (leaf n : ℕ) → n < count (p .shape)

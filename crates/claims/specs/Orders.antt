@@ -30,7 +30,8 @@ pub record Issued : Type 0 where
   pub signature : List ℕ
   pub message : List ℕ
 
--- "An issued signature is the first 20 + 16 × l + 16 × h output bytes of a granted call, as that call left them; its own text is that call's text"
+-- "An issued signature is the first 20 + 16 × l + 16 × h output bytes of a granted call, as that call left them; its own text is that
+-- call's text"
 unfoldable pub signedBy : SigningKey → SigningCall → Issued
 signedBy key call =
     record {
@@ -42,9 +43,11 @@ signedBy key call =
 unfoldable pub issuedBy : SigningKey → SigningCall → List Issued
 issuedBy key call = cond (eqb (signCode key call) 0) (signedBy key call ∷ []) []
 
--- what the calls of a list give, the first at a state and each other at the state that the one before handed back, with `after` and `gives` for what a call
+-- what the calls of a list give, the first at a state and each other at the state that the one before handed back, with `after` and `gives`
+-- for what a call
 -- hands back and gives
-unfoldable pub givenAlong : {State Call Item : Type 0} → (after : State → Call → State) (gives : State → Call → List Item) → State → List Call → List Item
+unfoldable pub givenAlong : {State Call Item : Type 0} → (after : State → Call → State) (gives : State → Call → List Item) → State
+    → List Call → List Item
 givenAlong after gives s [] = []
 givenAlong after gives s (c ∷ calls) = gives s c ++ givenAlong after gives (after s c) calls
 
@@ -93,7 +96,8 @@ pub record Checked : Type 0 where
   pub call : VerifyingCall
   pub cabinet : Verifier
 
--- "Checked in the list's order, each with its own text": the checks of a run, one after another. "The cabinet goes from check to check in the
+-- "Checked in the list's order, each with its own text": the checks of a run, one after another. "The cabinet goes from check to check in
+-- the
 -- same way, refused checks included". Behind the last signature `next` is no check
 unfoldable pub checkedAlong : Verifier → List Issued → List Check → List Checked
 checkedAlong v signatures [] = []
@@ -124,10 +128,12 @@ abbrev pub AllAccepted : Shape → Verifier → List Issued → List Check → T
 AllAccepted shape v signatures checks =
     Every (CheckPremise shape) (checkedAlong v signatures checks) → Every (CheckHolds shape) (checkedAlong v signatures checks)
 
--- what demand 3 says of a list, for every list: "by a cabinet that starts fresh with that key's profile, public seed and root"; a profile names its edition, so document 02, point 6, is
+-- what demand 3 says of a list, for every list: "by a cabinet that starts fresh with that key's profile, public seed and root"; a profile
+-- names its edition, so document 02, point 6, is
 -- met too: "under either edition, the cabinet's being the key's"
 abbrev pub OrdersHold : Type 0
 OrdersHold =
     (p : Profile) (seed secret : List ℕ) (calls : List KeyCall)
     → NoLeafTwice (issued (freshKey p seed secret) calls)
-    × ((checks : List Check) → AllAccepted (p .shape) (freshVerifier p seed (rootOf (firstDomain seed) p secret)) (issued (freshKey p seed secret) calls) checks)
+    × ((checks : List Check) → AllAccepted (p .shape) (freshVerifier p seed (rootOf (firstDomain seed) p secret))
+    (issued (freshKey p seed secret) calls) checks)

@@ -1,5 +1,7 @@
--- Document 02, point 5: "At whichever step power fails, a restart from the stored frame with the mark cleared never signs a leaf twice, provided no older frame is put back and
--- no sign comes before its store has ended". One claim about every trace of a desk that reserves, stores and signs, and is cut off at any step.
+-- Document 02, point 5: "At whichever step power fails, a restart from the stored frame with the mark cleared never signs a leaf twice,
+-- provided no older frame is put back and
+-- no sign comes before its store has ended". One claim about every trace of a desk that reserves, stores and signs, and is cut off at any
+-- step.
 use mathlib.Core.Path.{_≡_}
 use mathlib.Core.Bool.{Bool, true, false, cond}
 use mathlib.Core.List.{List, [], _∷_, _++_, map, List·Permᴰ}
@@ -69,14 +71,26 @@ onceEnded ended = ended
 -- "Reserve marks the next leaf and advances the key": no store of that leaf has begun yet
 unfoldable pub afterReserve : Desk → Desk
 afterReserve d =
-    record { key = reservedKey (d .key); stored = d .stored; storing = d .storing; progress = cond (eqb (reserveCode (d .key .profile) (d .key .counter)) 0) unstored (d .progress) }
+    record {
+      key = reservedKey (d .key);
+      stored = d .stored;
+      storing = d .storing;
+      progress =
+          cond (eqb (reserveCode (d .key .profile) (d .key .counter)) 0) unstored (d .progress);
+    }
 
 -- "the desk stores the key": what Write key wrote, if it is granted. One store comes after another: none begins while one is in progress
 unfoldable pub afterBegin : Desk → (slice : List ℕ) → Storing → Desk
 afterBegin d slice (new frame) = d
 afterBegin d slice nothing =
     cond (eqb (writeKeyCode (d .key) slice) 0)
-    (record { key = d .key; stored = d .stored; storing = new (take (bytesWritten (d .key) slice) (frameAfter (d .key) slice)); progress = onceBegun (d .progress) })
+    (record {
+      key = d .key;
+      stored = d .stored;
+      storing = new (take (bytesWritten (d .key) slice) (frameAfter (d .key) slice));
+      progress =
+          onceBegun (d .progress);
+    })
     d
 
 unfoldable pub afterEnd : Desk → Storing → Desk
@@ -124,7 +138,13 @@ StoredFirst d steps = Along deskAfter InTurn d steps
 
 -- a desk with a fresh key, whose frame is stored
 abbrev pub freshDesk : Profile → (seed secret : List ℕ) → Desk
-freshDesk p seed secret = record { key = freshKey p seed secret; stored = storedKey (freshKey p seed secret); storing = nothing; progress = unstored }
+freshDesk p seed secret = record {
+  key = freshKey p seed secret;
+  stored = storedKey (freshKey p seed secret);
+  storing = nothing;
+  progress =
+      unstored;
+}
 
 -- "Hash values have 16 bytes", and so have seeds
 abbrev pub SeedBytes : List ℕ → Type 0
@@ -147,7 +167,8 @@ PowerCuts =
     → (steps : List Step) → StoredFirst (freshDesk p seed secret) steps
     → TraceHolds p seed secret (issuedAlong (freshDesk p seed secret) steps)
 
--- What a desk does for one order, in the document's words: "Reserve marks the next leaf and advances the key; the desk stores the key; sign uses the marked leaf". Whole, or cut
+-- What a desk does for one order, in the document's words: "Reserve marks the next leaf and advances the key; the desk stores the key; sign
+-- uses the marked leaf". Whole, or cut
 -- off behind the first n of these steps; the frame is written into a slice.
 pub data Round : Type 0 where
   wholeRound : (slice : List ℕ) → OrderCall → Round

@@ -1,4 +1,5 @@
-// The claims, over the definitions that the contracts cite. A function here does nothing: its contract is the claim, so that the crate is proved only with
+// The claims, over the definitions that the contracts cite. A function here does nothing: its contract is the claim, so that the crate is
+// proved only with
 // the claim as it is stated, in specs/ here or of the crate that has the definitions.
 ghost use Rattle.numbers.specs.Order.{HighestDecides};
 ghost use Rattle.sha256_block.specs.Constants.{RootWords};

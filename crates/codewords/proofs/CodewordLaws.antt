@@ -40,7 +40,8 @@ place-finds f (suc tries) j n within = by (lt-or-le n (f j)) (place-finds f trie
     limit = omega arith
 
     by : (n < f j) ⊎ (f j ≤ n)
-        → (sumTo f j + f j + (n - f j) < sumTo f (suc j + tries) → Found f (suc j) (suc j + tries) (sumTo f j + f j + (n - f j)) (place f tries (suc j) (n - f j)))
+        → (sumTo f j + f j + (n - f j) < sumTo f (suc j + tries)
+        → Found f (suc j) (suc j + tries) (sumTo f j + f j + (n - f j)) (place f tries (suc j) (n - f j)))
         → Found f j (j + suc tries) (sumTo f j + n) (place f (suc tries) j n)
     by (inl here) next =
         rw (place-here f (suc tries) j n here (omega arith)) (record { from = omega arith; below = omega arith; split = refl; holds = here })

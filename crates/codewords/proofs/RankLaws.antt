@@ -169,7 +169,8 @@ module _ {w s : ℕ} {row : List ℕ} (limits : (1 ≤ w) × (w ≤ 16) × (leng
       pub left-next : {r : List ℕ} → r ≡ toWords 5 (value n + sumTo (downFrom table ((length row - 1 - place) * (s + 1) + left)) (getD row place 0))
           → Left w s row (place + 1) (left - getD row place 0) r
       left-next e =
-          let number : value n + skipped ≡ rank w s row - rank w (left - getD row place 0) (drop (suc place) row) = omega (arith, rank-split, value-so-far, l .passed) in
+          let number : value n + skipped ≡ rank w s row - rank w (left - getD row place 0) (drop (suc place) row) = omega
+          (arith, rank-split, value-so-far, l .passed) in
           rw (add-one place)
           (record {
             inside = more;
@@ -248,4 +249,5 @@ module _ (p : Shape) (row work : List ℕ) {n m : ℕ} (counted : n ≡ firstCau
 
       pub rank-granted : {k : List ℕ} → o ≡ Granted → k ≡ toWords 5 (numberOf p row) → Ranks p row work left (record { outcome = o; number = k })
       unfolding rankCode
-      rank-granted granted ranked = let none : rankCode p row work ≡ 0 = sym code ∙ sym q ∙ ap outcomeCode granted in record { code = q ∙ code; ranked = rw none ranked; table = table-left }
+      rank-granted granted ranked = let none : rankCode p row work ≡ 0 = sym code ∙ sym q ∙ ap outcomeCode granted in
+          record { code = q ∙ code; ranked = rw none ranked; table = table-left }

@@ -1,4 +1,5 @@
--- An operation over the table: causes that are looked at first, then the table is filled past them, then 7 or 19 and what is left. What each way out answers and leaves.
+-- An operation over the table: causes that are looked at first, then the table is filled past them, then 7 or 19 and what is left. What each way out answers
+-- and leaves.
 use mathlib.Core.Path.{_≡_, refl, _∙_, ap, sym}
 use mathlib.Core.Bool.{Bool, true, false, _||_, not, cond, true≢false}
 use mathlib.Core.List.{List, _++_, append-assoc}

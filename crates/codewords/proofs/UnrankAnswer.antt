@@ -36,12 +36,14 @@ granted-below code p n e =
     (none, leb-false (count p) n (none-here (leb (count p) n) 7 [] refl (rw none at e) .0))
 
 -- granted so far, a codeword can be placed with the table that was filled
-pub placeable : {p : Shape} (work : List ℕ) {row left n : List ℕ} {code : ℕ} → InLimits p → p .chains ≤ length row → FillsPast code p work left n → code ≡ 0 → Placeable p n left row
+pub placeable : {p : Shape} (work : List ℕ) {row left n : List ℕ} {code : ℕ} → InLimits p → p .chains ≤ length row → FillsPast code p work left n → code ≡ 0
+    → Placeable p n left row
 placeable {p} work limits room fills none =
     record { limits = limits; counted = rw none at (fills .counted); held = table-held p work (rw none at (fills .table)); room = room }
 
 -- the causes before 7: those of Count, and the size of the row
-module _ (p : Shape) (work row : List ℕ) {n m : ℕ} (counted : n ≡ firstCause (countCauses p (length work))) (sized : m ≡ thenCode n (ltb (length row) (p .chains)) 6) where
+module _ (p : Shape) (work row : List ℕ) {n m : ℕ} (counted : n ≡ firstCause (countCauses p (length work)))
+    (sized : m ≡ thenCode n (ltb (length row) (p .chains)) 6) where
   abbrev first : List (Bool × ℕ)
   first = countCauses p (length work)
 
@@ -61,7 +63,8 @@ module _ (p : Shape) (work row : List ℕ) {n m : ℕ} (counted : n ≡ firstCau
   pub unrank-passed : n ≡ 0 → InLimits p × (tableLength p ≤ length work)
   unrank-passed none = count-passed p (length work) (sym counted ∙ none)
 
-  pub unrank-answers : {k : ℕ} {left row′ : List ℕ} {r : Outcome} → left ≡ cond (eqb m 0) (withTable p work) work → PlacesPast m p k row row′ r → Unranks p k work row left row′ r
+  pub unrank-answers : {k : ℕ} {left row′ : List ℕ} {r : Outcome} → left ≡ cond (eqb m 0) (withTable p work) work → PlacesPast m p k row row′ r
+      → Unranks p k work row left row′ r
   unfolding unrankCode
   unrank-answers {k} filled places =
       let seven : List (Bool × ℕ) = (leb (count p) k, 7) ∷ [] in

@@ -45,7 +45,8 @@ pub record IsCodeword (w l s : ℕ) (row : List ℕ) : Type 0 where
   pub lengths : IsRow w l row
   pub sum : total row ≡ s
 
--- "no chain in the first one's signature stands higher than the same chain in the second's", and document 02, point 13: "at most another at each place"
+-- "no chain in the first one's signature stands higher than the same chain in the second's", and document 02, point 13: "at most another at
+-- each place"
 abbrev pub AtMost : (l : ℕ) (xs ys : List ℕ) → Type 0
 AtMost l xs ys = (c : ℕ) → c < l → getD xs c 0 ≤ getD ys c 0
 

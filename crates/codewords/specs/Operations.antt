@@ -56,4 +56,5 @@ pub record Ranks (p : Shape) (row work work′ : List ℕ) (r : Ranked) : Type 0
 -- "Spread, number to row" and "Gather, row to number": each undoes the other
 pub record RankUnrank : Type 0 where
   pub ranked : (p : Shape) (n : ℕ) → n < count p → numberOf p (rowOf p n) ≡ n
-  pub unranked : (p : Shape) (row : List ℕ) → IsCodeword (p .width) (p .chains) (p .sum) row → (numberOf p row < count p) × (rowOf p (numberOf p row) ≡ row)
+  pub unranked : (p : Shape) (row : List ℕ) → IsCodeword (p .width) (p .chains) (p .sum) row → (numberOf p row < count p)
+      × (rowOf p (numberOf p row) ≡ row)

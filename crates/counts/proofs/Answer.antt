@@ -59,7 +59,8 @@ module _ (before after : List (Bool × ℕ)) (early : Avoids leavesTable before)
   table-past p work filled = filled ∙ rw leaves-past
 
 -- what Count answers
-pub counted : (p : Shape) (work : List ℕ) {o : Outcome} {left n : List ℕ} → outcomeCode o ≡ firstCause (countCauses p (length work)) → FillsPast (outcomeCode o) p work left n
+pub counted : (p : Shape) (work : List ℕ) {o : Outcome} {left n : List ℕ} → outcomeCode o ≡ firstCause (countCauses p (length work))
+    → FillsPast (outcomeCode o) p work left n
     → Counts p work left (record { outcome = o; count = n })
 unfolding countCode
 counted p work e fills =

@@ -3,7 +3,8 @@ use mathlib.Core.Path.{_≡_, refl, ap, _∙_}
 use mathlib.Core.Bool.{Bool, true, false, cond}
 use mathlib.Core.Logic.{_⊎_, inl, inr}
 use Prim.Native.Nat.{ℕ, zero, suc, _+_, _*_, _-_, _^_, _≤_, _<_, min, zero-le}
-use native.Mathlib.Nat.{le-refl, le-trans, le-of-eq, le-of-suc-le-suc, lt-of-le-of-lt, eq-or-lt-of-le, add-le-add, suc-mul, suc-sub-suc, sub-zero, pow-zero, pow-succ', pow-le-pow-left, pow-le-pow-right}
+use native.Mathlib.Nat.{le-refl, le-trans, le-of-eq, le-of-suc-le-suc, lt-of-le-of-lt, eq-or-lt-of-le, add-le-add, suc-mul, suc-sub-suc, sub-zero, pow-zero}
+use native.Mathlib.Nat.{pow-succ', pow-le-pow-left, pow-le-pow-right}
 use native.Mathlib.Numerals.{add-one}
 use native.Mathlib.Omega.{arith}
 use borrow.Author.Tests.{leb-true, le-leb, lt-leb}

@@ -26,7 +26,8 @@ module _ (w i t : ℕ) (one : 1 ≤ w) (narrow : w ≤ 16) (some : 0 < i) (few :
   lower = omega arith
 
   -- a number of the row above, read from a work slice that holds the rows above i
-  pub above : (s u : ℕ) (table : List ℕ) → take (5 * (i * (s + 1))) table ≡ rows w s i → u ≤ s → value (take 5 (drop (5 * ((i - 1) * (s + 1) + u)) table)) ≡ D w (i - 1) u
+  pub above : (s u : ℕ) (table : List ℕ) → take (5 * (i * (s + 1))) table ≡ rows w s i → u ≤ s
+      → value (take 5 (drop (5 * ((i - 1) * (s + 1) + u)) table)) ≡ D w (i - 1) u
   above s u table e h =
       ap value (cell-of w s i (i - 1) u table e (omega arith) (omega arith)) ∙ value-toWords-5 (D w (i - 1) u) (D-small w (i - 1) u one narrow (omega arith))
 

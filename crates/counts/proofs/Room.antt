@@ -1,4 +1,5 @@
--- What the causes of Count tell, and those of a profile with its table: where none holds, the shape is within its limits and the work slice has room for the table.
+-- What the causes of Count tell, and those of a profile with its table: where none holds, the shape is within its limits and the work slice has room for the
+-- table.
 use mathlib.Core.Path.{_≡_, refl, _∙_, sym}
 use mathlib.Core.Bool.{Bool, true, false, _||_}
 use mathlib.Core.Logic.{_⊎_, inl, inr}
@@ -41,13 +42,15 @@ module _ (p : Shape) (words : ℕ) where
 
       by : (low : Bool) → leb (words / 5 / (p .chains + 1)) (p .sum) ≡ low → low ≡ ltb words (5 * ((p .chains + 1) * (p .sum + 1)))
       by true test =
-          let below : words / 5 < (p .sum + 1) * (p .chains + 1) = div-lt-iff-lt-mul {k = p .chains + 1} (omega arith) .0 (omega (arith, leb-true (words / 5 / (p .chains + 1)) (p .sum) test)) in
+          let below : words / 5 < (p .sum + 1) * (p .chains + 1) = div-lt-iff-lt-mul {k = p .chains + 1} (omega arith) .0
+          (omega (arith, leb-true (words / 5 / (p .chains + 1)) (p .sum) test)) in
           sym (lt-ltb words (5 * ((p .chains + 1) * (p .sum + 1))) (omega (arith, rows-of)))
       by false test =
           sym (le-ltb words (5 * ((p .chains + 1) * (p .sum + 1))) (by-rows (lt-or-le (words / 5) ((p .sum + 1) * (p .chains + 1)))))
         where
           by-rows : (words / 5 < (p .sum + 1) * (p .chains + 1)) ⊎ ((p .sum + 1) * (p .chains + 1) ≤ words / 5) → 5 * ((p .chains + 1) * (p .sum + 1)) ≤ words
-          by-rows (inl low) = absurd (omega (arith, leb-false (words / 5 / (p .chains + 1)) (p .sum) test, div-lt-iff-lt-mul {k = p .chains + 1} (omega arith) .1 low))
+          by-rows (inl low) = absurd
+              (omega (arith, leb-false (words / 5 / (p .chains + 1)) (p .sum) test, div-lt-iff-lt-mul {k = p .chains + 1} (omega arith) .1 low))
           by-rows (inr high) = omega (arith, rows-of)
 
   -- none of the causes of Count leaves the table
@@ -83,7 +86,8 @@ module _ (p : Profile) (words : ℕ) where
   table-passed e =
       let none = none-of-append (profileCauses p) (short (p .shape) words) (profile-numbered p) e in
       let passed = profile-passed p (none .0) in
-      let counted : firstCause (countCauses (p .shape) words) ≡ 0 = none-then (shapeCauses (p .shape)) (short (p .shape) words) (passed .shaped) (shape-numbered (p .shape)) ∙ none .1 in
+      let counted : firstCause (countCauses (p .shape) words) ≡ 0 = none-then (shapeCauses (p .shape)) (short (p .shape) words) (passed .shaped)
+      (shape-numbered (p .shape)) ∙ none .1 in
       let fits = count-passed (p .shape) words counted in
       record { limits = fits .0; low = passed .low; room = fits .1 }
 

@@ -81,7 +81,8 @@ row-is w s (suc i) one t h =
     let all : length row ≡ suc s = length-row w s i in
     let before : (j : ℕ) → j < length row → getD row j 0 ≡ D w i j = λ j less. row-is w s i one j (omega arith) in
     rw (zero-add, share-start (D w (suc i)))
-    at (windows-are w i 0 row (zeros w ++ row) one (λ j less. rw zero-add (before j less)) (λ j less. rw zero-add (behind-zeros w (length row) (D w i) row before j less)) t (omega arith))
+    at (windows-are w i 0 row (zeros w ++ row) one (λ j less. rw zero-add (before j less))
+    (λ j less. rw zero-add (behind-zeros w (length row) (D w i) row before j less)) t (omega arith))
 
 computed : getD (rowTo 16 255 34) 255 0 ≡ 1287155674008337910149577743336952677632
 unfolding windows rowTo

@@ -29,7 +29,8 @@ cell-in f zero t more h = absurd (omega arith)
 cell-in f (suc n) t more h =
     rw append-assoc
     (⊎-elim
-    (λ e. rw e (ap (take 5) (drop-at (cells f n) (toWords 5 (f n) ++ more) (5 * n) (length-cells f n)) ∙ take-at (toWords 5 (f n)) more 5 (length-toWords 5 (f n))))
+    (λ e. rw e (ap (take 5) (drop-at (cells f n) (toWords 5 (f n) ++ more) (5 * n) (length-cells f n))
+    ∙ take-at (toWords 5 (f n)) more 5 (length-toWords 5 (f n))))
     (λ l. cell-in f n t (toWords 5 (f n) ++ more) l) (eq-or-lt-of-le (le-of-suc-le-suc h)))
 
 length-rows : (w s n : ℕ) → length (rows w s n) ≡ 5 * (n * (s + 1))
@@ -66,7 +67,8 @@ module _ (w s : ℕ) where
       ap (λ l. take 5 (drop (5 * (i * (s + 1) + t)) l)) (rows-split n table e) ∙ cell-row n i t (drop (5 * (n * (s + 1))) table) h k
 
   -- there is room for it
-  pub cell-within : (n : ℕ) (table : List ℕ) → take (5 * (n * (s + 1))) table ≡ rows w s n → (i t : ℕ) → i < n → t ≤ s → 5 * (i * (s + 1) + t) + 5 ≤ length table
+  pub cell-within : (n : ℕ) (table : List ℕ) → take (5 * (n * (s + 1))) table ≡ rows w s n → (i t : ℕ) → i < n → t ≤ s
+      → 5 * (i * (s + 1) + t) + 5 ≤ length table
   cell-within n table e i t above within =
       let long : 5 * (n * (s + 1)) ≤ length table = omega (arith, length-take (5 * (n * (s + 1))) table, ap length e, length-rows w s n) in
       omega (arith, suc-mul i (s + 1), mul-le-mul-right (s + 1) above)
@@ -93,7 +95,8 @@ module _ (w s : ℕ) where
       let e : k + 5 ≡ 5 * (i * (s + 1) + suc t) = omega arith in
       let all : take 5 n ≡ n = ap (λ m. take m n) (sym (length-toWords 5 (D w i t))) ∙ take-length n in
       let back : drop (k + 5) (front ++ drop k work) ≡ drop (5 * (i * (s + 1) + suc t)) work =
-      ap (λ m. drop (m + 5) (front ++ drop k work)) (sym (length-before i t)) ∙ drop-append-add front (drop k work) 5 ∙ drop-drop 5 k work ∙ ap (λ m. drop m work) e in
+      ap (λ m. drop (m + 5) (front ++ drop k work)) (sym (length-before i t)) ∙ drop-append-add front (drop k work) 5 ∙ drop-drop 5 k work
+      ∙ ap (λ m. drop m work) e in
       rw (take-at front (drop k work) k (length-before i t), all, back) (simp append-assoc)
 
   -- a turn of the loop that fills a row
@@ -103,7 +106,8 @@ module _ (w s : ℕ) where
   next-cell i t work table n next h e f g = g ∙ rw (e, f, add-one t) (cell-stored i t work h)
 
   -- a whole row is the next of the rows
-  pub row-ends : (i : ℕ) (work : List ℕ) → rows w s i ++ cells (D w i) (s + 1) ++ drop (5 * (i * (s + 1) + (s + 1))) work ≡ rows w s (i + 1) ++ drop (5 * ((i + 1) * (s + 1))) work
+  pub row-ends : (i : ℕ) (work : List ℕ) → rows w s i ++ cells (D w i) (s + 1) ++ drop (5 * (i * (s + 1) + (s + 1))) work ≡ rows w s (i + 1) ++ drop
+      (5 * ((i + 1) * (s + 1))) work
   unfolding rows
   row-ends i work = rw (row-end i s, add-one i)
 
@@ -121,7 +125,8 @@ module _ (w s : ℕ) where
   above-cell i t work table e = above-row i (cells (D w i) t ++ work) table (e ∙ append-assoc (rows w s i) (cells (D w i) t) work)
 
   -- rows filled over those above them leave what is behind both
-  pub rows-over : {i j : ℕ} → i ≤ j → (work : List ℕ) {table next : List ℕ} → table ≡ rows w s i ++ drop (5 * (i * (s + 1))) work → next ≡ rows w s j ++ drop (5 * (j * (s + 1))) table
+  pub rows-over : {i j : ℕ} → i ≤ j → (work : List ℕ) {table next : List ℕ} → table ≡ rows w s i ++ drop (5 * (i * (s + 1))) work
+      → next ≡ rows w s j ++ drop (5 * (j * (s + 1))) table
       → next ≡ rows w s j ++ drop (5 * (j * (s + 1))) work
   rows-over {i} {j} h work {table} e f =
       let more = j * (s + 1) - i * (s + 1) in

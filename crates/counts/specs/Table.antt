@@ -42,7 +42,8 @@ tableCauses p words = profileCauses p ++ ((ltb words (tableLength (p .shape)), 5
 unfoldable pub countCode : Shape → List ℕ → ℕ
 countCode p work = firstCause (countCauses p (length work))
 
--- "Every refusal leaves all lent slices untouched, except that 7 and 15 leave the table in the work slice, as every success with a work slice does"; document 02, point 3: 19 "with the table left in the work slice"
+-- "Every refusal leaves all lent slices untouched, except that 7 and 15 leave the table in the work slice, as every success with a work
+-- slice does"; document 02, point 3: 19 "with the table left in the work slice"
 abbrev pub leavesTable : (code : ℕ) → Bool
 leavesTable code = eqb code 0 || eqb code 7 || eqb code 15 || eqb code 19
 

@@ -60,7 +60,8 @@ value-less (x ∷ xs) (y ∷ ys) (suc i) words long above less =
 
 module _ (a b : List ℕ) (long-a : length a ≡ 5) (long-b : length b ≡ 5) (words-a : Below (2 ^ 32) a) (words-b : Below (2 ^ 32) b) where
   -- of two numbers whose words above i agree and whose words at i differ, these have the order of the values
-  at-difference : (i : ℕ) → i < 5 → drop (suc i) a ≡ drop (suc i) b → (getD a i 0 ≡ getD b i 0 → ⊥) → orderOf (getD a i 0) (getD b i 0) ≡ orderOf (value a) (value b)
+  at-difference : (i : ℕ) → i < 5 → drop (suc i) a ≡ drop (suc i) b → (getD a i 0 ≡ getD b i 0 → ⊥)
+      → orderOf (getD a i 0) (getD b i 0) ≡ orderOf (value a) (value b)
   at-difference i within above differ = by (lt-or-le (getD a i 0) (getD b i 0))
     where
       by : (getD a i 0 < getD b i 0) ⊎ (getD b i 0 ≤ getD a i 0) → orderOf (getD a i 0) (getD b i 0) ≡ orderOf (value a) (value b)

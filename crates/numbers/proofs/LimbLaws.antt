@@ -22,11 +22,13 @@ pub both-small : {first second : ℕ} → first ≤ 1 → second ≤ 1 → first
 both-small h k = omega arith
 
 -- two sums in turn
-pub carried : (a b carry sum first limb second : ℕ) → sum + 2 ^ 64 * first ≡ a + carry → limb + 2 ^ 64 * second ≡ sum + b → limb + 2 ^ 64 * (first + second) ≡ a + b + carry
+pub carried : (a b carry sum first limb second : ℕ) → sum + 2 ^ 64 * first ≡ a + carry → limb + 2 ^ 64 * second ≡ sum + b
+    → limb + 2 ^ 64 * (first + second) ≡ a + b + carry
 carried a b carry sum first limb second e f = omega arith
 
 -- the limb that is left of a, added again to what was taken off
-pub added-again : (a b borrow left limb sum over : ℕ) → sum < 2 ^ 64 → (left + b) % 2 ^ 64 ≡ a → (limb + borrow) % 2 ^ 64 ≡ left → sum + 2 ^ 64 * over ≡ limb + b + borrow
+pub added-again : (a b borrow left limb sum over : ℕ) → sum < 2 ^ 64 → (left + b) % 2 ^ 64 ≡ a → (limb + borrow) % 2 ^ 64 ≡ left
+    → sum + 2 ^ 64 * over ≡ limb + b + borrow
     → limb + b + borrow ≡ a + 2 ^ 64 * over
 added-again a b borrow left limb sum over h e f g = omega arith
 

@@ -113,7 +113,8 @@ value-shifted t [] few words = sym (zero-div (2 ^ t))
 value-shifted t (x ∷ xs) few words =
     let all = x + 2 ^ 32 * value xs in
     let upper : all / 2 ^ 32 ≡ value xs = value-upper x xs (words 0) in
-    let swapped : all / 2 ^ t / 2 ^ 32 ≡ value xs / 2 ^ t = shr-shr all t 32 ∙ ap (λ k. all / 2 ^ k) (add-comm t 32) ∙ sym (shr-shr all 32 t) ∙ ap (λ k. k / 2 ^ t) upper in
+    let swapped : all / 2 ^ t / 2 ^ 32 ≡ value xs / 2 ^ t = shr-shr all t 32 ∙ ap (λ k. all / 2 ^ k) (add-comm t 32) ∙ sym (shr-shr all 32 t)
+    ∙ ap (λ k. k / 2 ^ t) upper in
     rw (value-shifted t xs few (λ j. words (suc j)), ← window all (x + 2 ^ 32 * getD xs 0 0) t few (two-lowest x xs), ← swapped) (omega arith)
 
 pub value-shifted-5 : (t : ℕ) (n : List ℕ) {a b c d e : ℕ} → length n ≡ 5 → t < 32 → Below (2 ^ 32) n

@@ -41,8 +41,13 @@ pub from-append : (xs ys : List ℕ) → fromBytes (xs ++ ys) ≡ fromBytes xs *
 unfolding fromBytes
 from-append [] ys = omega arith
 from-append (b ∷ xs) ys =
-    rw
-    (length-append xs ys, pow-add 256 (length xs) (length ys), from-append xs ys, add-mul (b * 256 ^ length xs) (fromBytes xs) (256 ^ length ys), mul-assoc b (256 ^ length xs) (256 ^ length ys))
+    rw (
+      length-append xs ys,
+      pow-add 256 (length xs) (length ys),
+      from-append xs ys,
+      add-mul (b * 256 ^ length xs) (fromBytes xs) (256 ^ length ys),
+      mul-assoc b (256 ^ length xs) (256 ^ length ys),
+    )
     (omega arith)
 
 -- a byte more, of the number that the first i bytes are

@@ -40,4 +40,9 @@ first-bits-front b m bytes within enough below =
     let behind : 8 * k + (8 * m - b) ≡ 8 * length bytes - b = omega (arith, length-drop m bytes) in
     rw front
     (sym
-    (rw (← behind, ← shr-shr (fromBytes bytes) (8 * k) (8 * m - b), joined, high (fromBytes (take m bytes)) (8 * k) (from-below (drop m bytes) (below-drop 256 m bytes below)))))
+    (rw (
+      ← behind,
+      ← shr-shr (fromBytes bytes) (8 * k) (8 * m - b),
+      joined,
+      high (fromBytes (take m bytes)) (8 * k) (from-below (drop m bytes) (below-drop 256 m bytes below)),
+    )))

@@ -1,4 +1,5 @@
--- Numbers of several bytes, most significant byte first (document 01, Hashing and Sheet), and the first bits of bytes (document 02, point 3).
+-- Numbers of several bytes, most significant byte first (document 01, Hashing and Sheet), and the first bits of bytes (document 02, point
+-- 3).
 use mathlib.Core.List.{List, [], _∷_}
 use Prim.Native.Nat.{ℕ, zero, suc, _+_, _-_, _*_, _/_, _%_, _^_}
 use lib.ListN.{length}

@@ -3,7 +3,11 @@ use Prim.Native.Nat.{_<_}
 use lib.Dec.{lit<}
 use Rattle.refusal.specs.Code.{code}
 use Rattle.refusal.specs.declared.Refusal.{Refusal}
-use Rattle.refusal.specs.declared.Refusal.the-variants.{ChainCount, Width, Sum, Height, TableTooShort, OutputTooShort, NumberTooLarge, CodewordLength, DigitTooLarge, CodewordSum, LeafOutOfRange, KeySpent, SignatureLength, LeafPassed, RootDiffers, MessageLength, SheetLine, HashTooLong, CountTooSmall, NoMark, MarkStands, Edition, OrderCount, EndPlaces, LeafOrder, SiblingCount, LeafCount, ShareSum, DeskOutOfRange, ShareUsed, PlaceFilled, PlaceEmpty, ValueZero}
+use Rattle.refusal.specs.declared.Refusal.the-variants.{ChainCount, Width, Sum, Height, TableTooShort, OutputTooShort, NumberTooLarge, CodewordLength}
+use Rattle.refusal.specs.declared.Refusal.the-variants.{DigitTooLarge, CodewordSum, LeafOutOfRange, KeySpent, SignatureLength, LeafPassed, RootDiffers}
+use Rattle.refusal.specs.declared.Refusal.the-variants.{MessageLength, SheetLine, HashTooLong, CountTooSmall, NoMark, MarkStands, Edition, OrderCount}
+use Rattle.refusal.specs.declared.Refusal.the-variants.{EndPlaces, LeafOrder, SiblingCount, LeafCount, ShareSum, DeskOutOfRange, ShareUsed, PlaceFilled}
+use Rattle.refusal.specs.declared.Refusal.the-variants.{PlaceEmpty, ValueZero}
 
 pub code-positive : (r : Refusal) → 0 < code r
 code-positive ChainCount = lit< tt

@@ -5,7 +5,12 @@ use mathlib.Core.List.{List, [], _∷_}
 use Prim.Native.Nat.{ℕ}
 use lib.Dec.{eqb}
 use Rattle.refusal.specs.declared.Refusal.{Refusal}
-use Rattle.refusal.specs.declared.Refusal.the-variants.{ChainCount, Width, Sum, Height, TableTooShort, OutputTooShort, NumberTooLarge, CodewordLength, DigitTooLarge, CodewordSum, LeafOutOfRange, KeySpent, SignatureLength, LeafPassed, RootDiffers, MessageLength, SheetLine, HashTooLong, CountTooSmall, NoMark, MarkStands, Edition, OrderCount, EndPlaces, LeafOrder, SiblingCount, LeafCount, ShareSum, DeskOutOfRange, ShareUsed, PlaceFilled, PlaceEmpty, ValueZero}
+use Rattle.refusal.specs.declared.Refusal.the-variants.{ChainCount, Width, Sum, Height, TableTooShort, OutputTooShort, NumberTooLarge}
+use Rattle.refusal.specs.declared.Refusal.the-variants.{CodewordLength, DigitTooLarge, CodewordSum, LeafOutOfRange, KeySpent}
+use Rattle.refusal.specs.declared.Refusal.the-variants.{SignatureLength, LeafPassed, RootDiffers, MessageLength, SheetLine}
+use Rattle.refusal.specs.declared.Refusal.the-variants.{HashTooLong, CountTooSmall, NoMark, MarkStands, Edition, OrderCount}
+use Rattle.refusal.specs.declared.Refusal.the-variants.{EndPlaces, LeafOrder, SiblingCount, LeafCount, ShareSum, DeskOutOfRange}
+use Rattle.refusal.specs.declared.Refusal.the-variants.{ShareUsed, PlaceFilled, PlaceEmpty, ValueZero}
 use Rattle.refusal.specs.declared.Outcome.{Outcome}
 use Rattle.refusal.specs.declared.Outcome.the-variants.{Granted, Refused}
 

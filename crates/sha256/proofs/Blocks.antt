@@ -29,7 +29,8 @@ all-append v block bytes e =
 
 pub all-one : (v : HashWords) (block : List ℕ) → length block ≡ 64 → compressAll v block ≡ compress v block
 all-one v block e =
-    all-step v block (omega arith) ∙ rw (← e, take-length) (all-short (compress v block) (drop (length block) block) (omega (arith, length-drop (length block) block)))
+    all-step v block (omega arith) ∙ rw (← e, take-length)
+    (all-short (compress v block) (drop (length block) block) (omega (arith, length-drop (length block) block)))
 
 pub rest-short : (bytes : List ℕ) → length bytes < 64 → rest bytes ≡ bytes ++ replicate (64 - length bytes) 0
 unfolding rest

@@ -27,7 +27,12 @@ module _ (s : Hash) (bytes : List ℕ) (e : length (pending s) ≡ s .total % 64
 
   -- the bytes fill the block, and go on behind it
   past-block : (first : List ℕ) → 64 ≤ s .total % 64 + length bytes → first ≡ pending s ++ take (64 - s .total % 64) bytes
-      → record { words = compressAll (compress (s .words) first) (drop (64 - s .total % 64) bytes); block = rest (drop (64 - s .total % 64) bytes); total = s .total + length bytes } ≡ extended s bytes
+      → record {
+        words = compressAll (compress (s .words) first) (drop (64 - s .total % 64) bytes);
+        block = rest (drop (64 - s .total % 64) bytes);
+        total =
+            s .total + length bytes;
+      } ≡ extended s bytes
   unfolding extended
   past-block first h q =
       let room = 64 - s .total % 64 in

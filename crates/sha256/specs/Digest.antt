@@ -6,7 +6,8 @@ use Rattle.octets.specs.Bytes.{toBytes}
 use Rattle.sha256_block.specs.Compression.{compress, initial}
 use Rattle.sha256_block.specs.declared.compression.HashWords.{HashWords}
 
--- 5.1.1, for n bytes: the bit 1 and seven bits 0, then the fewest zero bytes that leave 8 bytes to the end of a block, then the 8-byte number of bits
+-- 5.1.1, for n bytes: the bit 1 and seven bits 0, then the fewest zero bytes that leave 8 bytes to the end of a block, then the 8-byte
+-- number of bits
 unfoldable pub padding : ℕ → List ℕ
 padding n = 128 ∷ replicate ((119 - n % 64) % 64) 0 ++ toBytes 8 (8 * n)
 

@@ -71,4 +71,5 @@ joined (bytes ∷ more) = bytes ++ joined more
 
 -- start, any list of granted adds and finish give the digest of the bytes joined
 abbrev pub RunningHash : Type 0
-RunningHash = (parts : List (List ℕ)) → AllGranted started parts → wordBytes (finished (addAll started parts) .words) ≡ digest (joined parts)
+RunningHash = (parts : List (List ℕ)) → AllGranted started parts
+    → wordBytes (finished (addAll started parts) .words) ≡ digest (joined parts)

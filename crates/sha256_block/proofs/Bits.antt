@@ -85,10 +85,12 @@ vote-last : (x y z : ℕ) → vote x y z % 2 ≡ vote (x % 2) (y % 2) (z % 2)
 vote-last x y z = xor-mod y (bitAnd (bitXor x y) (bitXor y z)) 1 ∙ rw (and-mod (bitXor x y) (bitXor y z) 1, xor-mod x y 1, xor-mod y z 1)
 
 most-half : (x y z : ℕ) → most x y z / 2 ≡ most (x / 2) (y / 2) (z / 2)
-most-half x y z = xor-shr (bitXor (bitAnd x y) (bitAnd x z)) (bitAnd y z) 1 ∙ rw (xor-shr (bitAnd x y) (bitAnd x z) 1, and-shr x y 1, and-shr x z 1, and-shr y z 1)
+most-half x y z = xor-shr (bitXor (bitAnd x y) (bitAnd x z)) (bitAnd y z) 1
+    ∙ rw (xor-shr (bitAnd x y) (bitAnd x z) 1, and-shr x y 1, and-shr x z 1, and-shr y z 1)
 
 most-last : (x y z : ℕ) → most x y z % 2 ≡ most (x % 2) (y % 2) (z % 2)
-most-last x y z = xor-mod (bitXor (bitAnd x y) (bitAnd x z)) (bitAnd y z) 1 ∙ rw (xor-mod (bitAnd x y) (bitAnd x z) 1, and-mod x y 1, and-mod x z 1, and-mod y z 1)
+most-last x y z = xor-mod (bitXor (bitAnd x y) (bitAnd x z)) (bitAnd y z) 1
+    ∙ rw (xor-mod (bitAnd x y) (bitAnd x z) 1, and-mod x y 1, and-mod x z 1, and-mod y z 1)
 
 -- (4.3) on words of k digits
 pub majority : (k x y z : ℕ) → x < 2 ^ k → y < 2 ^ k → vote x y z ≡ most x y z

@@ -10,7 +10,8 @@ use lib.Dec.{leb}
 use lib.ListN.{length, getD, take, length-map, List·getD-map}
 use lib.Seq.{length-take-le, getD-take}
 use Rattle.lists.proofs.Lists.{Below, below-by-test}
-use Rattle.sha256_block.specs.Constants.{hasDivisor, isPrime, primesFrom, primes, IsPrime, IsWholeRoot, IsRootWord, rootFrom, wholeRoot, rootWord, roundWords, initialWords, FirstPrimes, RootWords}
+use Rattle.sha256_block.specs.Constants.{hasDivisor, isPrime, primesFrom, primes, IsPrime, IsWholeRoot, IsRootWord, rootFrom, wholeRoot, rootWord}
+use Rattle.sha256_block.specs.Constants.{roundWords, initialWords, FirstPrimes, RootWords}
 use Rattle.sha256_block.proofs.Primes.{PrimesFrom, primes-rise, each-prime, rising-primes, none-missed}
 
 -- the search keeps r^e ≤ n < (r + 2^b)^e while b falls

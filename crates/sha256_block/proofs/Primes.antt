@@ -84,6 +84,7 @@ none-missed n (suc k) q low high p =
     (eq-or-lt-of-le low)
   where
     later : (t : Bool) → (i : ℕ) × (i < length (primesFrom (suc n) k)) × (getD (primesFrom (suc n) k) i 0 ≡ q)
-        → (i : ℕ) × (i < length (cond t (n ∷ primesFrom (suc n) k) (primesFrom (suc n) k))) × (getD (cond t (n ∷ primesFrom (suc n) k) (primesFrom (suc n) k)) i 0 ≡ q)
+        → (i : ℕ) × (i < length (cond t (n ∷ primesFrom (suc n) k) (primesFrom (suc n) k)))
+        × (getD (cond t (n ∷ primesFrom (suc n) k) (primesFrom (suc n) k)) i 0 ≡ q)
     later true found = (suc (found .0), omega (arith, found .1), found .2)
     later false found = found

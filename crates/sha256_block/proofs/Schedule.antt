@@ -106,4 +106,5 @@ module _ (ws : List ℕ) (sixteen : length ws ≡ 16) where
       let all = extend 48 ws in
       let rest = drop t all in
       let long : length (take 16 rest) ≡ 16 = length-part all t 16 (omega (arith, length-extend 48 ws)) in
-      ap (drop 16) (extend-part t 16 (omega arith) ∙ take-add 16 16 rest) ∙ drop-at (take 16 rest) (take 16 (drop 16 rest)) 16 long ∙ ap (take 16) (drop-drop 16 t all)
+      ap (drop 16) (extend-part t 16 (omega arith) ∙ take-add 16 16 rest) ∙ drop-at (take 16 rest) (take 16 (drop 16 rest)) 16 long
+      ∙ ap (take 16) (drop-drop 16 t all)

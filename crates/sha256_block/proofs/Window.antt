@@ -31,7 +31,8 @@ module _ (ws : List ℕ) (sixteen : length ws ≡ 16) where
           let n = i + k - 16 in
           let e : k ≡ length (drop i ws) + n = omega (arith, length-drop i ws) in
           let f : n ≡ (i + k) % 16 = omega arith in
-          ap (λ m. getD (drop i ws ++ take i ws) m 0) e ∙ getD-append-add (drop i ws) (take i ws) n 0 ∙ getD-take i ws n 0 (omega arith) ∙ ap (λ m. getD ws m 0) f
+          ap (λ m. getD (drop i ws ++ take i ws) m 0) e ∙ getD-append-add (drop i ws) (take i ws) n 0 ∙ getD-take i ws n 0 (omega arith)
+          ∙ ap (λ m. getD ws m 0) f
 
   -- the next word from the sums that the code forms one by one
   pub next-made : {i s₁ x s₀ y r : ℕ} → i < 16 → s₁ ≡ σ₁ (getD ws ((i + 14) % 16) 0) → x ≡ s₁ ⊞ getD ws ((i + 9) % 16) 0
@@ -54,8 +55,16 @@ module _ (ws : List ℕ) (sixteen : length ws ≡ 16) where
       let whole : ws ++ new ≡ all = ap (λ l. l ++ new) (sym (first-words ws sixteen i)) ∙ take-append-drop 16 all in
       let order : old ++ new ≡ drop i all = sym (drop-append-le i ws new (omega arith)) ∙ ap (drop i) whole in
       let places : i + 16 ≡ length all = omega arith in
-      let word : nextWord 16 (old ++ new) ≡ nextWord (length all) all = ap (nextWord 16) order ∙ next-of-drop 16 i all (omega arith) ∙ ap (λ k. nextWord k all) places in
-      rw (drop-at new old i count, take-at new old i count, word, drop-cons ws i 0 (omega arith), drop-append-le 16 all (nextWord (length all) all ∷ []) (omega arith), append-assoc)
+      let word : nextWord 16 (old ++ new) ≡ nextWord (length all) all = ap (nextWord 16) order ∙ next-of-drop 16 i all (omega arith)
+      ∙ ap (λ k. nextWord k all) places in
+      rw (
+        drop-at new old i count,
+        take-at new old i count,
+        word,
+        drop-cons ws i 0 (omega arith),
+        drop-append-le 16 all (nextWord (length all) all ∷ []) (omega arith),
+        append-assoc,
+      )
       (set-at new (getD ws i 0) rest (nextWord (length all) all) i count)
 
   -- no word of sixteen stands behind them

@@ -69,7 +69,8 @@ pub record FirstPrimes (k : ℕ) (ps : List ℕ) : Type 0 where
   pub rising : (i j : ℕ) → i < j → j < k → getD ps i 0 < getD ps j 0
   pub none-missed : (q : ℕ) → IsPrime q → q ≤ getD ps (k - 1) 0 → (i : ℕ) × (i < k) × (getD ps i 0 ≡ q)
 
--- 4.2.2: "the first thirty-two bits of the fractional parts of the cube roots of the first sixty-four prime numbers"; 5.3.3: "the first thirty-two bits of the
+-- 4.2.2: "the first thirty-two bits of the fractional parts of the cube roots of the first sixty-four prime numbers"; 5.3.3: "the first
+-- thirty-two bits of the
 -- fractional parts of the square roots of the first eight prime numbers"
 pub record RootWords : Type 0 where
   pub first-primes : FirstPrimes 64 primes

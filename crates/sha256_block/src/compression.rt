@@ -213,7 +213,8 @@ fn round_at(v: HashWords, table: &[u32; 64], t: usize, ws: &[u32; 16], i: usize)
 // Rounds `t` to `t + 15`. Written out, so that no round moves the working variables.
 fn sixteen_rounds(v: HashWords, table: &[u32; 64], t: usize, ws: &[u32; 16]) -> HashWords
     requires { ⌜ (now table ≡ roundWords) × (t + 16 ≤ 64) ⌝ }
-    ensures { λ r. ⌜ ((v₀ : HashWords) (all : List ℕ) → v ≡ spec.rounds t v₀ all → now (ws .entry) ≡ take 16 (drop t all) → r ≡ spec.rounds (t + 16) v₀ all) ⌝ }
+    ensures { λ r. ⌜ ((v₀ : HashWords) (all : List ℕ) → v ≡ spec.rounds t v₀ all → now (ws .entry) ≡ take 16 (drop t all)
+        → r ≡ spec.rounds (t + 16) v₀ all) ⌝ }
 {
     let v1 = round_at(v, table, t, ws, 0);
     let v2 = round_at(v1, table, t, ws, 1);

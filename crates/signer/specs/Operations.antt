@@ -27,7 +27,8 @@ pub record SigningCall : Type 0 where
 -- "16 order text empty or over 200 bytes; 6 (20 + 16 × l + 16 × h)", and "20 when sign finds no mark, in 12's place"
 abbrev pub signCauses : SigningKey → (text bytes : ℕ) → List (Bool × ℕ)
 signCauses key text bytes =
-    (outsideText text, 16) ∷ (ltb bytes (signatureLength (key .profile)), 6) ∷ (not (markCounts (2 ^ key .profile .height) (key .counter)), 20) ∷ []
+    (outsideText text, 16) ∷ (ltb bytes (signatureLength (key .profile)), 6)
+    ∷ (not (markCounts (2 ^ key .profile .height) (key .counter)), 20) ∷ []
 
 -- "profile checks, 5; 16 …; 6 …; 12 …; 7", with 20 "in 12's place" and 19 "in 7's place"
 unfoldable pub signCode : SigningKey → SigningCall → ℕ

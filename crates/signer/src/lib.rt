@@ -91,7 +91,8 @@ fn make_signature(
     requires { ⌜ InLimits (p .shape) × (p .height ≤ 10) ⌝ }
     ensures { λ made. ⌜
         take (signatureLength p) made
-        ≡ joinedParts leaf r (revealed (hasher .domain) (chainsOf (p .shape)) (now (secret .entry)) leaf row) (take (16 * p .height) siblings)
+        ≡ joinedParts leaf r (revealed (hasher .domain) (chainsOf (p .shape)) (now (secret .entry)) leaf row)
+        (take (16 * p .height) siblings)
         ⌝ }
 {
     let shape = p.shape;

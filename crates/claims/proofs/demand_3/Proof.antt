@@ -12,8 +12,13 @@ returns c =
     record {
       incomparable = λ p m n. incomparable (p .width) (p .chains) (p .sum) m n;
       complete = λ p row valid.
-          let found = complete (p .width) (p .chains) (p .sum) row valid in
-          (found .0, found .1, found .2, λ m below same. codeword-injective (p .width) (p .chains) (p .sum) m (found .0) below (found .1) (same ∙ sym (found .2)));
+          let found = complete (p .width) (p .chains) (p .sum) row valid in (
+            found .0,
+            found .1,
+            found .2,
+            λ m below same. codeword-injective (p .width) (p .chains) (p .sum) m (found .0) below (found .1)
+                (same ∙ sym (found .2)),
+          );
       orders = λ p seed secret calls. (issued-once p seed secret calls, issued-accepted p seed secret calls);
     }
 

@@ -16,8 +16,14 @@ returns : tie.Need-returns
 unfolding seedBlock
 returns c =
     let begun = c .before .before in
-    let written = begun .before .before in
-    (refl, record { long = seed-long (written .before .before .before); words = c .compress .ensures ∙ rw (begun .initial .ensures, written .write-16 .ensures) })
+    let written = begun .before .before in (
+      refl,
+      record {
+        long = seed-long (written .before .before .before);
+        words = c .compress .ensures
+            ∙ rw (begun .initial .ensures, written .write-16 .ensures);
+      },
+    )
 
 pub seeded-spec : {M : Type 1} → statement M
 seeded-spec =

@@ -45,10 +45,14 @@ recover-root-requires c κs =
     let begin = start known in
     let s = now (begin .args .signature) in
     let l = begin .args .v .profile .shape .chains in
-    let room : (16 * l ≤ length (take (20 + 16 * l - 20) (drop 20 s))) × (16 * begin .args .v .profile .height ≤ length (take (length s - (20 + 16 * l)) (drop (20 + 16 * l) s))) =
+    let room : (16 * l ≤ length (take (20 + 16 * l - 20) (drop 20 s)))
+    × (16 * begin .args .v .profile .height ≤ length (take (length s - (20 + 16 * l)) (drop (20 + 16 * l) s))) =
     rw (all-values l, rest (20 + 16 * l) s, length-drop (20 + 16 * l) s, length-take-le (16 * l) (drop 20 s) (omega (arith, begin .pre, length-drop 20 s)))
-    (omega arith, omega (arith, begin .pre)) in
-    (known .before .first-hasher .ensures .1, rw (made known .chains-of .ensures) (chains-fit (begin .args .v .profile .shape) (begin .pre .0), room .0, room .1))
+    (omega arith, omega (arith, begin .pre)) in (
+      known .before .first-hasher .ensures .1,
+      rw (made known .chains-of .ensures)
+          (chains-fit (begin .args .v .profile .shape) (begin .pre .0), room .0, room .1),
+    )
 
 returns : tie.Need-returns
 unfolding valuesIn siblingsIn

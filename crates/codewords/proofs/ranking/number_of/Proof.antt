@@ -46,7 +46,8 @@ skip-requires c κs =
     let table = now (a .table) in
     let more = c .before .loop-test .taken in
     let inv = at-loop .loop .inv in
-    let room = cell-within (a .width) (a .sum) (chains + 1) table (start .pre .1 .1) (chains - 1 - at-loop .loop .place) (at-loop .loop .left) (omega arith) (inv .most) in (
+    let room = cell-within (a .width) (a .sum) (chains + 1) table (start .pre .1 .1) (chains - 1 - at-loop .loop .place) (at-loop .loop .left) (omega arith)
+    (inv .most) in (
       (number-words (start .pre .0) (start .pre .1 .0) more inv, omega (arith, within (c .before)), room),
       skipped-small (start .pre .0) (start .pre .1 .0) more inv table (start .pre .1 .1),
     )
@@ -58,7 +59,8 @@ loop-again : tie.Need-loop-again Inv-loop μ-loop
 loop-again c =
     let at-loop = c .before .before .before in
     let start = at-loop .before .before .before in
-    left-next (start .pre .0) (start .pre .1 .0) (c .before .before .loop-test .taken) (at-loop .loop .inv) (now (start .args .table)) (start .pre .1 .1) (c .skip .ensures)
+    left-next (start .pre .0) (start .pre .1 .0) (c .before .before .loop-test .taken) (at-loop .loop .inv) (now (start .args .table)) (start .pre .1 .1)
+    (c .skip .ensures)
 
 returns : tie.Need-returns Inv-loop μ-loop
 returns c = left-ends (c .loop-test .left) (c .before .loop .inv)

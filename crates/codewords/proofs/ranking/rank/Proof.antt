@@ -26,7 +26,8 @@ abbrev outcome : tie.After-enum-told2 → tie.After-rank-outcome
 outcome g = filled g .before .before
 
 none : (g : tie.After-enum-told2)
-    → (firstCause (countCauses (start (outcome g) .args .p) (length (now (start (outcome g) .args .table)))) ≡ 0) × (firstCause (rowCauses (start (outcome g) .args .p) (now (start (outcome g) .args .row))) ≡ 0)
+    → (firstCause (countCauses (start (outcome g) .args .p) (length (now (start (outcome g) .args .table)))) ≡ 0)
+    × (firstCause (rowCauses (start (outcome g) .args .p) (now (start (outcome g) .args .row))) ≡ 0)
 none g =
     let o = outcome g in
     let a = start o .args in
@@ -45,7 +46,8 @@ returns c =
     let table = c .before .before .before .before in
     let o = table .before .before in
     let a = start o .args in
-    rank-refused (a .p) (now (a .row)) (now (a .table)) (o .before .count-outcome .ensures) (o .rank-outcome .ensures) (table .fill-past .ensures .table) refl (c .enum-told .given .1)
+    rank-refused (a .p) (now (a .row)) (now (a .table)) (o .before .count-outcome .ensures) (o .rank-outcome .ensures) (table .fill-past .ensures .table) refl
+    (c .enum-told .given .1)
 
 number-of-requires : tie.Need-number-of-requires
 unfolding Holds tableLength
@@ -64,7 +66,8 @@ returns-2 c =
     let g = c .before .before .before .before in
     let o = outcome g in
     let a = start o .args in
-    rank-granted (a .p) (now (a .row)) (now (a .table)) (o .before .count-outcome .ensures) (o .rank-outcome .ensures) (filled g .fill-past .ensures .table) refl (g .enum-told2 .given .1) (c .number-of .ensures)
+    rank-granted (a .p) (now (a .row)) (now (a .table)) (o .before .count-outcome .ensures) (o .rank-outcome .ensures)
+    (filled g .fill-past .ensures .table) refl (g .enum-told2 .given .1) (c .number-of .ensures)
 
 pub rank-spec : {M : Type 1} → statement M
 rank-spec =

@@ -35,7 +35,8 @@ loop-again c =
     let start = at-loop .before .before in
     let a = start .args in (
       omega arith,
-      skip-next (a .number) (downFrom (now (a .table)) (a .above)) (omega arith) (start .pre .1) _ (at-loop .loop .inv .1) (ap value (loaded .load .ensures)) (c .add .ensures),
+      skip-next (a .number) (downFrom (now (a .table)) (a .above)) (omega arith) (start .pre .1) _ (at-loop .loop .inv .1) (ap value (loaded .load .ensures))
+          (c .add .ensures),
     )
 
 returns : tie.Need-returns Inv-loop μ-loop

@@ -27,7 +27,8 @@ returns c =
     let at-loop = c .before .before .before in
     let row = now (at-loop .before .args .row) in
     let i = at-loop .loop .i in
-    sum-other row (at-loop .before .args .sum) (at-loop .loop .left) (total (drop i row)) (at-loop .loop .inv .1) (omega (arith, total-later row i (omega arith)))
+    sum-other row (at-loop .before .args .sum) (at-loop .loop .left) (total (drop i row)) (at-loop .loop .inv .1)
+    (omega (arith, total-later row i (omega arith)))
 
 loop-again : tie.Need-loop-again Inv-loop μ-loop
 loop-again c =

@@ -14,10 +14,12 @@ use Rattle.codewords.proofs.unranking.place_past.Tie as tie
 abbrev start : tie.After-then → tie.Start
 start t = t .before .before .before .before
 
-answer : (t : tie.After-then) → outcomeCode (t .then .result) ≡ thenCode (outcomeCode (start t .args .early)) (leb (count (start t .args .p)) (value (start t .args .number))) 7
+answer : (t : tie.After-then) → outcomeCode (t .then .result) ≡ thenCode (outcomeCode (start t .args .early))
+    (leb (count (start t .args .p)) (value (start t .args .number))) 7
 answer t =
     t .then .ensures
-    ∙ then-means 7 (λ none. let ready = start t .pre none in not-below _ _ (t .before .less .ensures) (count-value (start t .args .p) (ready .limits) (ready .counted)))
+    ∙ then-means 7 (λ none. let ready = start t .pre none in
+    not-below _ _ (t .before .less .ensures) (count-value (start t .args .p) (ready .limits) (ready .counted)))
 
 write-codeword-requires : tie.Need-write-codeword-requires
 write-codeword-requires c κs =

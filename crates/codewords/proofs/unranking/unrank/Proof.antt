@@ -24,7 +24,8 @@ returns c =
     let filled = placed .before .before .before .before .before in
     let early = filled .before .before in
     let a = start early .args in
-    unrank-answers (a .p) (now (a .table)) (now (a .row)) (early .before .count-outcome .ensures) (early .then .ensures) (filled .fill-past .ensures .table) (placed .place-past .ensures)
+    unrank-answers (a .p) (now (a .table)) (now (a .row)) (early .before .count-outcome .ensures) (early .then .ensures) (filled .fill-past .ensures .table)
+    (placed .place-past .ensures)
 
 place-past-requires : tie.Need-place-past-requires
 place-past-requires c κs =

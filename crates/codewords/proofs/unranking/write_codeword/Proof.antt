@@ -1,4 +1,5 @@
--- `codewords::unranking::write_codeword` meets its contract. The outer invariant: the lengths written and the codeword of what is left make the whole. The inner one: the shares skipped and the number left make the number.
+-- `codewords::unranking::write_codeword` meets its contract. The outer invariant: the lengths written and the codeword of what is left make the whole. The
+-- inner one: the shares skipped and the number left make the number.
 use mathlib.Core.Path.{_≡_, refl, _∙_, ap, sym}
 use mathlib.Core.List.{append-nil, _++_}
 use Prim.Native.Nat.{_^_, ℕ, suc, _+_, _-_, _*_, _≤_, _<_}
@@ -25,13 +26,15 @@ use Rattle.codewords.proofs.unranking.write_codeword.Tie as tie
 
 abbrev Inv-loop2 : tie.InvT-loop2
 Inv-loop2 table row chains width sum n₀ left place above j₀ n j = (sumTo (share (D width (chains - 1 - place)) left) j + value n ≡ value n₀)
-    × (search-from (share (D width (chains - 1 - place)) left) (width - j) j (value n) ≡ search-from (share (D width (chains - 1 - place)) left) width 0 (value n₀))
+    × (search-from (share (D width (chains - 1 - place)) left) (width - j) j (value n) ≡ search-from (share (D width (chains - 1 - place)) left) width 0
+    (value n₀))
 
 abbrev μ-loop2 : tie.MeasureT-loop2
 μ-loop2 table row chains width sum n₀ left place above j₀ n j = width - j
 
 abbrev Inv-loop : tie.InvT-loop
-Inv-loop table row₀ chains width sum n₀ left₀ place₀ row n left place = (place ≤ chains) × (left ≤ sum) × (length row ≡ length row₀) × (value n < D width (chains - place) left)
+Inv-loop table row₀ chains width sum n₀ left₀ place₀ row n left place = (place ≤ chains) × (left ≤ sum) × (length row ≡ length row₀)
+    × (value n < D width (chains - place) left)
     × (take place row ++ codeword width (chains - place) left (value n) ≡ codeword width chains sum (value n₀)) × (drop place row ≡ drop place row₀)
 
 abbrev μ-loop : tie.MeasureT-loop
@@ -44,7 +47,8 @@ Begin = tie.Start Inv-loop2 μ-loop2 Inv-loop μ-loop
 limits : (s : Begin) → (1 ≤ s .args .p .width) × (s .args .p .width ≤ 16) × (s .args .p .chains ≤ 40) × (s .args .p .sum ≤ 600)
 limits s = let h = s .pre .0 in (omega (arith, h .wide), h .narrow, h .few-chains, sum-small (s .args .p) h)
 
-table-is : (s : Begin) → take (5 * ((s .args .p .chains + 1) * (s .args .p .sum + 1))) (now (s .args .table)) ≡ rows (s .args .p .width) (s .args .p .sum) (s .args .p .chains + 1)
+table-is : (s : Begin) → take (5 * ((s .args .p .chains + 1) * (s .args .p .sum + 1))) (now (s .args .table)) ≡ rows (s .args .p .width) (s .args .p .sum)
+    (s .args .p .chains + 1)
 unfolding Holds tableLength
 table-is s = s .pre .1 .0
 
@@ -60,7 +64,8 @@ abbrev places : Search → ℕ
 places q = start q .args .p .chains - 1 - q .before .before .loop .place
 
 -- the number lies in one of the shares
-number-below : (q : Search) → value (q .before .before .loop .n) < sumTo (share (D (start q .args .p .width) (places q)) (q .before .before .loop .left)) (start q .args .p .width)
+number-below : (q : Search) → value (q .before .before .loop .n) < sumTo (share (D (start q .args .p .width) (places q)) (q .before .before .loop .left))
+    (start q .args .p .width)
 unfolding D
 number-below q =
     rw (one-more (start q .args .p .chains) (q .before .before .loop .place) (q .before .loop-test .taken)) at (q .before .before .loop .inv .3)
@@ -102,7 +107,8 @@ small q =
 
 -- the length found is that of the definition
 found-here : (c : tie.Then1 Inv-loop2 μ-loop2 Inv-loop μ-loop)
-    → search-from (share (D (start (c .before .before .before) .args .p .width) (places (c .before .before .before))) (c .before .before .before .before .before .loop .left))
+    → search-from (share (D (start (c .before .before .before) .args .p .width) (places (c .before .before .before)))
+    (c .before .before .before .before .before .loop .left))
     (start (c .before .before .before) .args .p .width) 0 (value (c .before .before .before .before .before .loop .n))
     ≡ record { digit = c .before .before .before .loop2 .j; number = value (c .before .before .before .loop2 .n) }
 found-here c =
@@ -160,8 +166,10 @@ loop2-again c =
     let h = limits (start q) in
     let f = share (D w (places q)) (q .before .before .loop .left) in
     let test = sym (c .before .before .less .ensures) ∙ c .before .if1 .left in
-    let more = too-small w (places q) (q .before .before .loop .left) (q .loop2 .j) (h .0) (h .1) (few q) (placing q .1) (q .loop2 .n) _ (share-read loaded) test in
-    let off = taken-off w (places q) (q .before .before .loop .left) (q .loop2 .j) (h .0) (h .1) (few q) (placing q .1) (q .loop2 .n) _ (share-read loaded) _ (small q) (c .subtract .ensures) in (
+    let more = too-small w (places q) (q .before .before .loop .left) (q .loop2 .j) (h .0) (h .1) (few q) (placing q .1) (q .loop2 .n) _
+    (share-read loaded) test in
+    let off = taken-off w (places q) (q .before .before .loop .left) (q .loop2 .j) (h .0) (h .1) (few q) (placing q .1) (q .loop2 .n) _ (share-read loaded) _
+    (small q) (c .subtract .ensures) in (
       rw off (skipped f w (q .loop2 .j) (value (q .loop2 .n)) (placing q .0) more ∙ q .loop2 .inv .0),
       rw off (sym (searched f w (q .loop2 .j) (value (q .loop2 .n)) (placing q .0) more) ∙ q .loop2 .inv .1),
     )
@@ -187,7 +195,8 @@ loop-again c =
       less-left (l .left) (q .loop2 .j) (l .inv .1),
       simp length-set (l .inv .2),
       rw behind (number-next (p .width) (places q) (l .left) (value (l .n)) (q .loop2 .j) (value (q .loop2 .n)) e (rw here at (l .inv .3))),
-      rw behind (row-next (p .width) (places q) (l .left) (value (l .n)) (q .loop2 .j) (value (q .loop2 .n)) e (l .row) _ (l .place) (omega (arith, start q .pre .1 .1 .1, l .inv .2)) (rw here at (l .inv .4))),
+      rw behind (row-next (p .width) (places q) (l .left) (value (l .n)) (q .loop2 .j) (value (q .loop2 .n)) e (l .row) _ (l .place)
+          (omega (arith, start q .pre .1 .1 .1, l .inv .2)) (rw here at (l .inv .4))),
       behind-next (l .row) (now (start q .args .row)) (l .place) (q .loop2 .j) (l .inv .5),
     )
 

@@ -19,7 +19,8 @@ start c = c .before
 some : (c : tie.After-shared-slice-known) → 0 < start c .args .i
 some c = start c .pre .0 .2
 
-step : (c : tie.After-shared-slice-known) → start c .args .i * (start c .args .sum + 1) ≡ (start c .args .i - 1) * (start c .args .sum + 1) + (start c .args .sum + 1)
+step : (c : tie.After-shared-slice-known) → start c .args .i * (start c .args .sum + 1) ≡ (start c .args .i - 1) * (start c .args .sum + 1) +
+    (start c .args .sum + 1)
 step c = row-start (start c .args .i) (start c .args .sum) (some c)
 
 small : (c : tie.After-shared-slice-known) → (start c .args .i - 1) * (start c .args .sum + 1) ≤ 24641
@@ -27,14 +28,16 @@ small c = row-small (start c .args .i - 1) (start c .args .sum) (omega (arith, s
 
 -- a number of the row above
 above-is : (c : tie.After-shared-slice-known) (u : ℕ) → u ≤ start c .args .sum
-    → value (take 5 (drop (5 * ((start c .args .i - 1) * (start c .args .sum + 1) + u)) (now (start c .args .table)))) ≡ D (start c .args .width) (start c .args .i - 1) u
+    → value (take 5 (drop (5 * ((start c .args .i - 1) * (start c .args .sum + 1) + u)) (now (start c .args .table)))) ≡ D (start c .args .width)
+    (start c .args .i - 1) u
 above-is c u h =
     let a = start c .args in
     let limits = start c .pre .0 in
     above (a .width) (a .i) (a .t) (limits .0) (limits .1) (some c) (limits .3) (a .sum) u (now (a .table)) (start c .pre .1 .0) h
 
 -- the number that comes into the window
-up-is : (c : tie.After-from-words) → number (c .from-words .result) ≡ D (start (c .before .before) .args .width) (start (c .before .before) .args .i - 1) (start (c .before .before) .args .t)
+up-is : (c : tie.After-from-words) → number (c .from-words .result) ≡ D (start (c .before .before) .args .width) (start (c .before .before) .args .i - 1)
+    (start (c .before .before) .args .t)
 up-is c =
     let at-row = c .before .before in
     c .from-words .ensures ∙ ap value (c .before .load .ensures) ∙ above-is at-row (start at-row .args .t) (start at-row .pre .0 .4)
@@ -61,7 +64,8 @@ returns c =
     let at-row = added .before .before .before in
     let a = start at-row .args in
     let limits = start at-row .pre .0 in
-    grown (a .width) (a .i) (a .t) (limits .0) (limits .1) (some at-row) (limits .3) _ _ (start at-row .pre .1 .1 .1) (up-is (added .before)) _ (c .if1 .taken) (added .add .ensures)
+    grown (a .width) (a .i) (a .t) (limits .0) (limits .1) (some at-row) (limits .3) _ _ (start at-row .pre .1 .1 .1) (up-is (added .before)) _ (c .if1 .taken)
+    (added .add .ensures)
 
 load-requires-2 : tie.Need-load-requires-2
 load-requires-2 c κs = omega (arith, step (c .before .before .before .before))
@@ -75,7 +79,8 @@ out-is c =
     let at-row = c .before .before .before .before .before .before in
     let a = start at-row .args in
     let place : (a .i - 1) * (a .sum + 1) + a .t - a .width ≡ (a .i - 1) * (a .sum + 1) + (a .t - a .width) = omega arith in
-    c .from-words2 .ensures ∙ ap value (c .before .load2 .ensures ∙ ap (λ k. take 5 (drop (5 * k) (now (a .table)))) place) ∙ above-is at-row (a .t - a .width) (omega arith)
+    c .from-words2 .ensures ∙ ap value (c .before .load2 .ensures ∙ ap (λ k. take 5 (drop (5 * k) (now (a .table)))) place)
+    ∙ above-is at-row (a .t - a .width) (omega arith)
 
 subtract-requires : tie.Need-subtract-requires
 subtract-requires c κs =
@@ -83,7 +88,8 @@ subtract-requires c κs =
     let at-row = added .before .before .before in
     let a = start at-row .args in
     let limits = start at-row .pre .0 in
-    out-within (a .width) (a .i) (a .t) (limits .0) (limits .1) (some at-row) (limits .3) _ _ (start at-row .pre .1 .1 .1) (up-is (added .before)) _ _ (c .before .before .if1 .left) (out-is c) (added .add .ensures)
+    out-within (a .width) (a .i) (a .t) (limits .0) (limits .1) (some at-row) (limits .3) _ _ (start at-row .pre .1 .1 .1) (up-is (added .before)) _ _
+    (c .before .before .if1 .left) (out-is c) (added .add .ensures)
 
 returns-2 : tie.Need-returns-2
 returns-2 c =
@@ -91,7 +97,8 @@ returns-2 c =
     let at-row = added .before .before .before in
     let a = start at-row .args in
     let limits = start at-row .pre .0 in
-    shrunk (a .width) (a .i) (a .t) (limits .0) (limits .1) (some at-row) (limits .3) _ _ (start at-row .pre .1 .1 .1) (up-is (added .before)) _ _ (c .before .before .before .if1 .left) (out-is (c .before)) (added .add .ensures) _ (c .subtract .ensures)
+    shrunk (a .width) (a .i) (a .t) (limits .0) (limits .1) (some at-row) (limits .3) _ _ (start at-row .pre .1 .1 .1) (up-is (added .before)) _ _
+    (c .before .before .before .if1 .left) (out-is (c .before)) (added .add .ensures) _ (c .subtract .ensures)
 
 pub cell-spec : {M : Type 1} → statement M
 cell-spec =

@@ -40,8 +40,10 @@ returns : tie.Need-returns
 unfolding withTable tableLength
 returns c =
     let filled = c .before .before .before .before in
-    let p = filled .before .before .before .before .before .before .args .p in
-    (c .load .ensures ∙ ap (λ l. take 5 (drop (5 * (p .chains * (p .sum + 1) + p .sum)) l)) (filled .fill-rows .ensures) ∙ last-cell p _, filled .fill-rows .ensures)
+    let p = filled .before .before .before .before .before .before .args .p in (
+      c .load .ensures ∙ ap (λ l. take 5 (drop (5 * (p .chains * (p .sum + 1) + p .sum)) l)) (filled .fill-rows .ensures) ∙ last-cell p _,
+      filled .fill-rows .ensures,
+    )
 
 pub fill-spec : {M : Type 1} → statement M
 fill-spec =

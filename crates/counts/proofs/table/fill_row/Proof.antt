@@ -18,7 +18,8 @@ use Rattle.counts.proofs.table.fill_row.Tie as tie
 
 abbrev Inv-loop : tie.InvT-loop
 Inv-loop table₀ width sum i n₀ t₀ table n t =
-    (t ≤ sum + 1) × (length table ≡ length table₀) × (table ≡ rows width sum i ++ cells (D width i) t ++ drop (5 * (i * (sum + 1) + t)) table₀) × (number n ≡ share (D width i) t 1)
+    (t ≤ sum + 1) × (length table ≡ length table₀) × (table ≡ rows width sum i ++ cells (D width i) t ++ drop (5 * (i * (sum + 1) + t)) table₀)
+    × (number n ≡ share (D width i) t 1)
 
 abbrev μ-loop : tie.MeasureT-loop
 μ-loop table₀ width sum i n₀ t₀ table n t = sum + 1 - t
@@ -27,25 +28,38 @@ loop-holds : tie.Need-loop-holds Inv-loop μ-loop
 unfolding value
 loop-holds c =
     let start = c .before .before in
-    let a = start .args in
-    (omega arith, refl, row-begins (a .width) (a .sum) (a .i) (now (a .table)) (start .pre .1 .0), c .from-words .ensures ∙ sym (share-start (D (a .width) (a .i))))
+    let a = start .args in (
+      omega arith,
+      refl,
+      row-begins (a .width) (a .sum) (a .i) (now (a .table)) (start .pre .1 .0),
+      c .from-words .ensures
+          ∙ sym (share-start (D (a .width) (a .i))),
+    )
 
 cell-requires : tie.Need-cell-requires Inv-loop μ-loop
 cell-requires c κs =
     let at-loop = c .before .before in
     let start = at-loop .before .before .before in
     let a = start .args in
-    let limits = start .pre .0 in
-    ((limits .0, limits .1, limits .2, limits .3, omega arith, limits .4), (above-cell (a .width) (a .sum) (a .i) (at-loop .loop .t) _ _ (at-loop .loop .inv .2), (omega (arith, row-end (a .i) (a .sum), start .pre .1 .1), at-loop .loop .inv .3)))
+    let limits = start .pre .0 in (
+      (limits .0, limits .1, limits .2, limits .3, omega arith, limits .4),
+      (
+        above-cell (a .width) (a .sum) (a .i) (at-loop .loop .t) _ _ (at-loop .loop .inv .2),
+        (omega (arith, row-end (a .i) (a .sum), start .pre .1 .1), at-loop .loop .inv .3),
+      ),
+    )
 
 mul-store : tie.Need-mul-store Inv-loop μ-loop
-mul-store c = let a = c .before .before .before .before .before .before .before in omega (arith, row-small (a .args .i) (a .args .sum) (omega (arith, a .pre .0)) (omega (arith, a .pre .0)))
+mul-store c = let a = c .before .before .before .before .before .before .before in
+    omega (arith, row-small (a .args .i) (a .args .sum) (omega (arith, a .pre .0)) (omega (arith, a .pre .0)))
 
 add-store-2 : tie.Need-add-store-2 Inv-loop μ-loop
-add-store-2 c = let a = c .before .before .before .before .before .before .before in omega (arith, row-small (a .args .i) (a .args .sum) (omega (arith, a .pre .0)) (omega (arith, a .pre .0)))
+add-store-2 c = let a = c .before .before .before .before .before .before .before in
+    omega (arith, row-small (a .args .i) (a .args .sum) (omega (arith, a .pre .0)) (omega (arith, a .pre .0)))
 
 store-requires : tie.Need-store-requires Inv-loop μ-loop
-store-requires c κs = let start = c .before .before .before .before .before .before .before .before in omega (arith, row-end (start .args .i) (start .args .sum), start .pre .1 .1)
+store-requires c κs = let start = c .before .before .before .before .before .before .before .before in
+    omega (arith, row-end (start .args .i) (start .args .sum), start .pre .1 .1)
 
 loop-again : tie.Need-loop-again Inv-loop μ-loop
 loop-again c =
@@ -55,8 +69,12 @@ loop-again c =
     let start = at-loop .before .before .before in
     let a = start .args in
     let room : 5 * (a .i * (a .sum + 1) + at-loop .loop .t) + 5 ≤ length (now (a .table)) = omega (arith, row-end (a .i) (a .sum), start .pre .1 .1) in
-    let words = stored .before .to-words .ensures ∙ ap (toWords 5) (called .cell .ensures) in
-    (omega arith, stored .store .kept .0 ∙ at-loop .loop .inv .1, next-cell (a .width) (a .sum) (a .i) (at-loop .loop .t) (now (a .table)) _ _ _ room (at-loop .loop .inv .2) words (stored .store .ensures), called .cell .ensures ∙ sym (share-before (D (a .width) (a .i)) (at-loop .loop .t)))
+    let words = stored .before .to-words .ensures ∙ ap (toWords 5) (called .cell .ensures) in (
+      omega arith,
+      stored .store .kept .0 ∙ at-loop .loop .inv .1,
+      next-cell (a .width) (a .sum) (a .i) (at-loop .loop .t) (now (a .table)) _ _ _ room (at-loop .loop .inv .2) words (stored .store .ensures),
+      called .cell .ensures ∙ sym (share-before (D (a .width) (a .i)) (at-loop .loop .t)),
+    )
 
 same-length : tie.Need-same-length Inv-loop μ-loop
 same-length c = c .before .loop .inv .1

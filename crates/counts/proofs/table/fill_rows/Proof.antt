@@ -23,7 +23,8 @@ abbrev μ-loop : tie.MeasureT-loop
 abbrev start : tie.After-first-row Inv-loop μ-loop → tie.Start Inv-loop μ-loop
 start f = f .before .before .before
 
-row-0 : (f : tie.After-first-row Inv-loop μ-loop) → f .first-row .last .0 ≡ rows (start f .args .width) (start f .args .sum) 1 ++ drop (5 * (1 * (start f .args .sum + 1))) (now (start f .args .table))
+row-0 : (f : tie.After-first-row Inv-loop μ-loop) → f .first-row .last .0 ≡ rows (start f .args .width) (start f .args .sum) 1 ++ drop
+    (5 * (1 * (start f .args .sum + 1))) (now (start f .args .table))
 row-0 f = f .first-row .ensures (start f .args .width)
 
 abbrev filled : tie.At-loop Inv-loop μ-loop → tie.After-first-row Inv-loop μ-loop
@@ -53,8 +54,13 @@ loop-again : tie.Need-loop-again Inv-loop μ-loop
 loop-again c =
     let next = c .before .before in
     let at-loop = next .before .before .before in
-    let a = start (filled at-loop) .args in
-    (rows-over (a .width) (a .sum) (omega arith) _ (at-loop .loop .inv .0) (next .fill-row .ensures), omega arith, omega arith, next .fill-row .kept .0 ∙ at-loop .loop .inv .3)
+    let a = start (filled at-loop) .args in (
+      rows-over (a .width) (a .sum) (omega arith) _ (at-loop .loop .inv .0) (next .fill-row .ensures),
+      omega arith,
+      omega arith,
+      next .fill-row .kept .0
+          ∙ at-loop .loop .inv .3,
+    )
 
 same-length : tie.Need-same-length Inv-loop μ-loop
 same-length c = c .before .loop .inv .3 ∙ filled (c .before) .first-row .kept .0

@@ -32,7 +32,8 @@ loop-again c =
       omega arith,
       stored .store .kept .0 ∙ at-loop .loop .inv .1,
       λ w.
-          next-cell w (a .sum) 0 t (now (a .table)) _ _ _ (omega (arith, at-loop .before .before .pre)) (at-loop .loop .inv .2 w) (stored .before .first-cell .ensures w)
+          next-cell w (a .sum) 0 t (now (a .table)) _ _ _ (omega (arith, at-loop .before .before .pre)) (at-loop .loop .inv .2 w)
+          (stored .before .first-cell .ensures w)
           (rw place at (stored .store .ensures)),
     )
 

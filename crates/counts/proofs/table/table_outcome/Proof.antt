@@ -14,7 +14,8 @@ returns c =
     let tested = c .before in
     let checked = tested .before in
     let p = checked .before .before .args .p in
-    chain-next 5 refl (chain-begins (profileCauses p) (profile-numbered p) (checked .check-profile .ensures)) (tested .no-room .ensures) (c .then .ensures) .answer
+    chain-next 5 refl (chain-begins (profileCauses p) (profile-numbered p) (checked .check-profile .ensures)) (tested .no-room .ensures)
+    (c .then .ensures) .answer
 
 pub table-outcome-spec : {M : Type 1} → statement M
 table-outcome-spec = tie.close (tie.spec (λ c κs. search needs) (λ c κs. search needs) (λ c κs. search needs) returns)

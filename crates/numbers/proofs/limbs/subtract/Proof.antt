@@ -11,11 +11,13 @@ use Rattle.numbers.proofs.limbs.subtract.Tie as tie
 high : (c : tie.After-subtract-with-borrow2)
     → (c .before .before .args .b .high ≤ c .before .before .args .a .high)
     × (c .subtract-with-borrow2 .result .over ≤ c .before .before .args .a .high - c .before .before .args .b .high)
-    × (c .before .before .args .a .high - c .before .before .args .b .high - c .subtract-with-borrow2 .result .over + c .before .before .args .b .high + c .subtract-with-borrow2 .result .over
+    × (c .before .before .args .a .high - c .before .before .args .b .high - c .subtract-with-borrow2 .result .over + c .before .before .args .b .high +
+    c .subtract-with-borrow2 .result .over
     ≡ c .before .before .args .a .high)
 high c =
     let start = c .before .before in
-    high-difference (start .args .a) (start .args .b) _ _ _ _ (rw add-zero at (c .before .subtract-with-borrow .ensures .0)) (c .subtract-with-borrow2 .ensures .0) (search needs) (search needs) (start .pre)
+    high-difference (start .args .a) (start .args .b) _ _ _ _ (rw add-zero at (c .before .subtract-with-borrow .ensures .0))
+    (c .subtract-with-borrow2 .ensures .0) (search needs) (search needs) (start .pre)
 
 sub-t5 : tie.Need-sub-t5
 sub-t5 c = high (c .before .before) .0
@@ -30,7 +32,8 @@ returns : tie.Need-returns
 returns c =
     let second = c .before .before .before in
     let start = second .before .before in
-    number-difference (start .args .a) (start .args .b) _ _ _ _ (rw add-zero at (second .before .subtract-with-borrow .ensures .0)) (second .subtract-with-borrow2 .ensures .0) _ (high second .2)
+    number-difference (start .args .a) (start .args .b) _ _ _ _ (rw add-zero at (second .before .subtract-with-borrow .ensures .0))
+    (second .subtract-with-borrow2 .ensures .0) _ (high second .2)
 
 pub subtract-spec : {M : Type 1} → statement M
 subtract-spec = tie.close (tie.spec (λ c κs. search needs) (λ c κs. search needs) sub-t5 cast-t6 sub-t7 returns)

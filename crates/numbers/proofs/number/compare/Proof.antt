@@ -30,7 +30,8 @@ loop-holds : tie.Need-loop-holds Inv-loop μ-loop
 loop-holds c = record { counted = refl; equal = refl; none-above = refl }
 
 -- in a turn, no words above the pair that is looked at differ
-above : (c : tie.In-loop Inv-loop μ-loop) → highestDiffering (c .before .before .args .t1) (c .before .before .args .t2) ≡ highestBelow (suc (c .before .loop .i - 1)) (c .before .before .args .t1) (c .before .before .args .t2)
+above : (c : tie.In-loop Inv-loop μ-loop) → highestDiffering (c .before .before .args .t1) (c .before .before .args .t2) ≡ highestBelow
+    (suc (c .before .loop .i - 1)) (c .before .before .args .t1) (c .before .before .args .t2)
 above c =
     let here : suc (c .before .loop .i - 1) ≡ c .before .loop .i = omega arith in
     rw here (c .before .loop .inv .none-above)
@@ -47,7 +48,8 @@ loop-again c =
 
 -- the answer, where the search of the highest place has come to an end
 found : (c : tie.Start Inv-loop μ-loop) (place : Option ℕ) {order : Order} {looked : ℕ} → highestDiffering (c .args .t1) (c .args .t2) ≡ place
-    → orderCode order ≡ orderAt place (c .args .t1) (c .args .t2) → looked ≡ pairsLooked place → Compares (c .args .t1) (c .args .t2) (record { order = order; looked = looked })
+    → orderCode order ≡ orderAt place (c .args .t1) (c .args .t2) → looked ≡ pairsLooked place
+    → Compares (c .args .t1) (c .args .t2) (record { order = order; looked = looked })
 found c place at ordered counted =
     let fits-a = below-fits w32 (c .args .t1) (λ j. search needs) in
     let fits-b = below-fits w32 (c .args .t2) (λ j. search needs) in

@@ -13,7 +13,8 @@ returns c =
     let off = c .before in
     let second = off .before in
     let args = second .before .before .args in
-    let left : number (off .subtract .result) ≡ value (args .a) - value (args .b) = omega (arith, off .subtract .ensures, second .before .from-words .ensures, second .from-words2 .ensures) in
+    let left : number (off .subtract .result) ≡ value (args .a) - value (args .b) = omega
+    (arith, off .subtract .ensures, second .before .from-words .ensures, second .from-words2 .ensures) in
     c .to-words .ensures ∙ ap (toWords 5) left
 
 pub subtract-spec : {M : Type 1} → statement M

@@ -43,7 +43,8 @@ loop-again c =
     rw (c .drop-word .ensures) (shift-more 32 (turn .inv) (many c))
 
 -- behind the loop, the lowest word is the number that is left
-whole : (c : tie.After-word-log2 Inv-loop μ-loop) → Log2 (value (c .before .before .before .before .args .n)) (c .before .before .before .loop .log + c .word-log2 .result)
+whole : (c : tie.After-word-log2 Inv-loop μ-loop) → Log2 (value (c .before .before .before .before .args .n))
+    (c .before .before .before .loop .log + c .word-log2 .result)
 whole c =
     let turn = c .before .before .before .loop in
     let few : value (turn .rest) < 2 ^ 32 = within-word (turn .rest) (c .before .before .less .ensures) (c .before .if1 .left) in

@@ -24,7 +24,8 @@ long c =
     length-take-le (state c .total % 64) (state c .block) (omega arith)
 
 put-marks : (c : tie.After-put) → c .put .result ≡ marked (take (state c .total % 64) (state c .block)) (state c .total % 64)
-put-marks c = pasted (take (state c .total % 64) (state c .block)) 0 (128 ∷ []) (state c .total % 64) 64 (long c) (omega arith) (c .before .before .kept .ensures) (c .put .ensures)
+put-marks c = pasted (take (state c .total % 64) (state c .block)) 0 (128 ∷ []) (state c .total % 64) 64 (long c) (omega arith)
+    (c .before .before .kept .ensures) (c .put .ensures)
 
 abbrev at-put1 : tie.After-compress → tie.After-put
 at-put1 c = c .before .before .before .before
@@ -33,14 +34,16 @@ returns : tie.Need-returns
 unfolding finished pending
 returns c =
     let s = state (at-put1 c) in
-    c .compress .ensures ∙ rw (c .before .before .with-length .ensures, put-marks (at-put1 c)) (one-block (s .words) (take (s .total % 64) (s .block)) (s .total) (long (at-put1 c)) (c .before .before .before .if1 .taken))
+    c .compress .ensures ∙ rw (c .before .before .with-length .ensures, put-marks (at-put1 c))
+    (one-block (s .words) (take (s .total % 64) (s .block)) (s .total) (long (at-put1 c)) (c .before .before .before .if1 .taken))
 
 returns-2 : tie.Need-returns-2
 unfolding finished pending
 returns-2 c =
     let at-put = c .before .before .before .before .before .before in
     let s = state at-put in
-    c .compress3 .ensures ∙ rw (c .before .before .compress2 .ensures, c .before .before .before .before .with-length2 .ensures, put-marks at-put) (two-blocks (s .words) (take (s .total % 64) (s .block)) (s .total) (long at-put) (c .before .before .before .before .before .if1 .left))
+    c .compress3 .ensures ∙ rw (c .before .before .compress2 .ensures, c .before .before .before .before .with-length2 .ensures, put-marks at-put)
+    (two-blocks (s .words) (take (s .total % 64) (s .block)) (s .total) (long at-put) (c .before .before .before .before .before .if1 .left))
 
 pub final-words-spec : {M : Type 1} → statement M
 final-words-spec =

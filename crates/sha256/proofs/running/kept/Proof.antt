@@ -12,7 +12,8 @@ returns : tie.Need-returns
 returns c =
     let start = c .before .before .before .before in
     let a = start .args in
-    c .before .copy .ensures ∙ ap (λ zeros. take (a .n) (a .t1) ++ zeros) (ap (λ k. drop k (replicate 64 0)) (zero-add (a .n)) ∙ drop-replicate (a .n) 64 0 (start .pre))
+    c .before .copy .ensures ∙ ap (λ zeros. take (a .n) (a .t1) ++ zeros)
+    (ap (λ k. drop k (replicate 64 0)) (zero-add (a .n)) ∙ drop-replicate (a .n) 64 0 (start .pre))
 
 pub kept-spec : {M : Type 1} → statement M
 kept-spec = tie.close (tie.spec (λ c. search needs) (λ c. search needs) (λ c κs. search needs) returns)

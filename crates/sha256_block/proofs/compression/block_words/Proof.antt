@@ -22,7 +22,8 @@ abbrev μ-loop : tie.MeasureT-loop
 -- a turn's store
 turn : (bytes : List ℕ) (t : ℕ) (ws : List ℕ) (w : ℕ) → t < 16 → ws ≡ wordsOf t bytes ++ replicate (16 - t) 0 → w ≡ fromBytes (take 4 (drop (4 * t) bytes))
     → set ws t w ≡ wordsOf (suc t) bytes ++ replicate (16 - suc t) 0
-turn bytes t ws w h e f = rw (e, f, words-next) (store-next (wordsOf t bytes) 0 (fromBytes (take 4 (drop (4 * t) bytes))) t 16 (length-words t bytes) (omega arith))
+turn bytes t ws w h e f = rw (e, f, words-next) (store-next (wordsOf t bytes) 0 (fromBytes (take 4 (drop (4 * t) bytes))) t 16 (length-words t bytes)
+    (omega arith))
 
 loop-holds : tie.Need-loop-holds Inv-loop μ-loop
 unfolding wordsOf

@@ -18,7 +18,8 @@ abbrev μ-loop : tie.MeasureT-loop
 μ-loop block table ws₀ x₀ turn₀ ws x turn = 4 - turn
 
 -- the words of a turn
-current : (block : List ℕ) (n : ℕ) {ws now : List ℕ} → n < 4 → ws ≡ take 16 (drop (16 * (n - 1)) (schedule block)) → (n ≡ 0 → now ≡ ws) → (0 < n → now ≡ drop 16 (extend 16 ws))
+current : (block : List ℕ) (n : ℕ) {ws now : List ℕ} → n < 4 → ws ≡ take 16 (drop (16 * (n - 1)) (schedule block)) → (n ≡ 0 → now ≡ ws)
+    → (0 < n → now ≡ drop 16 (extend 16 ws))
     → now ≡ take 16 (drop (16 * n) (schedule block))
 unfolding schedule
 current block zero h e first later = first refl ∙ e
