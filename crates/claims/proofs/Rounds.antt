@@ -17,7 +17,7 @@ use Rattle.stored_key.specs.Operations.{writeKeyCode}
 use Rattle.stored_key.proofs.StoredLaws.{stored-right, right-long}
 use Rattle.claims.specs.Orders.{OrderCall, Along}
 use Rattle.claims.specs.PowerCuts.{Progress, Desk, Step, onceBegun, onceEnded, afterReserve, afterBegin, afterEnd, afterSign, afterCut, deskAfter, InTurn}
-use Rattle.claims.specs.PowerCuts.{StoredFirst, freshDesk, SeedBytes, Round, roundOf, stepsOf, WithRoom, RoundsInTurn}
+use Rattle.claims.specs.PowerCuts.{StoredFirst, freshDesk, SeedBytes, Round, roundOf, roundSteps, WithRoom, RoundsInTurn}
 use Rattle.claims.specs.PowerCuts.Storing.{nothing}
 use Rattle.claims.specs.PowerCuts.Progress.{unstored, begun, ended}
 use Rattle.claims.specs.PowerCuts.Step.{reserve, storeBegins, storeEnds, sign, cut}
@@ -112,12 +112,12 @@ module _ (p : Profile) (seed secret : List ℕ) (seed-bytes : SeedBytes seed) (s
         (then (deskAfter stored (sign c)) (four .0) (four .1)) in
         (tt, (tt, (tt, (turn, last))))
 
-  rounds-from : (rounds : List Round) → WithRoom rounds → (d : Desk) (n : ℕ) → Between d n → StoredFirst d (stepsOf rounds)
-  unfolding stepsOf WithRoom Along InTurn deskAfter afterCut
+  rounds-from : (rounds : List Round) → WithRoom rounds → (d : Desk) (n : ℕ) → Between d n → StoredFirst d (roundSteps rounds)
+  unfolding roundSteps WithRoom Along InTurn deskAfter afterCut
   rounds-from [] room d n at = tt
-  rounds-from (wholeRound slice c ∷ rounds) room d n at = round-whole d n at slice (room .0) c (stepsOf rounds) (λ d m at. rounds-from rounds (room .1) d m at)
+  rounds-from (wholeRound slice c ∷ rounds) room d n at = round-whole d n at slice (room .0) c (roundSteps rounds) (λ d m at. rounds-from rounds (room .1) d m at)
   rounds-from (cutRound k slice c whole ∷ rounds) room d n at =
-      round-part d n at slice (room .0) c k (cut whole ∷ stepsOf rounds)
+      round-part d n at slice (room .0) c k (cut whole ∷ roundSteps rounds)
       (λ d m at. (tt, rounds-from rounds (room .1) (deskAfter d (cut whole)) (after d m at (cut whole) tt .0) (after d m at (cut whole) tt .1, refl)))
 
 pub rounds-in-turn : RoundsInTurn

@@ -20,10 +20,11 @@ use Rattle.verifier.specs.Operations.{VerifyingCall, causesBeforeRoot, verifyCo
 use Rattle.signature.specs.Signature.{leafIn, randomIn}
 use Rattle.verifier.specs.declared.Verifier.{Verifier}
 
--- a profile in an edition, and a cabinet in one
+-- a profile in an edition
 abbrev pub profileIn : (edition : ℕ) → Profile → Profile
 profileIn edition p = record { shape = p .shape; height = p .height; edition = edition }
 
+-- a cabinet in an edition
 abbrev pub cabinetIn : (edition : ℕ) → Verifier → Verifier
 cabinetIn edition v = record { profile = profileIn edition (v .profile); seed = v .seed; root = v .root; window = v .window }
 

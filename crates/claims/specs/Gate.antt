@@ -13,10 +13,11 @@ use Rattle.signing_key.specs.declared.SigningKey.{SigningKey}
 use Rattle.verifier.specs.Operations.{VerifyingCall, verifyCode}
 use Rattle.verifier.specs.declared.Verifier.{Verifier}
 
--- "The gate profile is l = 34, w = 16, s = 255, h = 10", in an edition
+-- "The gate profile is l = 34, w = 16, s = 255, h = 10": its shape
 abbrev pub gateShape : Shape
 gateShape = record { chains = 34; width = 16; sum = 255 }
 
+-- the gate profile in an edition
 abbrev pub gate : (edition : ℕ) → Profile
 gate edition = record { shape = gateShape; height = 10; edition = edition }
 

@@ -61,10 +61,12 @@ pub data KeyCall : Type 0 where
   reserve : KeyCall
   sign : OrderCall → KeyCall
 
+-- "the key that the one before handed back": what a call of either kind hands back
 unfoldable pub keyHandedBack : SigningKey → KeyCall → SigningKey
 keyHandedBack key reserve = reservedKey key
 keyHandedBack key (sign c) = keyAfter key (c .call)
 
+-- what a call of either kind issues
 unfoldable pub givenBy : SigningKey → KeyCall → List Issued
 givenBy key reserve = []
 givenBy key (sign c) = issuedBy key (c .call)

@@ -63,6 +63,7 @@ onceBegun unstored = begun
 onceBegun begun = begun
 onceBegun ended = ended
 
+-- a store that ends has ended for the leaf reserved last where it began for it
 unfoldable pub onceEnded : Progress → Progress
 onceEnded unstored = unstored
 onceEnded begun = ended
@@ -93,6 +94,7 @@ afterBegin d slice nothing =
     })
     d
 
+-- the store in progress ends: its frame is the stored one from then on
 unfoldable pub afterEnd : Desk → Storing → Desk
 afterEnd d nothing = d
 afterEnd d (new frame) = record { key = d .key; stored = frame; storing = nothing; progress = onceEnded (d .progress) }
@@ -122,6 +124,7 @@ issuedAt d storeEnds = []
 issuedAt d (sign c) = issuedBy (d .key) (c .call)
 issuedAt d (cut whole) = []
 
+-- all that is issued in a trace
 abbrev pub issuedAlong : Desk → List Step → List Issued
 issuedAlong d steps = givenAlong deskAfter issuedAt d steps
 
@@ -133,6 +136,7 @@ InTurn d storeEnds = Unit {0}
 InTurn d (sign c) = signCode (d .key) (c .call) ≡ 0 → d .progress ≡ ended
 InTurn d (cut whole) = Unit {0}
 
+-- every step of a trace is in its turn
 abbrev pub StoredFirst : Desk → List Step → Type 0
 StoredFirst d steps = Along deskAfter InTurn d steps
 
@@ -174,13 +178,15 @@ pub data Round : Type 0 where
   wholeRound : (slice : List ℕ) → OrderCall → Round
   cutRound : (n : ℕ) (slice : List ℕ) → OrderCall → (whole : Bool) → Round
 
+-- the four steps of one order
 abbrev pub roundOf : (slice : List ℕ) → OrderCall → List Step
 roundOf slice c = reserve ∷ storeBegins slice ∷ storeEnds ∷ sign c ∷ []
 
-unfoldable pub stepsOf : List Round → List Step
-stepsOf [] = []
-stepsOf (wholeRound slice c ∷ rounds) = roundOf slice c ++ stepsOf rounds
-stepsOf (cutRound n slice c whole ∷ rounds) = take n (roundOf slice c) ++ (cut whole ∷ stepsOf rounds)
+-- the steps of rounds one after another, each as far as it goes
+unfoldable pub roundSteps : List Round → List Step
+roundSteps [] = []
+roundSteps (wholeRound slice c ∷ rounds) = roundOf slice c ++ roundSteps rounds
+roundSteps (cutRound n slice c whole ∷ rounds) = take n (roundOf slice c) ++ (cut whole ∷ roundSteps rounds)
 
 -- each slice has room for a frame
 unfoldable pub WithRoom : List Round → Type 0
@@ -192,4 +198,4 @@ WithRoom (cutRound n slice c whole ∷ rounds) = (89 ≤ length slice) × WithRo
 abbrev pub RoundsInTurn : Type 0
 RoundsInTurn =
     (p : Profile) (seed secret : List ℕ) → SeedBytes seed → SeedBytes secret → firstCause (profileCauses p) ≡ 0
-    → (rounds : List Round) → WithRoom rounds → StoredFirst (freshDesk p seed secret) (stepsOf rounds)
+    → (rounds : List Round) → WithRoom rounds → StoredFirst (freshDesk p seed secret) (roundSteps rounds)

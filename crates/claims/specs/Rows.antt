@@ -5,7 +5,7 @@ use mathlib.Core.List.{List}
 use Prim.Native.Nat.{ℕ, _<_}
 use Rattle.profile.specs.declared.Shape.{Shape}
 use Rattle.counts.specs.Counts.{count}
-use Rattle.counts.specs.Table.{countCode}
+use Rattle.counts.specs.Operations.{countCode}
 use Rattle.codewords.specs.Codeword.{IsCodeword, AtMost, Before}
 use Rattle.codewords.specs.Operations.{rowOf, rankCode}
 

@@ -5,7 +5,7 @@ use Prim.Native.Nat.{ℕ}
 use lib.ListN.{replicate}
 use Rattle.profile.specs.declared.Shape.{Shape}
 use Rattle.counts.specs.Counts.{count}
-use Rattle.counts.specs.Table.{countCode}
+use Rattle.counts.specs.Operations.{countCode}
 use Rattle.codewords.specs.Codeword.{codeword, rank}
 use Rattle.codewords.specs.Operations.{unrankCode, rankCode}
 use Rattle.chains.specs.Leaves.{chainsOf, stepsLeft}
@@ -14,10 +14,11 @@ use Rattle.chains.specs.Leaves.{chainsOf, stepsLeft}
 abbrev shape : (l w s : ℕ) → Shape
 shape l w s = record { chains = l; width = w; sum = s }
 
--- a row for an output, and a work slice that is long enough for the shapes below
+-- a row for an output
 abbrev row3 : List ℕ
 row3 = replicate 3 0
 
+-- a work slice that is long enough for the shapes below
 abbrev work : List ℕ
 work = replicate 160 0
 
@@ -25,6 +26,7 @@ work = replicate 160 0
 abbrev pub Value : Type 0
 Value = record { given : List ℕ; said : List ℕ }
 
+-- the values marked *
 unfoldable pub trials : List Value
 trials =
     -- l = 3, w = 3, s = 3: the count, four rows and numbers, three refusals

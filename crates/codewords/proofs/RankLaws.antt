@@ -19,7 +19,8 @@ use Rattle.numbers.specs.Number.{value, toWords}
 use Rattle.numbers.proofs.NumberLaws.{value-toWords-5}
 use Rattle.profile.specs.declared.Shape.{Shape}
 use Rattle.counts.specs.Counts.{sumTo, share, D}
-use Rattle.counts.specs.Table.{rows, withTable, countCauses, leavesTable, tableAfter}
+use Rattle.counts.specs.Table.{rows, withTable, leavesTable, tableAfter}
+use Rattle.counts.specs.Operations.{countCauses}
 use Rattle.counts.proofs.CountLaws.{sumTo-cong, sumTo-mono, share-low, D-small}
 use Rattle.counts.proofs.Room.{count-early}
 use Rattle.counts.proofs.TableLaws.{cell-of}

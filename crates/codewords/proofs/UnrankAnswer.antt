@@ -13,12 +13,13 @@ use Rattle.refusal.proofs.Causes.{Avoids, none-here, code-kept}
 use Rattle.profile.specs.Checks.{InLimits}
 use Rattle.profile.specs.declared.Shape.{Shape}
 use Rattle.counts.specs.Counts.{count}
-use Rattle.counts.specs.Table.{tableLength, withTable, countCauses, leavesTable}
-use Rattle.counts.specs.Filling.{FillsPast}
+use Rattle.counts.specs.Table.{tableLength, withTable, leavesTable}
+use Rattle.counts.specs.Operations.{countCauses}
+use Rattle.counts.specs.inner.Filling.{FillsPast}
 use Rattle.counts.proofs.Answer.{table-held}
 use Rattle.counts.proofs.Room.{count-early, count-passed}
 use Rattle.codewords.specs.Operations.{unrankCode, Unranks}
-use Rattle.codewords.specs.Placing.{Placeable, PlacesPast}
+use Rattle.codewords.specs.inner.Placing.{Placeable, PlacesPast}
 use Rattle.codewords.proofs.TableOperation.{early-code, none-before, answer-after, table-after}
 
 -- the test of 7

@@ -31,6 +31,7 @@ unfoldable pub rank : (w t : ℕ) → List ℕ → ℕ
 rank w t [] = 0
 rank w t (a ∷ row) = sumTo (share (D w (length row)) t) a + rank w (t - a) row
 
+-- the sum of a row's lengths
 unfoldable pub total : List ℕ → ℕ
 total [] = 0
 total (a ∷ row) = a + total row

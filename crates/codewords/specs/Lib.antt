@@ -1,4 +1,4 @@
 -- Codewords (document 01: rows of lengths) and their numbers.
 pub mod Codeword
 pub mod Operations
-pub mod Placing
+pub mod inner

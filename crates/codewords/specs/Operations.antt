@@ -10,7 +10,8 @@ use Rattle.refusal.specs.declared.Outcome.{Outcome}
 use Rattle.numbers.specs.Number.{toWords}
 use Rattle.profile.specs.declared.Shape.{Shape}
 use Rattle.counts.specs.Counts.{count}
-use Rattle.counts.specs.Table.{countCauses, tableAfter}
+use Rattle.counts.specs.Table.{tableAfter}
+use Rattle.counts.specs.Operations.{countCauses}
 use Rattle.codewords.specs.Codeword.{codeword, rank, total, IsCodeword}
 use Rattle.codewords.specs.declared.ranking.Ranked.{Ranked}
 

@@ -9,7 +9,7 @@ ghost use Rattle.profile.specs.Checks.{InLimits};
 ghost use Rattle.counts.specs.Counts.{count as countOf};
 ghost use Rattle.counts.specs.Table.{Holds};
 ghost use Rattle.codewords.specs.Operations.{rowOf, Unranks};
-ghost use Rattle.codewords.specs.Placing.{Placeable, PlacesPast};
+ghost use Rattle.codewords.specs.inner.Placing.{Placeable, PlacesPast};
 use counts::cells::load;
 use counts::table::count_outcome;
 use counts::table::fill_past;

@@ -14,8 +14,9 @@ use Rattle.numbers.proofs.NumberLaws.{value-toWords-5}
 use Rattle.profile.specs.Checks.{InLimits}
 use Rattle.profile.specs.declared.Shape.{Shape}
 use Rattle.counts.specs.Counts.{count, CountsFit}
-use Rattle.counts.specs.Table.{rows, tableLength, withTable, countCauses, countCode, leavesTable, tableAfter, Counts, Holds}
-use Rattle.counts.specs.Filling.{FillsPast}
+use Rattle.counts.specs.Table.{rows, tableLength, withTable, leavesTable, tableAfter, Holds}
+use Rattle.counts.specs.Operations.{countCauses, countCode, Counts}
+use Rattle.counts.specs.inner.Filling.{FillsPast}
 use Rattle.counts.proofs.CountLaws.{D-small, D-some}
 use Rattle.counts.proofs.Room.{count-early}
 use Rattle.counts.proofs.TableLaws.{cell-row, above-row}

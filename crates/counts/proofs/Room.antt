@@ -16,7 +16,8 @@ use Rattle.profile.specs.Checks.{shapeCauses, InLimits, profileCauses}
 use Rattle.profile.specs.declared.Shape.{Shape}
 use Rattle.profile.specs.declared.Profile.{Profile}
 use Rattle.profile.proofs.Limits.{shape-numbered, in-limits, profile-numbered, profile-passed, sum-small}
-use Rattle.counts.specs.Table.{tableLength, countCauses, tableCauses, leavesTable}
+use Rattle.counts.specs.Table.{tableLength, tableCauses, leavesTable}
+use Rattle.counts.specs.Operations.{countCauses}
 use Rattle.counts.proofs.NextCell.{row-small}
 
 -- the last of the causes: the work slice is too short

@@ -1,4 +1,5 @@
 -- How many codewords there are, and the table of the counts.
 pub mod Counts
-pub mod Filling
 pub mod Table
+pub mod Operations
+pub mod inner

@@ -1,17 +1,15 @@
--- Document 01, Counts and rows: the table in the work slice, and Count.
+-- Document 01, Counts and rows: the table in the work slice.
 use mathlib.Core.Path.{_≡_}
 use mathlib.Core.Bool.{Bool, _||_, cond}
 use mathlib.Core.List.{List, [], _∷_, _++_}
 use Prim.Native.Nat.{ℕ, zero, suc, _+_, _*_}
 use lib.Dec.{ltb, eqb}
 use lib.ListN.{length, take, drop}
-use Rattle.refusal.specs.Code.{outcomeCode, firstCause}
 use Rattle.numbers.specs.Number.{toWords}
-use Rattle.profile.specs.Checks.{shapeCauses, profileCauses}
+use Rattle.profile.specs.Checks.{profileCauses}
 use Rattle.profile.specs.declared.Shape.{Shape}
 use Rattle.profile.specs.declared.Profile.{Profile}
-use Rattle.counts.specs.Counts.{D, count}
-use Rattle.counts.specs.declared.table.Counted.{Counted}
+use Rattle.counts.specs.Counts.{D}
 
 -- f 0, …, f (n − 1), "five words each"
 unfoldable pub cells : (ℕ → ℕ) → ℕ → List ℕ
@@ -31,30 +29,18 @@ tableLength p = 5 * ((p .chains + 1) * (p .sum + 1))
 unfoldable pub withTable : Shape → List ℕ → List ℕ
 withTable p work = rows (p .width) (p .sum) (p .chains + 1) ++ drop (tableLength p) work
 
--- "Count …: 1, 2, 3; 5 work slice under 5 × (l + 1) × (s + 1) words"
-unfoldable pub countCauses : Shape → (words : ℕ) → List (Bool × ℕ)
-countCauses p words = shapeCauses p ++ ((ltb words (tableLength p), 5) ∷ [])
-
 -- "profile checks, 5" (Reveal, Recover, Sign, Check)
 unfoldable pub tableCauses : Profile → (words : ℕ) → List (Bool × ℕ)
 tableCauses p words = profileCauses p ++ ((ltb words (tableLength (p .shape)), 5) ∷ [])
-
-unfoldable pub countCode : Shape → List ℕ → ℕ
-countCode p work = firstCause (countCauses p (length work))
 
 -- "Every refusal leaves all lent slices untouched, except that 7 and 15 leave the table in the work slice, as every success with a work
 -- slice does"; document 02, point 3: 19 "with the table left in the work slice"
 abbrev pub leavesTable : (code : ℕ) → Bool
 leavesTable code = eqb code 0 || eqb code 7 || eqb code 15 || eqb code 19
 
+-- what a work slice holds after a call with a code
 unfoldable pub tableAfter : (code : ℕ) → Shape → (work : List ℕ) → List ℕ
 tableAfter code p work = cond (leavesTable code) (withTable p work) work
-
--- "Count fills the work slice and gives the count"; refused, it gives zero
-pub record Counts (p : Shape) (work left : List ℕ) (r : Counted) : Type 0 where
-  pub code : outcomeCode (r .outcome) ≡ countCode p work
-  pub counted : r .count ≡ toWords 5 (cond (eqb (countCode p work) 0) (count p) 0)
-  pub table : left ≡ tableAfter (countCode p work) p work
 
 -- a work slice that begins with the table
 unfoldable pub Holds : Shape → (work : List ℕ) → Type 0

@@ -11,7 +11,8 @@ use Rattle.numbers.specs.Number.{value}
 use Rattle.profile.specs.Checks.{InLimits}
 use Rattle.profile.specs.declared.Shape.{Shape}
 use Rattle.counts.specs.Counts.{count}
-use Rattle.counts.specs.Table.{tableAfter, countCauses, countCode, Counts, Holds}
+use Rattle.counts.specs.Table.{tableAfter, Holds}
+use Rattle.counts.specs.Operations.{countCauses, countCode, Counts}
 use Rattle.counts.specs.declared.table.Counted.{Counted}
 use Rattle.counts.proofs.Answer.{count-value, table-held}
 use Rattle.counts.proofs.Room.{count-passed}

@@ -5,7 +5,8 @@ use Rattle.lists.specs.Joined.{joinTo}
 use Rattle.hex.specs.Hex.{hexDigit, hexOf, lineOf, digitOf, behind, readLine}
 use Rattle.profile.specs.Checks.{shapeCauses}
 use Rattle.counts.specs.Counts.{sumTo, share, D, count}
-use Rattle.counts.specs.Table.{tableLength, countCauses}
+use Rattle.counts.specs.Table.{tableLength}
+use Rattle.counts.specs.Operations.{countCauses}
 use Rattle.codewords.specs.Codeword.{place, codeword}
 use Rattle.listing.specs.Listing.{requestOf, requestIn, rowLine, rowLines, tableWords, listingCode, answerTo, listingOf, Example}
 

@@ -7,6 +7,7 @@ use lib.ListN.{length, take}
 use Rattle.hex.specs.Hex.{lineEnd}
 use Rattle.listing.specs.declared.input.Input.{Input}
 
+-- whether 0A (hex) stands among the bytes
 unfoldable pub hasEnding : List ℕ → Bool
 hasEnding [] = false
 hasEnding (c ∷ more) = eqb c lineEnd || hasEnding more

@@ -11,7 +11,8 @@ use Rattle.lists.specs.Joined.{joinTo}
 use Rattle.hex.specs.Hex.{lineOf, Line, wrong, right, readLine}
 use Rattle.profile.specs.declared.Shape.{Shape}
 use Rattle.counts.specs.Counts.{count}
-use Rattle.counts.specs.Table.{countCauses, tableAfter}
+use Rattle.counts.specs.Table.{tableAfter}
+use Rattle.counts.specs.Operations.{countCauses}
 use Rattle.codewords.specs.Operations.{rowOf}
 use Rattle.listing.specs.Input.{readOf}
 use Rattle.listing.specs.declared.Request.{Request}
@@ -77,6 +78,7 @@ FirstEleven = (input : List ℕ) → listingOf (readOf [] input) ≡ listingOf i
 abbrev pub exampleInput : List ℕ
 exampleInput = 49 ∷ 48 ∷ 48 ∷ 51 ∷ 48 ∷ 51 ∷ 48 ∷ 48 ∷ 48 ∷ 51 ∷ 10 ∷ []
 
+-- what it prints, line by line
 abbrev pub exampleListing : List ℕ
 exampleListing =
     lineOf (17 ∷ 0 ∷ 0 ∷ 0 ∷ 1 ∷ 2 ∷ [])
@@ -87,5 +89,6 @@ exampleListing =
     ++ lineOf (17 ∷ 0 ∷ 5 ∷ 2 ∷ 0 ∷ 1 ∷ [])
     ++ lineOf (17 ∷ 0 ∷ 6 ∷ 2 ∷ 1 ∷ 0 ∷ [])
 
+-- the listing of that input is that
 abbrev pub Example : Type 0
 Example = listingOf exampleInput ≡ exampleListing

@@ -7,7 +7,7 @@ use lib.ListN.{length, getD}
 use Rattle.numbers.specs.Number.{value, toWords}
 use Rattle.lists.proofs.Lists.{five}
 use Rattle.numbers.proofs.NumberLaws.{toWords-split}
-use Rattle.numbers.specs.Limbs.{upper, number}
+use Rattle.numbers.specs.inner.Limbs.{upper, number}
 use Rattle.numbers.specs.declared.limbs.Limbs.{Limbs}
 
 -- two limbs and a one are less than twice 2 ^ 64

@@ -3,7 +3,7 @@
 ghost use mathlib.Core.Path.{_≡_};
 ghost use Prim.Native.Nat.{_+_, _*_, _^_, _≤_, _<_};
 ghost use Rattle.numbers.specs.Number.{value, toWords};
-ghost use Rattle.numbers.specs.Limbs.{number};
+ghost use Rattle.numbers.specs.inner.Limbs.{number};
 use std::num::wrapping_add_u64;
 use std::num::wrapping_sub_u64;
 

@@ -16,10 +16,10 @@ use Rattle.profile.specs.Checks.{InLimits, leafBeyond}
 use Rattle.profile.specs.declared.Profile.{Profile}
 use Rattle.counts.specs.Counts.{count}
 use Rattle.counts.specs.Table.{withTable, tableCauses, leavesTable}
-use Rattle.counts.specs.Filling.{FillsPast}
+use Rattle.counts.specs.inner.Filling.{FillsPast}
 use Rattle.counts.proofs.Room.{TablePassed, table-early, table-numbered, table-passed}
 use Rattle.codewords.specs.Operations.{rowOf}
-use Rattle.codewords.specs.Placing.{Placeable, PlacesPast}
+use Rattle.codewords.specs.inner.Placing.{Placeable, PlacesPast}
 use Rattle.codewords.proofs.TableOperation.{early-code, none-before, answer-after, table-after}
 use Rattle.codewords.proofs.UnrankAnswer.{placeable}
 use Rattle.one_time.specs.Operations.{ownCauses, placeCode}

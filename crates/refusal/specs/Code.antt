@@ -14,6 +14,7 @@ use Rattle.refusal.specs.declared.Refusal.the-variants.{ShareUsed, Place
 use Rattle.refusal.specs.declared.Outcome.{Outcome}
 use Rattle.refusal.specs.declared.Outcome.the-variants.{Granted, Refused}
 
+-- the number of each cause
 abbrev pub code : Refusal → ℕ
 -- "1 l, 2 w, 3 s, 4 h outside its range"
 code ChainCount = 1

@@ -55,11 +55,12 @@ finished s = fresh (compressAll (s .words) (pending s ++ padding (s .total)))
 unfoldable pub hashed : List ℕ → Hash
 hashed bytes = record { words = compressAll initial bytes; block = rest bytes; total = length bytes }
 
--- a list of adds, each on the state that the one before handed back: the last state, and that each is granted
+-- a list of adds, each on the state that the one before handed back: the last state
 unfoldable pub addAll : Hash → List (List ℕ) → Hash
 addAll s [] = s
 addAll s (bytes ∷ more) = addAll (addState s bytes) more
 
+-- each add of the list is granted
 abbrev pub AllGranted : Hash → List (List ℕ) → Type 0
 AllGranted s [] = Unit {0}
 AllGranted s (bytes ∷ more) = (addCode s bytes ≡ 0) × AllGranted (addState s bytes) more

@@ -12,6 +12,7 @@ hasDivisor n zero = false
 hasDivisor n (suc zero) = false
 hasDivisor n (suc (suc d)) = eqb (n % suc (suc d)) 0 || hasDivisor n (suc d)
 
+-- whether a number is prime: no number from 2 up to below it divides it
 unfoldable pub isPrime : ℕ → Bool
 isPrime n = leb 2 n && not (hasDivisor n (n - 1))
 

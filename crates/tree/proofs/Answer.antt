@@ -13,7 +13,8 @@ use Rattle.profile.specs.declared.Profile.{Profile}
 use Rattle.tweak.specs.Tweak.{firstDomain}
 use Rattle.chains.specs.Leaves.{chainsOf, leafKey}
 use Rattle.merkle.specs.Nodes.{node}
-use Rattle.tree.specs.Tree.{rootAt, rootCode, Roots}
+use Rattle.tree.specs.Tree.{rootAt}
+use Rattle.tree.specs.Operations.{rootCode, Roots}
 
 module _ (p : Profile) (seed secret : List ℕ) (o : Outcome) (e : outcomeCode o ≡ firstCause (profileCauses p)) where
   pub root-refused : (r : Refusal) → o ≡ Refused r → Roots p seed secret (record { outcome = o; root = replicate 16 0 })

@@ -1,2 +1,3 @@
 -- The tree over the leaf keys.
 pub mod Tree
+pub mod Operations

@@ -1,19 +1,11 @@
--- Document 01, Tree: the tree over the leaf keys, the way up from a leaf and back to the root, and Root.
-use mathlib.Core.Path.{_≡_}
-use mathlib.Core.Bool.{cond}
+-- Document 01, Tree: the tree over the leaf keys, the way up from a leaf and back to the root.
 use mathlib.Core.List.{List}
 use Prim.Native.Nat.{ℕ}
-use lib.Dec.{eqb}
-use lib.ListN.{replicate}
-use Rattle.refusal.specs.Code.{outcomeCode, firstCause}
-use Rattle.profile.specs.Checks.{profileCauses}
 use Rattle.profile.specs.declared.Profile.{Profile}
-use Rattle.tweak.specs.Tweak.{firstDomain}
 use Rattle.tweak.specs.declared.Domain.{Domain}
 use Rattle.chains.specs.Leaves.{chainsOf, leafKey, recovered}
 use Rattle.chains.specs.declared.Chains.{Chains}
 use Rattle.merkle.specs.Nodes.{node, path, climbed}
-use Rattle.tree.specs.declared.TreeRoot.{TreeRoot}
 
 -- "Node height 0 is the leaf keys. … The root has height h; for h = 0 it is the leaf key"
 unfoldable pub rootAt : Domain → Chains → (secret : List ℕ) (height : ℕ) → List ℕ
@@ -30,12 +22,3 @@ siblingsOf d chains secret height leaf = path d (leafKey d chains secret) height
 -- "recovered root": the climb along siblings from the leaf key that values under a row give
 unfoldable pub recoveredRoot : Domain → Chains → (height leaf : ℕ) (row values siblings : List ℕ) → List ℕ
 recoveredRoot d chains height leaf row values siblings = climbed d leaf (recovered d chains leaf row values) siblings height
-
--- "Leaf key and Root: profile checks"
-unfoldable pub rootCode : Profile → ℕ
-rootCode p = firstCause (profileCauses p)
-
--- what Root answers; refused, the root is zero
-pub record Roots (p : Profile) (seed secret : List ℕ) (r : TreeRoot) : Type 0 where
-  pub code : outcomeCode (r .outcome) ≡ rootCode p
-  pub root : r .root ≡ cond (eqb (rootCode p) 0) (rootOf (firstDomain seed) p secret) (replicate 16 0)

@@ -18,7 +18,7 @@ use Rattle.signature.specs.Signature.{outsideText, signatureLength, leafIn, ran
 use Rattle.signature.proofs.Fits.{short-text}
 use Rattle.counts.specs.Counts.{count}
 use Rattle.counts.specs.Table.{tableLength, tableCauses, leavesTable}
-use Rattle.counts.specs.Filling.{FillsPast}
+use Rattle.counts.specs.inner.Filling.{FillsPast}
 use Rattle.counts.proofs.Answer.{count-value, table-held}
 use Rattle.counts.proofs.Room.{table-early, table-passed}
 use Rattle.codewords.specs.Operations.{rowOf}

@@ -15,14 +15,14 @@ use Rattle.signing_key.specs.Key.{keyWith, recounted}
 use Rattle.signing_key.specs.declared.Counter.{Counter}
 use Rattle.signing_key.specs.declared.Reserved.{Reserved}
 use Rattle.signing_key.specs.declared.SigningKey.{SigningKey}
-use Rattle.counts.specs.Table.{Counts}
+use Rattle.counts.specs.Operations.{Counts}
 use Rattle.counts.specs.declared.table.Counted.{Counted}
 use Rattle.codewords.specs.Operations.{Unranks, Ranks}
 use Rattle.codewords.specs.declared.ranking.Ranked.{Ranked}
 use Rattle.one_time.specs.Operations.{LeafKeys, Reveals, Recovers}
 use Rattle.one_time.specs.declared.LeafKey.{LeafKey}
 use Rattle.one_time.specs.declared.Recovered.{Recovered}
-use Rattle.tree.specs.Tree.{Roots}
+use Rattle.tree.specs.Operations.{Roots}
 use Rattle.tree.specs.declared.TreeRoot.{TreeRoot}
 use Rattle.signer.specs.Operations.{SigningCall, Signs, signCode, keyAfter}
 use Rattle.signer.specs.declared.Signed.{Signed}

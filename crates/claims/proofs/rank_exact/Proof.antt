@@ -6,7 +6,7 @@ use lib.ListN.{length}
 use Rattle.refusal.specs.Code.{firstCause}
 use Rattle.refusal.proofs.Causes.{none-then}
 use Rattle.counts.specs.Counts.{D, count}
-use Rattle.counts.specs.Table.{countCauses, countCode}
+use Rattle.counts.specs.Operations.{countCauses, countCode}
 use Rattle.counts.proofs.Room.{count-numbered}
 use Rattle.codewords.specs.Operations.{rowOf, rowCauses, rankCode}
 use Rattle.codewords.proofs.CodewordLaws.{codeword-valid}

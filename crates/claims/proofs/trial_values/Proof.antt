@@ -2,7 +2,8 @@
 use mathlib.Core.Path.{refl}
 use Rattle.profile.specs.Checks.{shapeCauses}
 use Rattle.counts.specs.Counts.{sumTo, share, D, count}
-use Rattle.counts.specs.Table.{tableLength, countCauses, countCode}
+use Rattle.counts.specs.Table.{tableLength}
+use Rattle.counts.specs.Operations.{countCauses, countCode}
 use Rattle.codewords.specs.Codeword.{place, codeword, rank, total}
 use Rattle.codewords.specs.Operations.{unrankCode, someAbove, rankCode}
 use Rattle.chains.specs.Leaves.{stepsTo}

@@ -6,7 +6,8 @@ use denote.Ref.{now}
 use lib.ListN.{length}
 use Rattle.refusal.specs.Code.{outcomeCode, firstCause}
 use Rattle.profile.proofs.Limits.{sum-small}
-use Rattle.counts.specs.Table.{tableLength, countCauses, Holds}
+use Rattle.counts.specs.Table.{tableLength, Holds}
+use Rattle.counts.specs.Operations.{countCauses}
 use Rattle.counts.proofs.Answer.{table-held}
 use Rattle.counts.proofs.Room.{count-passed}
 use Rattle.codewords.specs.Operations.{rowCauses}

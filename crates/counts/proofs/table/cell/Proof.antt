@@ -7,7 +7,7 @@ use denote.Ref.{now}
 use lib.ListN.{take, drop}
 use Rattle.numbers.specs.Number.{value}
 use Rattle.counts.specs.Counts.{D}
-use Rattle.numbers.specs.Limbs.{number}
+use Rattle.numbers.specs.inner.Limbs.{number}
 use Rattle.counts.proofs.NextCell.{row-start, row-small, above, grown-fits, grown, out-within, shrunk}
 use Rattle.counts.proofs.table.cell.Statement.{statement}
 use Rattle.counts.proofs.table.cell.Tie as tie

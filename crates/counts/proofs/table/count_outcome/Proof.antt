@@ -4,7 +4,7 @@ use borrow.Author.Needs.{needs}
 use Rattle.refusal.proofs.Causes.{chain-begins, chain-next}
 use Rattle.profile.specs.Checks.{shapeCauses}
 use Rattle.profile.proofs.Limits.{shape-numbered}
-use Rattle.counts.specs.Table.{countCauses}
+use Rattle.counts.specs.Operations.{countCauses}
 use Rattle.counts.proofs.table.count_outcome.Statement.{statement}
 use Rattle.counts.proofs.table.count_outcome.Tie as tie
 

@@ -8,7 +8,7 @@ use denote.Ref.{now}
 use lib.ListN.{length, drop}
 use Rattle.numbers.specs.Number.{value, toWords}
 use Rattle.counts.specs.Counts.{share, D}
-use Rattle.numbers.specs.Limbs.{number}
+use Rattle.numbers.specs.inner.Limbs.{number}
 use Rattle.counts.specs.Table.{cells, rows}
 use Rattle.counts.proofs.CountLaws.{share-start, share-before}
 use Rattle.counts.proofs.NextCell.{row-small}

@@ -3,7 +3,7 @@ use mathlib.Core.Path.{_≡_, _∙_, ap}
 use Prim.Native.Nat.{_-_}
 use native.Mathlib.Omega.{arith}
 use borrow.Author.Needs.{needs}
-use Rattle.numbers.specs.Limbs.{number}
+use Rattle.numbers.specs.inner.Limbs.{number}
 use Rattle.numbers.specs.Number.{value, toWords}
 use Rattle.numbers.proofs.number.subtract.Statement.{statement}
 use Rattle.numbers.proofs.number.subtract.Tie as tie

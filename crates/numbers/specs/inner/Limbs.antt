@@ -6,5 +6,6 @@ use Rattle.numbers.specs.declared.limbs.Limbs.{Limbs}
 unfoldable pub upper : Limbs → ℕ
 upper n = n .middle + 2 ^ 64 * n .high
 
+-- all three limbs
 unfoldable pub number : Limbs → ℕ
 number n = n .low + 2 ^ 64 * upper n
