@@ -76,10 +76,10 @@
  */
 #define ZAROSNIK_VERSION_MAJOR 0
 #define ZAROSNIK_VERSION_MINOR 5
-#define ZAROSNIK_VERSION_PATCH 0
+#define ZAROSNIK_VERSION_PATCH 1
 #define ZAROSNIK_VERSION \
     (ZAROSNIK_VERSION_MAJOR * 1000000 + ZAROSNIK_VERSION_MINOR * 1000 + ZAROSNIK_VERSION_PATCH)
-#define ZAROSNIK_VERSION_STRING "0.5.0"
+#define ZAROSNIK_VERSION_STRING "0.5.1"
 
 /* The compiler warns where the outcome of a call is not looked at: an order must not be carried out, nor a signature
  * handed out, without it. */

@@ -115,7 +115,8 @@ module _ (p : Profile) (seed secret : List ℕ) (seed-bytes : SeedBytes seed) (s
   rounds-from : (rounds : List Round) → WithRoom rounds → (d : Desk) (n : ℕ) → Between d n → StoredFirst d (roundSteps rounds)
   unfolding roundSteps WithRoom Along InTurn deskAfter afterCut
   rounds-from [] room d n at = tt
-  rounds-from (wholeRound slice c ∷ rounds) room d n at = round-whole d n at slice (room .0) c (roundSteps rounds) (λ d m at. rounds-from rounds (room .1) d m at)
+  rounds-from (wholeRound slice c ∷ rounds) room d n at =
+      round-whole d n at slice (room .0) c (roundSteps rounds) (λ d m at. rounds-from rounds (room .1) d m at)
   rounds-from (cutRound k slice c whole ∷ rounds) room d n at =
       round-part d n at slice (room .0) c k (cut whole ∷ roundSteps rounds)
       (λ d m at. (tt, rounds-from rounds (room .1) (deskAfter d (cut whole)) (after d m at (cut whole) tt .0) (after d m at (cut whole) tt .1, refl)))

@@ -19,13 +19,14 @@ pub record Antichain (w l : ℕ) (rows : List (List ℕ)) : Type 0 where
 
 -- the rows of the numbers 0 to n − 1
 unfoldable pub rowsBelow : Shape → ℕ → List (List ℕ)
-rowsBelow p zero = []
-rowsBelow p (suc n) = rowsBelow p n ++ (rowOf p n ∷ [])
+rowsBelow shape zero = []
+rowsBelow shape (suc n) = rowsBelow shape n ++ (rowOf shape n ∷ [])
 
 -- "no code with as many chains signs more numbers"
 pub record LargestCode : Type 0 where
   -- "For s the whole part of l × (w − 1) / 2, every list … has at most count members": for every l and w, also outside the limits
-  pub bound : (p : Shape) (rows : List (List ℕ)) → p .sum ≡ p .chains * (p .width - 1) / 2 → Antichain (p .width) (p .chains) rows
-      → length rows ≤ count p
+  pub bound : (shape : Shape) (rows : List (List ℕ)) → shape .sum ≡ shape .chains * (shape .width - 1) / 2
+      → Antichain (shape .width) (shape .chains) rows → length rows ≤ count shape
   -- the rows of a shape, whatever its sum, are such a list with count members: those of the sum above reach the bound
-  pub reached : (p : Shape) → Antichain (p .width) (p .chains) (rowsBelow p (count p)) × (length (rowsBelow p (count p)) ≡ count p)
+  pub reached : (shape : Shape)
+      → Antichain (shape .width) (shape .chains) (rowsBelow shape (count shape)) × (length (rowsBelow shape (count shape)) ≡ count shape)

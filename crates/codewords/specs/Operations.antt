@@ -17,23 +17,23 @@ use Rattle.codewords.specs.declared.ranking.Ranked.{Ranked}
 
 -- "A row belongs to a number when the placing rule above gives that row for it"
 abbrev pub rowOf : Shape → ℕ → List ℕ
-rowOf p n = codeword (p .width) (p .chains) (p .sum) n
+rowOf shape n = codeword (shape .width) (shape .chains) (shape .sum) n
 
 -- the number of a row
 abbrev pub numberOf : Shape → List ℕ → ℕ
-numberOf p row = rank (p .width) (p .sum) row
+numberOf shape row = rank (shape .width) (shape .sum) row
 
 -- "Spread, number to row: 1, 2, 3, 5; 6 output under l bytes; 7 number not below the count"
 unfoldable pub unrankCode : Shape → ℕ → (work row : List ℕ) → ℕ
-unrankCode p n work row =
+unrankCode shape n work row =
     firstCause
-    (countCauses p (length work) ++ ((ltb (length row) (p .chains), 6) ∷ (leb (count p) n, 7) ∷ []))
+    (countCauses shape (length work) ++ ((ltb (length row) (shape .chains), 6) ∷ (leb (count shape) n, 7) ∷ []))
 
 -- what Spread answers and leaves: the table after a success and after 7, the row after a success, nothing else
-pub record Unranks (p : Shape) (n : ℕ) (work row work′ row′ : List ℕ) (r : Outcome) : Type 0 where
-  pub code : outcomeCode r ≡ unrankCode p n work row
-  pub table : work′ ≡ tableAfter (unrankCode p n work row) p work
-  pub written : row′ ≡ cond (eqb (unrankCode p n work row) 0) (rowOf p n ++ drop (p .chains) row) row
+pub record Unranks (shape : Shape) (n : ℕ) (work row work′ row′ : List ℕ) (r : Outcome) : Type 0 where
+  pub code : outcomeCode r ≡ unrankCode shape n work row
+  pub table : work′ ≡ tableAfter (unrankCode shape n work row) shape work
+  pub written : row′ ≡ cond (eqb (unrankCode shape n work row) 0) (rowOf shape n ++ drop (shape .chains) row) row
 
 -- "a length above w − 1"
 unfoldable pub someAbove : ℕ → List ℕ → Bool
@@ -42,20 +42,22 @@ someAbove w (a ∷ row) = leb w a || someAbove w row
 
 -- the causes of Gather that look at the row
 abbrev pub rowCauses : Shape → List ℕ → List (Bool × ℕ)
-rowCauses p row = (not (eqb (length row) (p .chains)), 8) ∷ (someAbove (p .width) row, 9) ∷ (not (eqb (total row) (p .sum)), 10) ∷ []
+rowCauses shape row =
+    (not (eqb (length row) (shape .chains)), 8) ∷ (someAbove (shape .width) row, 9) ∷ (not (eqb (total row) (shape .sum)), 10) ∷ []
 
 -- "Gather, row to number: 1, 2, 3, 5; 8 the row hasn't l bytes; 9 a length above w − 1; 10 sum other than s"
 unfoldable pub rankCode : Shape → (row work : List ℕ) → ℕ
-rankCode p row work = firstCause (countCauses p (length work) ++ rowCauses p row)
+rankCode shape row work = firstCause (countCauses shape (length work) ++ rowCauses shape row)
 
 -- what Gather answers and leaves; refused, the number is zero
-pub record Ranks (p : Shape) (row work work′ : List ℕ) (r : Ranked) : Type 0 where
-  pub code : outcomeCode (r .outcome) ≡ rankCode p row work
-  pub ranked : r .number ≡ toWords 5 (cond (eqb (rankCode p row work) 0) (numberOf p row) 0)
-  pub table : work′ ≡ tableAfter (rankCode p row work) p work
+pub record Ranks (shape : Shape) (row work work′ : List ℕ) (r : Ranked) : Type 0 where
+  pub code : outcomeCode (r .outcome) ≡ rankCode shape row work
+  pub ranked : r .number ≡ toWords 5 (cond (eqb (rankCode shape row work) 0) (numberOf shape row) 0)
+  pub table : work′ ≡ tableAfter (rankCode shape row work) shape work
 
 -- "Spread, number to row" and "Gather, row to number": each undoes the other
 pub record RankUnrank : Type 0 where
-  pub ranked : (p : Shape) (n : ℕ) → n < count p → numberOf p (rowOf p n) ≡ n
-  pub unranked : (p : Shape) (row : List ℕ) → IsCodeword (p .width) (p .chains) (p .sum) row → (numberOf p row < count p)
-      × (rowOf p (numberOf p row) ≡ row)
+  pub ranked : (shape : Shape) (n : ℕ) → n < count shape → numberOf shape (rowOf shape n) ≡ n
+  pub unranked : (shape : Shape) (row : List ℕ) → IsCodeword (shape .width) (shape .chains) (shape .sum) row
+      → (numberOf shape row < count shape)
+      × (rowOf shape (numberOf shape row) ≡ row)

@@ -56,12 +56,12 @@ fn sum_differs(sum: usize, row: &[u8]) -> bool
 }
 
 // The causes of Gather that look at the row, behind those of Count.
-fn rank_outcome(checked: Outcome, p: Shape, row: &[u8]) -> Outcome
-    ensures { λ r. ⌜ outcomeCode r ≡ thenFirst (outcomeCode checked) (rowCauses p (now (row .entry))) ⌝ }
+fn rank_outcome(checked: Outcome, shape: Shape, row: &[u8]) -> Outcome
+    ensures { λ r. ⌜ outcomeCode r ≡ thenFirst (outcomeCode checked) (rowCauses shape (now (row .entry))) ⌝ }
 {
-    let chains = p.chains as usize;
-    let width = p.width as usize;
-    let sum = p.sum as usize;
+    let chains = shape.chains as usize;
+    let width = shape.width as usize;
+    let sum = shape.sum as usize;
     checked
         .then(row.len() != chains, Refusal::CodewordLength)
         .then(some_above(width, row), Refusal::DigitTooLarge)
@@ -107,20 +107,20 @@ fn number_of(table: &[u32], row: &[u8], width: usize, sum: usize) -> [u32; 5]
 }
 
 // Gather: the number of the codeword in the row.
-pub fn rank(p: Shape, row: &[u8], table: &mut [u32]) -> Ranked
-    ensures { λ r. ⌜ Ranks p (now (row .entry)) (now (table .entry)) (now (table .exit)) r ⌝ }
+pub fn rank(shape: Shape, row: &[u8], table: &mut [u32]) -> Ranked
+    ensures { λ r. ⌜ Ranks shape (now (row .entry)) (now (table .entry)) (now (table .exit)) r ⌝ }
 {
-    let checked = count_outcome(p, table.len());
-    let outcome = rank_outcome(checked, p, row);
-    fill_past(outcome, p, table);
+    let checked = count_outcome(shape, table.len());
+    let outcome = rank_outcome(checked, shape, row);
+    fill_past(outcome, shape, table);
     match outcome {
         Outcome::Refused(_) => Ranked {
             outcome: outcome,
             number: [0; 5],
         },
         Outcome::Granted => {
-            let width = p.width as usize;
-            let sum = p.sum as usize;
+            let width = shape.width as usize;
+            let sum = shape.sum as usize;
             Ranked {
                 outcome: outcome,
                 number: number_of(table, row, width, sum),

@@ -21,17 +21,17 @@ use refusal::Refusal;
 
 // Writes the codeword of a number below the count, with the table that holds its counts. At each place the skipped counts
 // are taken off one by one, until a share holds the number; then the sum still to be spread falls by that length.
-pub fn write_codeword(p: Shape, number: [u32; 5], table: &[u32], row: &mut [u8])
-    requires { ⌜ InLimits p ⌝ }
-    requires { ⌜ Holds p (now table) ⌝ }
-    requires { ⌜ value number < countOf p ⌝ }
-    requires { ⌜ p .chains ≤ length (now row) ⌝ }
-    ensures { λ _. ⌜ now (row .exit) ≡ rowOf p (value number) ++ drop (p .chains) (now (row .entry)) ⌝ }
+pub fn write_codeword(shape: Shape, number: [u32; 5], table: &[u32], row: &mut [u8])
+    requires { ⌜ InLimits shape ⌝ }
+    requires { ⌜ Holds shape (now table) ⌝ }
+    requires { ⌜ value number < countOf shape ⌝ }
+    requires { ⌜ shape .chains ≤ length (now row) ⌝ }
+    ensures { λ _. ⌜ now (row .exit) ≡ rowOf shape (value number) ++ drop (shape .chains) (now (row .entry)) ⌝ }
 {
-    let chains = p.chains as usize;
+    let chains = shape.chains as usize;
     // No step needs the width; the invariants of both loops speak of it.
-    let width = p.width as usize;
-    let sum = p.sum as usize;
+    let width = shape.width as usize;
+    let sum = shape.sum as usize;
     let mut n = number;
     let mut left = sum;
     let mut place = 0;
@@ -57,32 +57,32 @@ pub fn write_codeword(p: Shape, number: [u32; 5], table: &[u32], row: &mut [u8])
 // row.
 pub fn place_past(
     early: Outcome,
-    p: Shape,
+    shape: Shape,
     number: [u32; 5],
     count: [u32; 5],
     table: &[u32],
     row: &mut [u8],
 ) -> Outcome
-    requires { ⌜ (outcomeCode early ≡ 0 → Placeable p count (now table) (now row)) ⌝ }
-    ensures { λ r. ⌜ PlacesPast (outcomeCode early) p (value number) (now (row .entry)) (now (row .exit)) r ⌝ }
+    requires { ⌜ (outcomeCode early ≡ 0 → Placeable shape count (now table) (now row)) ⌝ }
+    ensures { λ r. ⌜ PlacesPast (outcomeCode early) shape (value number) (now (row .entry)) (now (row .exit)) r ⌝ }
 {
     let outcome = early.then(!less(number, count), Refusal::NumberTooLarge);
     match outcome {
         Outcome::Refused(_) => outcome,
         Outcome::Granted => {
-            write_codeword(p, number, table, row);
+            write_codeword(shape, number, table, row);
             outcome
         }
     }
 }
 
 // Spread: the codeword of the number, into the first bytes of the row.
-pub fn unrank(p: Shape, number: [u32; 5], table: &mut [u32], row: &mut [u8]) -> Outcome
-    ensures { λ r. ⌜ Unranks p (value number) (now (table .entry)) (now (row .entry)) (now (table .exit)) (now (row .exit)) r ⌝ }
+pub fn unrank(shape: Shape, number: [u32; 5], table: &mut [u32], row: &mut [u8]) -> Outcome
+    ensures { λ r. ⌜ Unranks shape (value number) (now (table .entry)) (now (row .entry)) (now (table .exit)) (now (row .exit)) r ⌝ }
 {
-    let chains = p.chains as usize;
-    let checked = count_outcome(p, table.len());
+    let chains = shape.chains as usize;
+    let checked = count_outcome(shape, table.len());
     let early = checked.then(row.len() < chains, Refusal::OutputTooShort);
-    let count = fill_past(early, p, table);
-    place_past(early, p, number, count, table, row)
+    let count = fill_past(early, shape, table);
+    place_past(early, shape, number, count, table, row)
 }

@@ -22,8 +22,8 @@ D w (suc i) t = sumTo (share (D w i) t) w
 
 -- "The count is D(l, s)"
 unfoldable pub count : Shape → ℕ
-count p = D (p .width) (p .chains) (p .sum)
+count shape = D (shape .width) (shape .chains) (shape .sum)
 
 -- "16^40 = 2^160 bounds every count, and a count for l ≥ 1 is below it": five words hold it whole
 pub record CountsFit : Type 0 where
-  pub below : (p : Shape) → InLimits p → count p < 2 ^ 160
+  pub below : (shape : Shape) → InLimits shape → count shape < 2 ^ 160

@@ -15,14 +15,14 @@ use Rattle.counts.specs.declared.table.Counted.{Counted}
 
 -- "Count …: 1, 2, 3; 5 work slice under 5 × (l + 1) × (s + 1) words"
 unfoldable pub countCauses : Shape → (words : ℕ) → List (Bool × ℕ)
-countCauses p words = shapeCauses p ++ ((ltb words (tableLength p), 5) ∷ [])
+countCauses shape words = shapeCauses shape ++ ((ltb words (tableLength shape), 5) ∷ [])
 
 -- the code of Count
 unfoldable pub countCode : Shape → List ℕ → ℕ
-countCode p work = firstCause (countCauses p (length work))
+countCode shape work = firstCause (countCauses shape (length work))
 
 -- "Count fills the work slice and gives the count"; refused, it gives zero
-pub record Counts (p : Shape) (work left : List ℕ) (r : Counted) : Type 0 where
-  pub code : outcomeCode (r .outcome) ≡ countCode p work
-  pub counted : r .count ≡ toWords 5 (cond (eqb (countCode p work) 0) (count p) 0)
-  pub table : left ≡ tableAfter (countCode p work) p work
+pub record Counts (shape : Shape) (work left : List ℕ) (r : Counted) : Type 0 where
+  pub code : outcomeCode (r .outcome) ≡ countCode shape work
+  pub counted : r .count ≡ toWords 5 (cond (eqb (countCode shape work) 0) (count shape) 0)
+  pub table : left ≡ tableAfter (countCode shape work) shape work

@@ -23,11 +23,11 @@ rows w s (suc n) = rows w s n ++ cells (D w n) (s + 1)
 
 -- "The table has (l + 1) × (s + 1) numbers"
 unfoldable pub tableLength : Shape → ℕ
-tableLength p = 5 * ((p .chains + 1) * (p .sum + 1))
+tableLength shape = 5 * ((shape .chains + 1) * (shape .sum + 1))
 
 -- the work slice with the table in it; "Words … past the named length never change"
 unfoldable pub withTable : Shape → List ℕ → List ℕ
-withTable p work = rows (p .width) (p .sum) (p .chains + 1) ++ drop (tableLength p) work
+withTable shape work = rows (shape .width) (shape .sum) (shape .chains + 1) ++ drop (tableLength shape) work
 
 -- "profile checks, 5" (Reveal, Recover, Sign, Check)
 unfoldable pub tableCauses : Profile → (words : ℕ) → List (Bool × ℕ)
@@ -40,8 +40,8 @@ leavesTable code = eqb code 0 || eqb code 7 || eqb code 15 || eqb code 19
 
 -- what a work slice holds after a call with a code
 unfoldable pub tableAfter : (code : ℕ) → Shape → (work : List ℕ) → List ℕ
-tableAfter code p work = cond (leavesTable code) (withTable p work) work
+tableAfter code shape work = cond (leavesTable code) (withTable shape work) work
 
 -- a work slice that begins with the table
 unfoldable pub Holds : Shape → (work : List ℕ) → Type 0
-Holds p work = take (tableLength p) work ≡ rows (p .width) (p .sum) (p .chains + 1)
+Holds shape work = take (tableLength shape) work ≡ rows (shape .width) (shape .sum) (shape .chains + 1)

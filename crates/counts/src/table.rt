@@ -102,44 +102,44 @@ fn fill_rows(table: &mut [u32], chains: usize, width: usize, sum: usize)
 }
 
 // Fills the work slice with the table of a shape, and gives the count, its last number.
-fn fill(p: Shape, table: &mut [u32]) -> [u32; 5]
-    requires { ⌜ InLimits p ⌝ }
-    requires { ⌜ tableLength p ≤ length (now table) ⌝ }
-    ensures { λ r. ⌜ (r ≡ toWords 5 (count p)) × (now (table .exit) ≡ withTable p (now (table .entry))) ⌝ }
+fn fill(shape: Shape, table: &mut [u32]) -> [u32; 5]
+    requires { ⌜ InLimits shape ⌝ }
+    requires { ⌜ tableLength shape ≤ length (now table) ⌝ }
+    ensures { λ r. ⌜ (r ≡ toWords 5 (count shape)) × (now (table .exit) ≡ withTable shape (now (table .entry))) ⌝ }
 {
-    let chains = p.chains as usize;
-    let width = p.width as usize;
-    let sum = p.sum as usize;
+    let chains = shape.chains as usize;
+    let width = shape.width as usize;
+    let sum = shape.sum as usize;
     fill_rows(table, chains, width, sum);
     load(table, chains * (sum + 1) + sum)
 }
 
 // Past the causes that gave an outcome: granted, fills the work slice with the table and gives the count; refused, leaves
 // the slice as it is and gives zero.
-pub fn fill_past(early: Outcome, p: Shape, table: &mut [u32]) -> [u32; 5]
-    requires { ⌜ (outcomeCode early ≡ 0 → InLimits p × (tableLength p ≤ length (now table))) ⌝ }
-    ensures { λ r. ⌜ FillsPast (outcomeCode early) p (now (table .entry)) (now (table .exit)) r ⌝ }
+pub fn fill_past(early: Outcome, shape: Shape, table: &mut [u32]) -> [u32; 5]
+    requires { ⌜ (outcomeCode early ≡ 0 → InLimits shape × (tableLength shape ≤ length (now table))) ⌝ }
+    ensures { λ r. ⌜ FillsPast (outcomeCode early) shape (now (table .entry)) (now (table .exit)) r ⌝ }
 {
     match early {
         Outcome::Refused(_) => [0; 5],
-        Outcome::Granted => fill(p, table),
+        Outcome::Granted => fill(shape, table),
     }
 }
 
 // Whether so many words are too few for the table of a shape, which may be any: the product of its sizes needs not fit.
-pub fn no_room(p: Shape, words: usize) -> bool
-    ensures { λ r. ⌜ r ≡ ltb words (tableLength p) ⌝ }
+pub fn no_room(shape: Shape, words: usize) -> bool
+    ensures { λ r. ⌜ r ≡ ltb words (tableLength shape) ⌝ }
 {
-    let chains = p.chains as usize;
-    let sum = p.sum as usize;
+    let chains = shape.chains as usize;
+    let sum = shape.sum as usize;
     words / 5 / (chains + 1) <= sum
 }
 
 // The causes of Count.
-pub fn count_outcome(p: Shape, words: usize) -> Outcome
-    ensures { λ r. ⌜ outcomeCode r ≡ firstCause (countCauses p words) ⌝ }
+pub fn count_outcome(shape: Shape, words: usize) -> Outcome
+    ensures { λ r. ⌜ outcomeCode r ≡ firstCause (countCauses shape words) ⌝ }
 {
-    check_shape(p).then(no_room(p, words), Refusal::TableTooShort)
+    check_shape(shape).then(no_room(shape, words), Refusal::TableTooShort)
 }
 
 // The causes of a profile, with room for its table.
@@ -151,12 +151,12 @@ pub fn table_outcome(p: Profile, words: usize) -> Outcome
 }
 
 // Count: fills the work slice with the table and gives the number of codewords.
-pub fn codeword_count(p: Shape, table: &mut [u32]) -> Counted
-    ensures { λ r. ⌜ Counts p (now (table .entry)) (now (table .exit)) r ⌝ }
+pub fn codeword_count(shape: Shape, table: &mut [u32]) -> Counted
+    ensures { λ r. ⌜ Counts shape (now (table .entry)) (now (table .exit)) r ⌝ }
 {
-    let outcome = count_outcome(p, table.len());
+    let outcome = count_outcome(shape, table.len());
     Counted {
         outcome: outcome,
-        count: fill_past(outcome, p, table),
+        count: fill_past(outcome, shape, table),
     }
 }

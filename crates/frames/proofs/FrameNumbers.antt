@@ -31,9 +31,14 @@ numbered-at kind k (suc n) (suc i) f h =
     rw same (numbered-at kind (suc k) n i f (omega arith))
 
 -- a frame with so many fixed bytes, and so many behind them
-pub sized-size : {f : Frame} {fixed payload : ℕ} {r : Size} → length (f .head) ≡ fixed → f .low ≡ payload → f .high ≡ payload → fixed ≤ 7 → payload ≤ 200
+sized-size : {f : Frame} {fixed payload : ℕ} {r : Size} → length (f .head) ≡ fixed → f .low ≡ payload → f .high ≡ payload → fixed ≤ 7 → payload ≤ 200
     → (r .fixed ≡ fixed) × (r .low ≡ payload) × (r .high ≡ payload) → HasSize f r
 sized-size a b c few short e = record { fixed = e .0 ∙ sym a; low = e .1 ∙ sym b; high = e .2 ∙ sym c; few = omega arith; short = omega arith }
+
+-- the frame with a number
+pub at-number : (p : Profile) {k n fixed payload : ℕ} {r : Size} → k ≡ n → length (frameAt p n .head) ≡ fixed → frameAt p n .low ≡ payload
+    → frameAt p n .high ≡ payload → fixed ≤ 7 → payload ≤ 200 → (r .fixed ≡ fixed) × (r .low ≡ payload) × (r .high ≡ payload) → HasSize (frameAt p k) r
+at-number p e a b c few short s = rw e (sized-size a b c few short s)
 
 module _ (p : Profile) where
   abbrev chains : ℕ

@@ -32,11 +32,11 @@ requestIn (right bytes rest) = requestOf bytes
 
 -- "kind 11 (hex), number (2 bytes), l lengths (1 each)"
 unfoldable pub rowLine : Shape → (number : ℕ) → List ℕ
-rowLine p n = lineOf (17 ∷ toBytes 2 n ++ rowOf p n)
+rowLine shape n = lineOf (17 ∷ toBytes 2 n ++ rowOf shape n)
 
 -- "prints a line for each number up to the first 256"
 unfoldable pub rowLines : Shape → List ℕ
-rowLines p = joinTo (rowLine p) (min (count p) 256)
+rowLines shape = joinTo (rowLine shape) (min (count shape) 256)
 
 -- "A refusal prints 1F and its number in one hex byte"
 unfoldable pub refusalLine : (code : ℕ) → List ℕ
@@ -48,12 +48,12 @@ tableWords = 16000
 
 -- the causes of Count
 unfoldable pub listingCode : Shape → ℕ
-listingCode p = firstCause (countCauses p tableWords)
+listingCode shape = firstCause (countCauses shape tableWords)
 
 -- "a malformed line prints 1F11"
 unfoldable pub answerTo : Request → List ℕ
 answerTo Malformed = refusalLine 17
-answerTo (Asked p) = cond (eqb (listingCode p) 0) (rowLines p) (refusalLine (listingCode p))
+answerTo (Asked shape) = cond (eqb (listingCode shape) 0) (rowLines shape) (refusalLine (listingCode shape))
 
 -- all that is printed
 unfoldable pub listingOf : (input : List ℕ) → List ℕ
@@ -62,7 +62,7 @@ listingOf input = answerTo (requestIn (readLine input))
 -- what the work slice then holds: what Count leaves there, and after a malformed line what stood there
 unfoldable pub workAfter : Request → (work : List ℕ) → List ℕ
 workAfter Malformed work = work
-workAfter (Asked p) work = tableAfter (listingCode p) p work
+workAfter (Asked shape) work = tableAfter (listingCode shape) shape work
 
 -- what is printed of a line that was read, and what the slices hold afterwards
 pub record Lists (line work work′ out out′ : List ℕ) (given : ℕ) : Type 0 where

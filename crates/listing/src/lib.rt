@@ -75,47 +75,48 @@ fn line_count(count: [u32; 5]) -> usize
 }
 
 // Prints the line of a number from index `at` on, and gives the index behind it.
-fn write_row(p: Shape, n: usize, table: &[u32], out: &mut [u8], at: usize) -> usize
-    requires { ⌜ InLimits p × Holds p (now table) × (n < count p) × (n < 256) × (at + 87 ≤ length (now out)) ⌝ }
-    ensures { λ r. ⌜ (r ≡ at + length (rowLine p n))
-        × (now (out .exit) ≡ take at (now (out .entry)) ++ rowLine p n ++ drop r (now (out .entry))) ⌝ }
+fn write_row(shape: Shape, n: usize, table: &[u32], out: &mut [u8], at: usize) -> usize
+    requires { ⌜ InLimits shape × Holds shape (now table) × (n < count shape) × (n < 256) × (at + 87 ≤ length (now out)) ⌝ }
+    ensures { λ r. ⌜ (r ≡ at + length (rowLine shape n))
+        × (now (out .exit) ≡ take at (now (out .entry)) ++ rowLine shape n ++ drop r (now (out .entry))) ⌝ }
 {
     let mut row = [0u8; 43];
     row[0] = 17;
     row[1] = (n / 256) as u8;
     row[2] = (n % 256) as u8;
     let number = [n as u32, 0, 0, 0, 0];
-    write_codeword(p, number, table, &mut row[3..]);
-    let end = p.chains as usize + 3;
+    write_codeword(shape, number, table, &mut row[3..]);
+    let end = shape.chains as usize + 3;
     write_line(out, at, &row[..end])
 }
 
 // Prints the lines of the first numbers.
-fn write_rows(p: Shape, lines: usize, table: &[u32], out: &mut [u8]) -> usize
-    requires { ⌜ InLimits p × Holds p (now table) × (lines ≡ min (count p) 256) × (22272 ≤ length (now out)) ⌝ }
-    ensures { λ r. ⌜ (r ≡ length (rowLines p)) × (now (out .exit) ≡ rowLines p ++ drop r (now (out .entry))) ⌝ }
+fn write_rows(shape: Shape, lines: usize, table: &[u32], out: &mut [u8]) -> usize
+    requires { ⌜ InLimits shape × Holds shape (now table) × (lines ≡ min (count shape) 256) × (22272 ≤ length (now out)) ⌝ }
+    ensures { λ r. ⌜ (r ≡ length (rowLines shape)) × (now (out .exit) ≡ rowLines shape ++ drop r (now (out .entry))) ⌝ }
 {
     let mut at = 0;
     let mut n = 0;
     while n < lines {
-        at = write_row(p, n, table, out, at);
+        at = write_row(shape, n, table, out, at);
         n += 1;
     }
     at
 }
 
 // Prints the lines of a shape, or its refusal.
-fn write_answer(p: Shape, table: &mut [u32], out: &mut [u8]) -> usize
+fn write_answer(shape: Shape, table: &mut [u32], out: &mut [u8]) -> usize
     requires { ⌜ (length (now table) ≡ 16000) × (22272 ≤ length (now out)) ⌝ }
-    ensures { λ r. ⌜ (r ≡ length (answerTo (Request.Asked p))) × (now (out .exit) ≡ answerTo (Request.Asked p) ++ drop r (now (out .entry)))
-        × (now (table .exit) ≡ workAfter (Request.Asked p) (now (table .entry))) ⌝ }
+    ensures { λ r. ⌜ (r ≡ length (answerTo (Request.Asked shape)))
+        × (now (out .exit) ≡ answerTo (Request.Asked shape) ++ drop r (now (out .entry)))
+        × (now (table .exit) ≡ workAfter (Request.Asked shape) (now (table .entry))) ⌝ }
 {
-    let counted = codeword_count(p, table);
+    let counted = codeword_count(shape, table);
     let outcome = counted.outcome;
     let count = counted.count;
     match outcome {
         Outcome::Refused(cause) => write_refusal(code(cause), out),
-        Outcome::Granted => write_rows(p, line_count(count), table, out),
+        Outcome::Granted => write_rows(shape, line_count(count), table, out),
     }
 }
 

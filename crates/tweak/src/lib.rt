@@ -127,11 +127,11 @@ pub fn first_hasher(seed: [u8; 16]) -> Hasher
 }
 
 // The running hash of a tweaked hash, before its data.
-pub fn begin(h: Hasher, address: [u8; 22]) -> Hash
-    requires { ⌜ Seeded h ⌝ }
-    ensures { λ r. ⌜ r ≡ hashed (seedBlock (h .domain .seed) ++ address) ⌝ }
+pub fn begin(hasher: Hasher, address: [u8; 22]) -> Hash
+    requires { ⌜ Seeded hasher ⌝ }
+    ensures { λ r. ⌜ r ≡ hashed (seedBlock (hasher .domain .seed) ++ address) ⌝ }
 {
-    let words = h.words;
+    let words = hasher.words;
     let state = Hash {
         words: words,
         block: [0; 64],
@@ -181,11 +181,11 @@ fn last_block(address: [u8; 22], value: [u8; 16]) -> [u8; 64]
 }
 
 // The tweaked hash of one value: one compression.
-pub fn tweaked_hash(h: Hasher, address: [u8; 22], value: [u8; 16]) -> [u8; 16]
-    requires { ⌜ Seeded h ⌝ }
-    ensures { λ r. ⌜ r ≡ tweakedHash (h .domain) address value ⌝ }
+pub fn tweaked_hash(hasher: Hasher, address: [u8; 22], value: [u8; 16]) -> [u8; 16]
+    requires { ⌜ Seeded hasher ⌝ }
+    ensures { λ r. ⌜ r ≡ tweakedHash (hasher .domain) address value ⌝ }
 {
     let block = last_block(address, value);
-    let words = h.words;
+    let words = hasher.words;
     front(compress(words, &block))
 }

@@ -15,13 +15,13 @@ use Rattle.counts.specs.Table.{Holds}
 use Rattle.codewords.specs.Operations.{rowOf}
 
 -- a shape within its limits, its count, a work slice with its table, and a row with room for its lengths
-pub record Placeable (p : Shape) (n work row : List ℕ) : Type 0 where
-  pub limits : InLimits p
-  pub counted : n ≡ toWords 5 (count p)
-  pub held : Holds p work
-  pub room : p .chains ≤ length row
+pub record Placeable (shape : Shape) (n work row : List ℕ) : Type 0 where
+  pub limits : InLimits shape
+  pub counted : n ≡ toWords 5 (count shape)
+  pub held : Holds shape work
+  pub room : shape .chains ≤ length row
 
 -- 7 behind causes of which the first that holds has a code; the row of the number where none holds, and what is behind it
-pub record PlacesPast (code : ℕ) (p : Shape) (n : ℕ) (row row′ : List ℕ) (r : Outcome) : Type 0 where
-  pub answer : outcomeCode r ≡ thenCode code (leb (count p) n) 7
-  pub placed : row′ ≡ cond (eqb (outcomeCode r) 0) (rowOf p n ++ drop (p .chains) row) row
+pub record PlacesPast (code : ℕ) (shape : Shape) (n : ℕ) (row row′ : List ℕ) (r : Outcome) : Type 0 where
+  pub answer : outcomeCode r ≡ thenCode code (leb (count shape) n) 7
+  pub placed : row′ ≡ cond (eqb (outcomeCode r) 0) (rowOf shape n ++ drop (shape .chains) row) row

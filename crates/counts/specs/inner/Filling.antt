@@ -10,6 +10,6 @@ use Rattle.counts.specs.Counts.{count}
 use Rattle.counts.specs.Table.{withTable}
 
 -- where none holds, the table is filled and the count given; else nothing is written, and zero given
-pub record FillsPast (code : ℕ) (p : Shape) (work left n : List ℕ) : Type 0 where
-  pub counted : n ≡ toWords 5 (cond (eqb code 0) (count p) 0)
-  pub table : left ≡ cond (eqb code 0) (withTable p work) work
+pub record FillsPast (code : ℕ) (shape : Shape) (work left n : List ℕ) : Type 0 where
+  pub counted : n ≡ toWords 5 (cond (eqb code 0) (count shape) 0)
+  pub table : left ≡ cond (eqb code 0) (withTable shape work) work

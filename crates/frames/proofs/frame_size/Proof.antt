@@ -1,12 +1,11 @@
 -- `frames::frame_size` meets its contract, frame by frame.
-use mathlib.Core.Path.{_≡_, sym, ap, _∙_}
+use mathlib.Core.Path.{_≡_, refl, sym, _∙_}
 use Prim.Native.Nat.{ℕ, _≤_}
 use native.Mathlib.Omega.{arith}
 use borrow.Author.Needs.{needs}
 use lib.Dec.{lit≤}
-use lib.ListN.{length}
-use Rattle.frames.specs.Frames.{profileFrame, frames, frameAt}
-use Rattle.frames.proofs.FrameNumbers.{sized-size, text-size, numbered-size, profile-long, edition-long}
+use Rattle.frames.specs.Frames.{profileFrame, frames}
+use Rattle.frames.proofs.FrameNumbers.{at-number, text-size, numbered-size, profile-long, edition-long}
 use Rattle.frames.proofs.frame_size.Statement.{statement}
 use Rattle.frames.proofs.frame_size.Tie as tie
 
@@ -17,37 +16,26 @@ four k a b c d = omega arith
 returns : tie.Need-returns
 unfolding frames
 returns c =
-    let a = c .before .before .before .args in
-    let e = c .before .match .keys1 in
-    sized-size (ap (λ k. length (frameAt (a .p) k .head)) e) (ap (λ k. frameAt (a .p) k .low) e) (ap (λ k. frameAt (a .p) k .high) e) (lit≤ tt) (lit≤ tt)
-    (c .sized .ensures)
+    at-number (c .before .before .before .args .p) (c .before .match .keys1) refl refl refl (lit≤ tt) (lit≤ tt) (c .sized .ensures)
 
 returns-2 : tie.Need-returns-2
 unfolding frames profileFrame
 returns-2 c =
     let b = c .before in
     let a = b .before .before .before .args in
-    let e = b .before .match .keys2 in
     let long = b .profile-bytes .ensures in
-    sized-size (ap (λ k. length (frameAt (a .p) k .head)) e ∙ profile-long (a .p) ∙ sym long) (ap (λ k. frameAt (a .p) k .low) e)
-    (ap (λ k. frameAt (a .p) k .high) e)
-    (omega (arith, long, edition-long (a .p .edition))) (lit≤ tt) (c .sized2 .ensures)
+    at-number (a .p) (b .before .match .keys2) (profile-long (a .p) ∙ sym long) refl refl (omega (arith, long, edition-long (a .p .edition))) (lit≤ tt)
+    (c .sized2 .ensures)
 
 returns-3 : tie.Need-returns-3
 unfolding frames
 returns-3 c =
-    let a = c .before .before .before .args in
-    let e = c .before .match .keys3 in
-    sized-size (ap (λ k. length (frameAt (a .p) k .head)) e) (ap (λ k. frameAt (a .p) k .low) e) (ap (λ k. frameAt (a .p) k .high) e) (lit≤ tt) (lit≤ tt)
-    (c .sized3 .ensures)
+    at-number (c .before .before .before .args .p) (c .before .match .keys3) refl refl refl (lit≤ tt) (lit≤ tt) (c .sized3 .ensures)
 
 returns-4 : tie.Need-returns-4
 unfolding frames
 returns-4 c =
-    let a = c .before .before .before .args in
-    let e = c .before .match .keys4 in
-    sized-size (ap (λ k. length (frameAt (a .p) k .head)) e) (ap (λ k. frameAt (a .p) k .low) e) (ap (λ k. frameAt (a .p) k .high) e) (lit≤ tt) (lit≤ tt)
-    (c .sized4 .ensures)
+    at-number (c .before .before .before .args .p) (c .before .match .keys4) refl refl refl (lit≤ tt) (lit≤ tt) (c .sized4 .ensures)
 
 returns-5 : tie.Need-returns-5
 returns-5 c =

@@ -18,7 +18,7 @@ write-rows-requires c κs =
     let counted = c .before .before in
     let granted = counted .before in
     let q = granted .before .before .before .before .before in
-    let p = start q .args .p in
+    let p = start q .args .shape in
     let answer = q .codeword-count .ensures in
     let told = granted .enum-told .given .1 in (
       granted-limits p _ _ _ answer (start q .pre .0) told,
@@ -33,19 +33,19 @@ returns c =
     let numbered = written .before .before in
     let refused = numbered .before .before in
     let q = refused .before .before .before .before .before in
-    let answer = refusal-answer (start q .args .p) _ _ _ (q .codeword-count .ensures) (start q .pre .0) _ (refused .outcome .given .1) in
+    let answer = refusal-answer (start q .args .shape) _ _ _ (q .codeword-count .ensures) (start q .pre .0) _ (refused .outcome .given .1) in
     let line = answer ∙ ap refusalLine (sym (numbered .code .ensures)) in
     let w = written .write-refusal .ensures in
-    (rw line (w .0), rw line (w .1), table-left (start q .args .p) _ _ _ (q .codeword-count .ensures) (start q .pre .0))
+    (rw line (w .0), rw line (w .1), table-left (start q .args .shape) _ _ _ (q .codeword-count .ensures) (start q .pre .0))
 
 returns-2 : tie.Need-returns-2
 returns-2 c =
     let written = c .before .before in
     let granted = written .before .before .before .before in
     let q = granted .before .before .before .before .before in
-    let answer = rows-answer (start q .args .p) _ _ _ (q .codeword-count .ensures) (start q .pre .0) (granted .enum-told .given .1) in
+    let answer = rows-answer (start q .args .shape) _ _ _ (q .codeword-count .ensures) (start q .pre .0) (granted .enum-told .given .1) in
     let w = written .write-rows .ensures in
-    (rw answer (w .0), rw answer (w .1), table-left (start q .args .p) _ _ _ (q .codeword-count .ensures) (start q .pre .0))
+    (rw answer (w .0), rw answer (w .1), table-left (start q .args .shape) _ _ _ (q .codeword-count .ensures) (start q .pre .0))
 
 pub write-answer-spec : {M : Type 1} → statement M
 write-answer-spec =

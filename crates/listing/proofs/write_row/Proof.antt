@@ -16,17 +16,17 @@ start q = q .before .before .before .before
 
 -- the bytes of the line
 abbrev bytes : tie.After-write-codeword → List ℕ
-bytes q = take (start q .args .p .chains + 3) (17 ∷ start q .args .n / 256 ∷ start q .args .n % 256 ∷ (q .write-codeword .last .1 .1 .1 .0 ++ []))
+bytes q = take (start q .args .shape .chains + 3) (17 ∷ start q .args .n / 256 ∷ start q .args .n % 256 ∷ (q .write-codeword .last .1 .1 .1 .0 ++ []))
 
-taken : (q : tie.After-write-codeword) → length (bytes q) ≡ start q .args .p .chains + 3
+taken : (q : tie.After-write-codeword) → length (bytes q) ≡ start q .args .shape .chains + 3
 taken q =
     let pre = start q .pre in
-    row-taken (start q .args .p) (start q .args .n) (one-word (start q .args .n)) (pre .2) (pre .3) (q .write-codeword .ensures)
+    row-taken (start q .args .shape) (start q .args .n) (one-word (start q .args .n)) (pre .2) (pre .3) (q .write-codeword .ensures)
 
-printed : (q : tie.After-write-codeword) → lineOf (bytes q) ≡ rowLine (start q .args .p) (start q .args .n)
+printed : (q : tie.After-write-codeword) → lineOf (bytes q) ≡ rowLine (start q .args .shape) (start q .args .n)
 printed q =
     let pre = start q .pre in
-    row-printed (start q .args .p) (start q .args .n) (one-word (start q .args .n)) (pre .2) (pre .3) (q .write-codeword .ensures)
+    row-printed (start q .args .shape) (start q .args .n) (one-word (start q .args .n)) (pre .2) (pre .3) (q .write-codeword .ensures)
 
 write-codeword-requires : tie.Need-write-codeword-requires
 write-codeword-requires c κs =
@@ -38,7 +38,7 @@ array-share-prefix-row c = let q = c .before .before .before in
     omega (
       arith,
       taken q,
-      length-take (start q .args .p .chains + 3) (17 ∷ start q .args .n / 256 ∷ start q .args .n % 256 ∷ (q .write-codeword .last .1 .1 .1 .0 ++ [])),
+      length-take (start q .args .shape .chains + 3) (17 ∷ start q .args .n / 256 ∷ start q .args .n % 256 ∷ (q .write-codeword .last .1 .1 .1 .0 ++ [])),
     )
 
 slice-aggregate-write-line : tie.Need-slice-aggregate-write-line

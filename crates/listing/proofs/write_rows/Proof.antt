@@ -20,19 +20,20 @@ abbrev μ-loop : tie.MeasureT-loop
 abbrev start : tie.At-loop Inv-loop μ-loop → tie.Start Inv-loop μ-loop
 start q = q .before .before .before
 
-few : (q : tie.At-loop Inv-loop μ-loop) → start q .args .p .chains ≤ 40
+few : (q : tie.At-loop Inv-loop μ-loop) → start q .args .shape .chains ≤ 40
 few q = start q .pre .0 .few-chains
 
 -- the slice keeps its length
 kept-long : (q : tie.At-loop Inv-loop μ-loop) → length (q .loop .out) ≡ length (now (start q .args .out))
 kept-long q =
-    keeps-length (start q .args .p) (start q .args .lines) (now (start q .args .out)) (few q) (start q .pre .2) (start q .pre .3) (q .loop .n) (q .loop .inv .0)
+    keeps-length (start q .args .shape) (start q .args .lines) (now (start q .args .out)) (few q) (start q .pre .2) (start q .pre .3) (q .loop .n)
+    (q .loop .inv .0)
     (q .loop .inv .2)
 
 loop-holds : tie.Need-loop-holds Inv-loop μ-loop
 loop-holds c =
     let args = c .before .before .args in
-    (omega arith, omega arith, write-start (rowLine (args .p)) (lineLength (args .p)) 0 (now (args .out)))
+    (omega arith, omega arith, write-start (rowLine (args .shape)) (lineLength (args .shape)) 0 (now (args .out)))
 
 write-row-requires : tie.Need-write-row-requires Inv-loop μ-loop
 write-row-requires c κs =
@@ -43,7 +44,7 @@ write-row-requires c κs =
       pre .1,
       omega (arith, pre .2),
       omega (arith, pre .2),
-      omega (arith, kept-long q, line-room (a .p) (a .lines) (now (a .out)) (few q) (pre .2) (pre .3) (q .loop .n) (omega arith)),
+      omega (arith, kept-long q, line-room (a .shape) (a .lines) (now (a .out)) (few q) (pre .2) (pre .3) (q .loop .n) (omega arith)),
     )
 
 loop-again : tie.Need-loop-again Inv-loop μ-loop
@@ -51,7 +52,8 @@ loop-again c =
     let called = c .before .before in
     let q = called .before .before .before in
     let a = start q .args in
-    let next = printed-next (a .p) (a .lines) (now (a .out)) (few q) (start q .pre .2) (start q .pre .3) (q .loop .n) (q .loop .at) (called .write-row .result)
+    let next = printed-next (a .shape) (a .lines) (now (a .out)) (few q) (start q .pre .2) (start q .pre .3) (q .loop .n) (q .loop .at)
+    (called .write-row .result)
     (called .before .before .loop-test .taken) (q .loop .inv .1) (q .loop .inv .2) (called .write-row .ensures .0) (called .write-row .ensures .1) in
     (omega arith, next .0, next .1)
 
@@ -62,7 +64,8 @@ returns : tie.Need-returns Inv-loop μ-loop
 returns c =
     let q = c .before in
     let a = start q .args in
-    printed-all (a .p) (a .lines) (now (a .out)) (few q) (start q .pre .2) (start q .pre .3) (q .loop .n) (q .loop .at) (q .loop .inv .0) (c .loop-test .left)
+    printed-all (a .shape) (a .lines) (now (a .out)) (few q) (start q .pre .2) (start q .pre .3) (q .loop .n) (q .loop .at) (q .loop .inv .0)
+    (c .loop-test .left)
     (q .loop .inv .1) (q .loop .inv .2)
 
 pub write-rows-spec : {M : Type 1} → statement M

@@ -14,7 +14,7 @@ returns c =
     let added = c .before in
     let start = added .before .before .before in
     let address = start .args .t2 in
-    let seed = start .args .h .domain .seed in
+    let seed = start .args .hasher .domain .seed in
     let known = start .pre in
     let short : length address ≡ 22 = search needs in
     more-taken (seedBlock seed) address (omega (arith, length-seed-block seed (known .long)))

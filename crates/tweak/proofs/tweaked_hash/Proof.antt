@@ -17,8 +17,8 @@ returns c =
     let start = made .before in
     let a = start .args in
     let long = longs start in
-    block-compressed (a .h .domain) (a .address) (a .value) (start .pre .long) (long .0) (long .1) (start .pre .words)
-    (compressed .compress .ensures ∙ ap (compress (a .h .words)) (made .last-block .ensures)) (c .front .ensures)
+    block-compressed (a .hasher .domain) (a .address) (a .value) (start .pre .long) (long .0) (long .1) (start .pre .words)
+    (compressed .compress .ensures ∙ ap (compress (a .hasher .words)) (made .last-block .ensures)) (c .front .ensures)
 
 pub tweaked-hash-spec : {M : Type 1} → statement M
 tweaked-hash-spec =

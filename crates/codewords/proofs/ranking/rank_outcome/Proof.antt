@@ -16,7 +16,7 @@ returns c =
     let measured = summed .before .before in
     let a = measured .before .before .before .before .before .before .args in
     let so-far = outcomeCode (a .checked) in
-    let long = chain-next {meant = not (eqb (length (now (a .row))) (a .p .chains))} 8 refl (chain-behind so-far) refl (measured .before .then .ensures) in
+    let long = chain-next {meant = not (eqb (length (now (a .row))) (a .shape .chains))} 8 refl (chain-behind so-far) refl (measured .before .then .ensures) in
     let digits = chain-next 9 refl long (measured .some-above .ensures) (summed .before .then2 .ensures) in
     chain-ends so-far (chain-next 10 refl digits (summed .sum-differs .ensures) (c .then3 .ensures))
 

@@ -15,17 +15,17 @@ abbrev start : tie.After-then → tie.Start
 start t = t .before .before .before .before
 
 answer : (t : tie.After-then) → outcomeCode (t .then .result) ≡ thenCode (outcomeCode (start t .args .early))
-    (leb (count (start t .args .p)) (value (start t .args .number))) 7
+    (leb (count (start t .args .shape)) (value (start t .args .number))) 7
 answer t =
     t .then .ensures
     ∙ then-means 7 (λ none. let ready = start t .pre none in
-    not-below _ _ (t .before .less .ensures) (count-value (start t .args .p) (ready .limits) (ready .counted)))
+    not-below _ _ (t .before .less .ensures) (count-value (start t .args .shape) (ready .limits) (ready .counted)))
 
 write-codeword-requires : tie.Need-write-codeword-requires
 write-codeword-requires c κs =
     let granted = c .before in
     let t = granted .before .before in
-    let grants = granted-below _ (start t .args .p) (value (start t .args .number)) (sym (answer t) ∙ ap outcomeCode (granted .enum-told2 .given .1)) in
+    let grants = granted-below _ (start t .args .shape) (value (start t .args .number)) (sym (answer t) ∙ ap outcomeCode (granted .enum-told2 .given .1)) in
     let ready = start t .pre (grants .0) in
     (ready .limits, (ready .held, (grants .1, ready .room)))
 

@@ -15,8 +15,8 @@ fill-past-requires c κs =
     let early = c .before in
     let a = start early .args in
     let counted = early .before .count-outcome .ensures in
-    let kept = unrank-kept (a .p) (now (a .table)) (now (a .row)) counted (early .then .ensures) in
-    λ none. unrank-passed (a .p) (now (a .table)) (now (a .row)) counted (early .then .ensures) (omega arith)
+    let kept = unrank-kept (a .shape) (now (a .table)) (now (a .row)) counted (early .then .ensures) in
+    λ none. unrank-passed (a .shape) (now (a .table)) (now (a .row)) counted (early .then .ensures) (omega arith)
 
 returns : tie.Need-returns
 returns c =
@@ -24,7 +24,7 @@ returns c =
     let filled = placed .before .before .before .before .before in
     let early = filled .before .before in
     let a = start early .args in
-    unrank-answers (a .p) (now (a .table)) (now (a .row)) (early .before .count-outcome .ensures) (early .then .ensures) (filled .fill-past .ensures .table)
+    unrank-answers (a .shape) (now (a .table)) (now (a .row)) (early .before .count-outcome .ensures) (early .then .ensures) (filled .fill-past .ensures .table)
     (placed .place-past .ensures)
 
 place-past-requires : tie.Need-place-past-requires
@@ -32,7 +32,7 @@ place-past-requires c κs =
     let filled = c .before .before .before .before in
     let early = filled .before .before in
     let a = start early .args in
-    unrank-placeable (a .p) (now (a .table)) (now (a .row)) (early .before .count-outcome .ensures) (early .then .ensures) (filled .fill-past .ensures)
+    unrank-placeable (a .shape) (now (a .table)) (now (a .row)) (early .before .count-outcome .ensures) (early .then .ensures) (filled .fill-past .ensures)
 
 pub unrank-spec : {M : Type 1} → statement M
 unrank-spec =

@@ -44,11 +44,12 @@ abbrev Begin : Type 0
 Begin = tie.Start Inv-loop2 μ-loop2 Inv-loop μ-loop
 
 -- what is known of the shape
-limits : (s : Begin) → (1 ≤ s .args .p .width) × (s .args .p .width ≤ 16) × (s .args .p .chains ≤ 40) × (s .args .p .sum ≤ 600)
-limits s = let h = s .pre .0 in (omega (arith, h .wide), h .narrow, h .few-chains, sum-small (s .args .p) h)
+limits : (s : Begin) → (1 ≤ s .args .shape .width) × (s .args .shape .width ≤ 16) × (s .args .shape .chains ≤ 40) × (s .args .shape .sum ≤ 600)
+limits s = let h = s .pre .0 in (omega (arith, h .wide), h .narrow, h .few-chains, sum-small (s .args .shape) h)
 
-table-is : (s : Begin) → take (5 * ((s .args .p .chains + 1) * (s .args .p .sum + 1))) (now (s .args .table)) ≡ rows (s .args .p .width) (s .args .p .sum)
-    (s .args .p .chains + 1)
+table-is : (s : Begin) → take (5 * ((s .args .shape .chains + 1) * (s .args .shape .sum + 1))) (now (s .args .table)) ≡ rows (s .args .shape .width)
+    (s .args .shape .sum)
+    (s .args .shape .chains + 1)
 unfolding Holds tableLength
 table-is s = s .pre .1 .0
 
@@ -61,35 +62,35 @@ start q = q .before .before .before .before .before .before .before .before
 
 -- the places behind this one
 abbrev places : Search → ℕ
-places q = start q .args .p .chains - 1 - q .before .before .loop .place
+places q = start q .args .shape .chains - 1 - q .before .before .loop .place
 
 -- the number lies in one of the shares
-number-below : (q : Search) → value (q .before .before .loop .n) < sumTo (share (D (start q .args .p .width) (places q)) (q .before .before .loop .left))
-    (start q .args .p .width)
+number-below : (q : Search) → value (q .before .before .loop .n) < sumTo (share (D (start q .args .shape .width) (places q)) (q .before .before .loop .left))
+    (start q .args .shape .width)
 unfolding D
 number-below q =
-    rw (one-more (start q .args .p .chains) (q .before .before .loop .place) (q .before .loop-test .taken)) at (q .before .before .loop .inv .3)
+    rw (one-more (start q .args .shape .chains) (q .before .before .loop .place) (q .before .loop-test .taken)) at (q .before .before .loop .inv .3)
 
-placing : (q : Search) → (q .loop2 .j < start q .args .p .width) × (q .loop2 .j ≤ q .before .before .loop .left)
+placing : (q : Search) → (q .loop2 .j < start q .args .shape .width) × (q .loop2 .j ≤ q .before .before .loop .left)
 placing q =
-    still (D (start q .args .p .width) (places q)) (q .before .before .loop .left) (start q .args .p .width) (q .loop2 .j)
+    still (D (start q .args .shape .width) (places q)) (q .before .before .loop .left) (start q .args .shape .width) (q .loop2 .j)
     (value (q .before .before .loop .n)) (value (q .loop2 .n)) (q .loop2 .inv .0) (number-below q)
 
-read-room : (q : Search) → 5 * (places q * (start q .args .p .sum + 1) + q .before .before .loop .left) + 5 ≤ length (now (start q .args .table))
+read-room : (q : Search) → 5 * (places q * (start q .args .shape .sum + 1) + q .before .before .loop .left) + 5 ≤ length (now (start q .args .table))
 read-room q =
-    let p = start q .args .p in
+    let p = start q .args .shape in
     cell-within (p .width) (p .sum) (p .chains + 1) (now (start q .args .table)) (table-is (start q)) (places q) (q .before .before .loop .left)
     (behind-within (p .chains) (q .before .before .loop .place)) (q .before .before .loop .inv .1)
 
 few : (q : Search) → places q ≤ 40
-few q = behind-few (start q .args .p .chains) (q .before .before .loop .place) (limits (start q) .2)
+few q = behind-few (start q .args .shape .chains) (q .before .before .loop .place) (limits (start q) .2)
 
 -- the number read is the share of the length
 share-read : (c : tie.After-load Inv-loop2 μ-loop2 Inv-loop μ-loop)
-    → c .load .result ≡ toWords 5 (D (start (c .before) .args .p .width) (places (c .before)) (c .before .before .before .loop .left - c .before .loop2 .j))
+    → c .load .result ≡ toWords 5 (D (start (c .before) .args .shape .width) (places (c .before)) (c .before .before .before .loop .left - c .before .loop2 .j))
 share-read c =
     let q = c .before in
-    let p = start q .args .p in
+    let p = start q .args .shape in
     let table = now (start q .args .table) in
     let left = q .before .before .loop .left in
     let at = share-at (places q * (p .sum + 1)) left (q .loop2 .j) (placing q .1) in
@@ -99,7 +100,7 @@ share-read c =
 
 small : (q : Search) → value (q .loop2 .n) < 2 ^ 160
 small q =
-    let p = start q .args .p in
+    let p = start q .args .shape in
     let l = q .before .before .loop in
     let h = limits (start q) in
     lt-of-le-of-lt (not-above (sumTo (share (D (p .width) (places q)) (l .left)) (q .loop2 .j)) (value (q .loop2 .n)) (q .loop2 .inv .0))
@@ -107,14 +108,14 @@ small q =
 
 -- the length found is that of the definition
 found-here : (c : tie.Then1 Inv-loop2 μ-loop2 Inv-loop μ-loop)
-    → search-from (share (D (start (c .before .before .before) .args .p .width) (places (c .before .before .before)))
+    → search-from (share (D (start (c .before .before .before) .args .shape .width) (places (c .before .before .before)))
     (c .before .before .before .before .before .loop .left))
-    (start (c .before .before .before) .args .p .width) 0 (value (c .before .before .before .before .before .loop .n))
+    (start (c .before .before .before) .args .shape .width) 0 (value (c .before .before .before .before .before .loop .n))
     ≡ record { digit = c .before .before .before .loop2 .j; number = value (c .before .before .before .loop2 .n) }
 found-here c =
     let loaded = c .before .before in
     let q = loaded .before in
-    let p = start q .args .p in
+    let p = start q .args .shape in
     let h = limits (start q) in
     let left = q .before .before .loop .left in
     let test = sym (c .before .less .ensures) ∙ c .if1 .taken in
@@ -131,13 +132,13 @@ mul-above : tie.Need-mul-above Inv-loop2 μ-loop2 Inv-loop μ-loop
 mul-above c =
     let start = c .before .before .before .before .before .before .before in
     let h = limits start in
-    omega (arith, row-small (start .args .p .chains - 1 - c .before .loop .place) (start .args .p .sum) (omega (arith, h)) (h .3))
+    omega (arith, row-small (start .args .shape .chains - 1 - c .before .loop .place) (start .args .shape .sum) (omega (arith, h)) (h .3))
 
 add-above-2 : tie.Need-add-above-2 Inv-loop2 μ-loop2 Inv-loop μ-loop
 add-above-2 c =
     let start = c .before .before .before .before .before .before .before in
     let h = limits start in
-    omega (arith, h, row-small (start .args .p .chains - 1 - c .before .loop .place) (start .args .p .sum) (omega (arith, h)) (h .3))
+    omega (arith, h, row-small (start .args .shape .chains - 1 - c .before .loop .place) (start .args .shape .sum) (omega (arith, h)) (h .3))
 
 loop2-holds : tie.Need-loop2-holds Inv-loop2 μ-loop2 Inv-loop μ-loop
 unfolding sumTo
@@ -147,7 +148,7 @@ sub-load : tie.Need-sub-load Inv-loop2 μ-loop2 Inv-loop μ-loop
 sub-load c = omega (arith, placing c .1)
 
 load-requires : tie.Need-load-requires Inv-loop2 μ-loop2 Inv-loop μ-loop
-load-requires c κs = share-within (places c * (start c .args .p .sum + 1)) (c .before .before .loop .left) (c .loop2 .j) (read-room c)
+load-requires c κs = share-within (places c * (start c .args .shape .sum + 1)) (c .before .before .loop .left) (c .loop2 .j) (read-room c)
 
 subtract-requires : tie.Need-subtract-requires Inv-loop2 μ-loop2 Inv-loop μ-loop
 subtract-requires c κs = ltb-false _ _ (sym (c .before .less .ensures) ∙ c .if1 .left)
@@ -162,7 +163,7 @@ loop2-again : tie.Need-loop2-again Inv-loop2 μ-loop2 Inv-loop μ-loop
 loop2-again c =
     let loaded = c .before .before .before in
     let q = loaded .before in
-    let w = start q .args .p .width in
+    let w = start q .args .shape .width in
     let h = limits (start q) in
     let f = share (D w (places q)) (q .before .before .loop .left) in
     let test = sym (c .before .before .less .ensures) ∙ c .before .if1 .left in
@@ -186,7 +187,7 @@ sub-left c = placing (c .before .before .before) .1
 loop-again : tie.Need-loop-again Inv-loop2 μ-loop2 Inv-loop μ-loop
 loop-again c =
     let q = c .before .before .before in
-    let p = start q .args .p in
+    let p = start q .args .shape in
     let l = q .before .before .loop in
     let here = one-more (p .chains) (l .place) (q .before .loop-test .taken) in
     let behind = one-less (p .chains) (l .place) in
@@ -208,11 +209,11 @@ unfolding codeword
 returns c =
     let l = c .before .loop in
     let a = c .before .before .before .before .before .before .before .args in
-    let all : l .place ≡ a .p .chains = omega arith in
-    let none : a .p .chains - l .place ≡ 0 = omega arith in
+    let all : l .place ≡ a .shape .chains = omega arith in
+    let none : a .shape .chains - l .place ≡ 0 = omega arith in
     let whole = sym (append-nil (take (l .place) (l .row))) ∙ rw none at (l .inv .4) in
     sym (take-append-drop (l .place) (l .row)) ∙ ap (λ front. front ++ drop (l .place) (l .row)) whole
-    ∙ ap (λ rest. codeword (a .p .width) (a .p .chains) (a .p .sum) (value (a .number)) ++ rest) (l .inv .5 ∙ ap (λ k. drop k (now (a .row))) all)
+    ∙ ap (λ rest. codeword (a .shape .width) (a .shape .chains) (a .shape .sum) (value (a .number)) ++ rest) (l .inv .5 ∙ ap (λ k. drop k (now (a .row))) all)
 
 pub write-codeword-spec : {M : Type 1} → statement M
 write-codeword-spec =

@@ -17,37 +17,30 @@ use Rattle.counts.proofs.cells.store.Tie as tie
 room : (c : tie.Start) (j : ℕ) → j < 5 → 5 * c .args .k + j < length (now (c .args .table))
 room c j h = omega (arith, c .pre)
 
--- stores leave a list its places
-stored : (l : List ℕ) (at a b c d : ℕ) {j : ℕ} → j < length l → (j < length (set l at a)) × (j < length (set (set l at a) (at + 1) b))
-    × (j < length (set (set (set l at a) (at + 1) b) (at + 2) c)) × (j < length (set (set (set (set l at a) (at + 1) b) (at + 2) c) (at + 3) d))
-stored l at a b c d h =
-    let one = set l at a in
-    let two = set one (at + 1) b in
-    let three = set two (at + 2) c in
-    let h₁ = lt-length-set l at a h in
-    let h₂ = lt-length-set one (at + 1) b h₁ in
-    let h₃ = lt-length-set two (at + 2) c h₂ in
-    (h₁, h₂, h₃, lt-length-set three (at + 3) d h₃)
+-- the table with the first words stored, which has the places that it had
+abbrev word : tie.Start → ℕ → ℕ
+word c i = getD (c .args .t3) i 0
 
-slice-write-table-2 : tie.Need-slice-write-table-2
-slice-write-table-2 c =
-    let n = c .args .t3 in
-    stored (now (c .args .table)) (5 * c .args .k) (getD n 0 0) (getD n 1 0) (getD n 2 0) (getD n 3 0) (room c 1 (lit< tt)) .0
+abbrev one : tie.Start → List ℕ
+one c = set (now (c .args .table)) (5 * c .args .k) (word c 0)
 
-slice-write-table-3 : tie.Need-slice-write-table-3
-slice-write-table-3 c =
-    let n = c .args .t3 in
-    stored (now (c .args .table)) (5 * c .args .k) (getD n 0 0) (getD n 1 0) (getD n 2 0) (getD n 3 0) (room c 2 (lit< tt)) .1
+abbrev two : tie.Start → List ℕ
+two c = set (one c) (5 * c .args .k + 1) (word c 1)
 
-slice-write-table-4 : tie.Need-slice-write-table-4
-slice-write-table-4 c =
-    let n = c .args .t3 in
-    stored (now (c .args .table)) (5 * c .args .k) (getD n 0 0) (getD n 1 0) (getD n 2 0) (getD n 3 0) (room c 3 (lit< tt)) .2
+abbrev three : tie.Start → List ℕ
+three c = set (two c) (5 * c .args .k + 2) (word c 2)
+
+stored-1 : (c : tie.Start) (j : ℕ) → j < 5 → 5 * c .args .k + j < length (one c)
+stored-1 c j h = lt-length-set (now (c .args .table)) (5 * c .args .k) (word c 0) (room c j h)
+
+stored-2 : (c : tie.Start) (j : ℕ) → j < 5 → 5 * c .args .k + j < length (two c)
+stored-2 c j h = lt-length-set (one c) (5 * c .args .k + 1) (word c 1) (stored-1 c j h)
+
+stored-3 : (c : tie.Start) (j : ℕ) → j < 5 → 5 * c .args .k + j < length (three c)
+stored-3 c j h = lt-length-set (two c) (5 * c .args .k + 2) (word c 2) (stored-2 c j h)
 
 slice-write-table-5 : tie.Need-slice-write-table-5
-slice-write-table-5 c =
-    let n = c .args .t3 in
-    stored (now (c .args .table)) (5 * c .args .k) (getD n 0 0) (getD n 1 0) (getD n 2 0) (getD n 3 0) (room c 4 (lit< tt)) .3
+slice-write-table-5 c = lt-length-set (three c) (5 * c .args .k + 3) (word c 3) (stored-3 c 4 (lit< tt))
 
 same-length : tie.Need-same-length
 same-length c = simp length-set
@@ -67,11 +60,11 @@ store-spec =
     (tie.spec
     (λ c. search needs) (λ c. search needs) (λ c. search needs) (λ c. search needs) (λ c. search needs)
     (λ c. search needs) (λ c. search needs)
-    slice-write-table-2
+    (λ c. stored-1 c 1 (lit< tt))
     (λ c. search needs) (λ c. search needs) (λ c. search needs)
-    slice-write-table-3
+    (λ c. stored-2 c 2 (lit< tt))
     (λ c. search needs) (λ c. search needs) (λ c. search needs)
-    slice-write-table-4
+    (λ c. stored-3 c 3 (lit< tt))
     (λ c. search needs) (λ c. search needs) (λ c. search needs)
     slice-write-table-5
     same-length

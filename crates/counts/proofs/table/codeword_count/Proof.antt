@@ -10,14 +10,14 @@ use Rattle.counts.proofs.table.codeword_count.Tie as tie
 fill-past-requires : tie.Need-fill-past-requires
 fill-past-requires c κs =
     let outcome = c .before in
-    λ none. count-passed (outcome .before .before .args .p) _ (sym (outcome .count-outcome .ensures) ∙ none)
+    λ none. count-passed (outcome .before .before .args .shape) _ (sym (outcome .count-outcome .ensures) ∙ none)
 
 returns : tie.Need-returns
 returns c =
     let filled = c .before .before in
     let outcome = filled .before .before in
     let a = outcome .before .before .args in
-    counted (a .p) (now (a .table)) (outcome .count-outcome .ensures) (filled .fill-past .ensures)
+    counted (a .shape) (now (a .table)) (outcome .count-outcome .ensures) (filled .fill-past .ensures)
 
 pub codeword-count-spec : {M : Type 1} → statement M
 codeword-count-spec =

@@ -13,7 +13,7 @@ unfolding countCauses
 returns c =
     let tested = c .before in
     let checked = tested .before in
-    let p = checked .before .args .p in
+    let p = checked .before .args .shape in
     chain-next 5 refl (chain-begins (shapeCauses p) (shape-numbered p) (checked .check-shape .ensures)) (tested .no-room .ensures) (c .then .ensures) .answer
 
 pub count-outcome-spec : {M : Type 1} → statement M

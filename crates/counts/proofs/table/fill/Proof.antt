@@ -17,30 +17,30 @@ unfolding tableLength
 fill-rows-requires c κs =
     let start = c .before .before .before .before .before in
     let h = start .pre .0 in
-    ((omega (arith, h .wide), h .narrow, h .few-chains, sum-small (start .args .p) h), start .pre .1)
+    ((omega (arith, h .wide), h .narrow, h .few-chains, sum-small (start .args .shape) h), start .pre .1)
 
 mul-load : tie.Need-mul-load
 mul-load c =
     let start = c .before .before .before .before .before .before .before .before .before in
-    omega (arith, table-small (start .args .p) (start .pre .0), row-end (start .args .p .chains) (start .args .p .sum))
+    omega (arith, table-small (start .args .shape) (start .pre .0), row-end (start .args .shape .chains) (start .args .shape .sum))
 
 add-load-2 : tie.Need-add-load-2
 add-load-2 c =
     let start = c .before .before .before .before .before .before .before .before .before in
-    omega (arith, table-small (start .args .p) (start .pre .0), row-end (start .args .p .chains) (start .args .p .sum))
+    omega (arith, table-small (start .args .shape) (start .pre .0), row-end (start .args .shape .chains) (start .args .shape .sum))
 
 load-requires : tie.Need-load-requires
 unfolding tableLength
 load-requires c κs =
     let filled = c .before .before .before in
     let start = filled .before .before .before .before .before .before in
-    omega (arith, filled .fill-rows .kept .0, start .pre .1, row-end (start .args .p .chains) (start .args .p .sum))
+    omega (arith, filled .fill-rows .kept .0, start .pre .1, row-end (start .args .shape .chains) (start .args .shape .sum))
 
 returns : tie.Need-returns
 unfolding withTable tableLength
 returns c =
     let filled = c .before .before .before .before in
-    let p = filled .before .before .before .before .before .before .args .p in (
+    let p = filled .before .before .before .before .before .before .args .shape in (
       c .load .ensures ∙ ap (λ l. take 5 (drop (5 * (p .chains * (p .sum + 1) + p .sum)) l)) (filled .fill-rows .ensures) ∙ last-cell p _,
       filled .fill-rows .ensures,
     )

@@ -5,7 +5,7 @@ use Rattle.counts.proofs.table.no_room.Statement.{statement}
 use Rattle.counts.proofs.table.no_room.Tie as tie
 
 returns : tie.Need-returns
-returns c = let a = c .before .before .args in room-exact (a .p) (a .words)
+returns c = let a = c .before .before .args in room-exact (a .shape) (a .words)
 
 pub no-room-spec : {M : Type 1} → statement M
 no-room-spec = tie.close (tie.spec (λ c. search needs) (λ c. search needs) (λ c. search needs) (λ c. search needs) returns)

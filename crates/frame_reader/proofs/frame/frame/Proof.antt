@@ -23,25 +23,23 @@ few c =
     found-few (z .frame-size .result .high) (c .n .given .0 .0) (readLine (drop (a .at + 2 * z .frame-size .result .fixed) (now (a .sheet))))
     (sym (q .line-bytes .ensures) ∙ c .n .given .1)
 
+-- it and the number of fixed bytes are small
+bounds : (c : tie.After-n) → (c .n .given .0 .0 ≤ 200) × (c .before .before .before .before .before .frame-size .result .fixed ≤ 7)
+bounds c =
+    let size = c .before .before .before .before .before .frame-size .ensures in
+    (omega (arith, few c, size .short), size .few)
+
 add-t18 : tie.Need-add-t18
-add-t18 c =
-    let n = c .before .before in let z = n .before .before .before .before .before in
-    omega (arith, few n, z .frame-size .ensures .few, z .frame-size .ensures .short)
+add-t18 c = omega (arith, bounds (c .before .before))
 
 mul-t19 : tie.Need-mul-t19
-mul-t19 c =
-    let n = c .before .before in let z = n .before .before .before .before .before in
-    omega (arith, few n, z .frame-size .ensures .few, z .frame-size .ensures .short)
+mul-t19 c = omega (arith, bounds (c .before .before))
 
 add-t20 : tie.Need-add-t20
-add-t20 c =
-    let n = c .before .before in let z = n .before .before .before .before .before in
-    omega (arith, few n, z .frame-size .ensures .few, z .frame-size .ensures .short)
+add-t20 c = omega (arith, bounds (c .before .before))
 
 add-t21 : tie.Need-add-t21
-add-t21 c =
-    let n = c .before .before in let z = n .before .before .before .before .before in
-    omega (arith, few n, z .frame-size .ensures .few, z .frame-size .ensures .short)
+add-t21 c = omega (arith, bounds (c .before .before))
 
 -- what follows from that number
 counted : (c : tie.After-n) → let z = c .before .before .before .before .before in let a = z .before .before .args in let size = z .frame-size .result in

@@ -34,6 +34,11 @@ small c =
     let s = l .before .before .before .before in
     omega (arith, frames-few (s .args .p) (s .pre .0), l .loop .inv .0)
 
+-- its bytes are few, and it begins near the front
+bounds : (c : tie.After-frame-size Inv-loop μ-loop)
+    → (c .frame-size .result .fixed ≤ 7) × (c .frame-size .result .high ≤ 200) × (c .before .before .loop .at ≤ 415 * 54)
+bounds c = (c .frame-size .ensures .few, c .frame-size .ensures .short, omega (arith, small c, c .before .before .loop .inv .1))
+
 room : (c : tie.After-frame-size Inv-loop μ-loop) → c .before .before .loop .from + c .frame-size .result .high ≤ length (c .before .before .loop .signature)
 room c =
     let s = c .before .before .before .before .before .before in
@@ -46,31 +51,23 @@ mul-copy : tie.Need-mul-copy Inv-loop μ-loop
 mul-copy c = omega (arith, c .frame-size .ensures .few)
 
 add-copy : tie.Need-add-copy Inv-loop μ-loop
-add-copy c = omega (arith, c .frame-size .ensures .few, small c, c .before .before .loop .inv .1)
+add-copy c = omega (arith, bounds c)
 
 copy-requires : tie.Need-copy-requires Inv-loop μ-loop
 copy-requires c κs =
-    let f = c .before in (omega (arith, f .frame-size .ensures .few, f .frame-size .ensures .short, small f, f .before .before .loop .inv .1), room f)
+    let f = c .before in (omega (arith, bounds f), room f)
 
 add-at : tie.Need-add-at Inv-loop μ-loop
-add-at c =
-    let f = c .before .before .before .before in
-    omega (arith, f .frame-size .ensures .few, f .frame-size .ensures .short, small f, f .before .before .loop .inv .1)
+add-at c = omega (arith, bounds (c .before .before .before .before))
 
 mul-at : tie.Need-mul-at Inv-loop μ-loop
-mul-at c =
-    let f = c .before .before .before .before in
-    omega (arith, f .frame-size .ensures .few, f .frame-size .ensures .short, small f, f .before .before .loop .inv .1)
+mul-at c = omega (arith, bounds (c .before .before .before .before))
 
 add-at-2 : tie.Need-add-at-2 Inv-loop μ-loop
-add-at-2 c =
-    let f = c .before .before .before .before in
-    omega (arith, f .frame-size .ensures .few, f .frame-size .ensures .short, small f, f .before .before .loop .inv .1)
+add-at-2 c = omega (arith, bounds (c .before .before .before .before))
 
 add-at-3 : tie.Need-add-at-3 Inv-loop μ-loop
-add-at-3 c =
-    let f = c .before .before .before .before in
-    omega (arith, f .frame-size .ensures .few, f .frame-size .ensures .short, small f, f .before .before .loop .inv .1)
+add-at-3 c = omega (arith, bounds (c .before .before .before .before))
 
 add-from : tie.Need-add-from Inv-loop μ-loop
 add-from c = omega (arith, room (c .before .before .before .before))
