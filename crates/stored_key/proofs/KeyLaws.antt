@@ -21,7 +21,7 @@ use Rattle.signing_key.specs.declared.SigningKey.{SigningKey}
 use Rattle.stored_key.specs.KeyFields.{chainsField, widthField, heightField, sumField, seedField, secretField, nextField, markField, offset, keyLength}
 use Rattle.stored_key.specs.KeyFields.{fieldIn, byteIn}
 use Rattle.stored_key.specs.KeyFrame.{keyBytes, keyIn, withoutIdleMark}
-use Rattle.stored_key.specs.inner.Parts.{place, lastLength, frontBytes, lastBytes}
+use Rattle.stored_key.specs.inner.Parts.{fieldPlace, lastLength, frontBytes, lastBytes}
 use Rattle.stored_key.specs.RoundTrip.{Held}
 
 and-again : (a b : Bool) → (a && b && b) ≡ (a && b)
@@ -109,7 +109,7 @@ module _ (key : SigningKey) where
     -- what stands from where each part begins
     from-seed : drop (offset seedField) (keyBytes key) ≡ key .seed ++ (key .secret ++ last)
     unfolding toBytes
-    from-seed = ap (drop (place seedField)) key-parts ∙ append-assoc (key .seed) (key .secret) last
+    from-seed = ap (drop (fieldPlace seedField)) key-parts ∙ append-assoc (key .seed) (key .secret) last
 
     from-secret : drop (offset secretField) (keyBytes key) ≡ key .secret ++ last
     from-secret = sym (drop-drop 16 (offset seedField) (keyBytes key)) ∙ rw from-seed (drop-at (key .seed) (key .secret ++ last) 16 (held .seed-long))

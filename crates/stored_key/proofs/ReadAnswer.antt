@@ -24,7 +24,7 @@ use Rattle.stored_key.specs.KeyFields.{chainsField, widthField, heightFi
 use Rattle.stored_key.specs.KeyFields.{byteIn}
 use Rattle.stored_key.specs.KeyFrame.{keyIn, withoutIdleMark}
 use Rattle.stored_key.specs.Operations.{readKeyCode, storedLine, keyOf, ReadsKey}
-use Rattle.stored_key.specs.inner.Parts.{place, frameLength, framedTest, RefusesFrame}
+use Rattle.stored_key.specs.inner.Parts.{fieldPlace, frameLength, framedTest, RefusesFrame}
 use Rattle.stored_key.specs.declared.reader.KeyRead.{KeyRead}
 use Rattle.stored_key.proofs.KeyLaws.{idle-profile}
 use Rattle.stored_key.proofs.StoredLaws.{RightFrame, right-line, right-read, right-long, wrong-read}
@@ -38,19 +38,19 @@ module _ (bytes : List ℕ) (long : frameLength ≤ length bytes) where
   pub profile-behind : {edition : ℕ} → edition ≡ cond (eqb (length bytes - 1) (keyLength + 1)) 2 1
       → _≡_ {A = Profile} (record {
         shape = record {
-          chains = getD bytes (place chainsField) 0;
-          width = getD bytes (place widthField) 0;
+          chains = getD bytes (fieldPlace chainsField) 0;
+          width = getD bytes (fieldPlace widthField) 0;
           sum =
-              256 * getD bytes (place sumField) 0 + getD bytes (place sumField + 1) 0;
+              256 * getD bytes (fieldPlace sumField) 0 + getD bytes (fieldPlace sumField + 1) 0;
         };
-        height = getD bytes (place heightField) 0;
+        height = getD bytes (fieldPlace heightField) 0;
         edition = edition;
       })
       (keyIn (drop 1 bytes) .profile)
   unfolding keyIn fromBytes
   profile-behind e =
-      let high : ℕ = getD bytes (place sumField) 0 in
-      let low : ℕ = getD bytes (place sumField + 1) 0 in
+      let high : ℕ = getD bytes (fieldPlace sumField) 0 in
+      let low : ℕ = getD bytes (fieldPlace sumField + 1) 0 in
       let sum : high * 256 ^ 1 + (low * 256 ^ 0 + 0) ≡ 256 * high + low = omega arith in
       rw (
         getD-drop 1 bytes (offset chainsField) 0,
@@ -58,16 +58,16 @@ module _ (bytes : List ℕ) (long : frameLength ≤ length bytes) where
         getD-drop 1 bytes (offset heightField) 0,
         length-drop 1 bytes,
         drop-drop (offset sumField) 1 bytes,
-        drop-two 0 bytes (place sumField) (omega arith),
+        drop-two 0 bytes (fieldPlace sumField) (omega arith),
         sum,
         e,
       )
 
   -- the key behind the kind
   pub key-behind : {p : Profile} {seed secret : List ℕ} {next : ℕ} {mark : Bool} → p ≡ keyIn (drop 1 bytes) .profile
-      → seed ≡ take 16 (drop (place seedField) bytes) → secret ≡ take 16 (drop (place secretField) bytes)
-      → next ≡ fromBytes (take 4 (drop (place nextField) bytes))
-      → mark ≡ markCounts (2 ^ p .height) (record { next = next; mark = eqb (getD bytes (place markField) 0) 1 })
+      → seed ≡ take 16 (drop (fieldPlace seedField) bytes) → secret ≡ take 16 (drop (fieldPlace secretField) bytes)
+      → next ≡ fromBytes (take 4 (drop (fieldPlace nextField) bytes))
+      → mark ≡ markCounts (2 ^ p .height) (record { next = next; mark = eqb (getD bytes (fieldPlace markField) 0) 1 })
       → _≡_ {A = SigningKey} (record { profile = p; seed = seed; secret = secret; counter = record { next = next; mark = mark } })
       (withoutIdleMark (keyIn (drop 1 bytes)))
   unfolding keyIn withoutIdleMark
@@ -135,7 +135,7 @@ module _ (frame : List ℕ) where
           → RightFrame frame (drop 1 new)
       framed-right some few tests passed =
           let kind = both (eqb (getD new 0 0) 7) _ tests in
-          let mark = both (ltb (getD new (place markField) 0) 2) (eqb (getD new frameLength 2) 2) (kind .1) in
+          let mark = both (ltb (getD new (fieldPlace markField) 0) 2) (eqb (getD new frameLength 2) 2) (kind .1) in
           let written = line-of-read frame line in
           let cut : new ≡ 7 ∷ drop 1 new = drop-cons new 0 0 (omega arith) ∙ ap (λ k. k ∷ drop 1 new) (eqb-true (getD new 0 0) 7 (kind .0)) in
           let long = length-drop 1 new in
@@ -144,7 +144,7 @@ module _ (frame : List ℕ) where
             below = below-drop 256 1 new (written .below);
             some = omega arith;
             few = omega arith;
-            mark = rw (getD-drop 1 new (offset markField) 0) (ltb-true (getD new (place markField) 0) 2 (mark .0));
+            mark = rw (getD-drop 1 new (offset markField) 0) (ltb-true (getD new (fieldPlace markField) 0) 2 (mark .0));
             last = rw (getD-drop 1 new keyLength 2) (eqb-true (getD new frameLength 2) 2 (mark .1));
             passed = sym same-cause ∙ passed;
           }

@@ -29,7 +29,7 @@ use Rattle.signing_key.specs.declared.SigningKey.{SigningKey}
 use Rattle.stored_key.specs.KeyFields.{seedField, secretField, nextField}
 use Rattle.stored_key.specs.KeyFrame.{keyBytes, withoutIdleMark, storedKey}
 use Rattle.stored_key.specs.Operations.{writeKeyCode, bytesWritten, frameAfter, WritesKey}
-use Rattle.stored_key.specs.inner.Parts.{place, frameLength, lastLength, frontBytes, lastBytes}
+use Rattle.stored_key.specs.inner.Parts.{fieldPlace, frameLength, lastLength, frontBytes, lastBytes}
 use Rattle.stored_key.specs.declared.writer.KeyWritten.{KeyWritten}
 use Rattle.stored_key.proofs.KeyLaws.{key-parts, key-bytes-long}
 
@@ -46,26 +46,26 @@ module _ (front bytes o : List ℕ) (at : ℕ) {out out′ : List ℕ} (long : 2
 
 -- what stands in front of the seeds, of a head with the byte of edition 2
 pub front-taken : (p : Profile) {head : List ℕ} → head ≡ 7 ∷ p .shape .chains ∷ p .shape .width ∷ p .height ∷ (toBytes 2 (p .shape .sum) ++ editionByte 2)
-    → take (place seedField) head ≡ frontBytes p
+    → take (fieldPlace seedField) head ≡ frontBytes p
 unfolding toBytes
-front-taken p e = ap (take (place seedField)) e
+front-taken p e = ap (take (fieldPlace seedField)) e
 
-pub front-long : (p : Profile) → length (frontBytes p) ≡ place seedField
+pub front-long : (p : Profile) → length (frontBytes p) ≡ fieldPlace seedField
 unfolding toBytes
 front-long p = refl
 
 -- what stands in front of the last bytes
 pub front-written : (p : Profile) (seed secret o : List ℕ) {o₁ o₂ o₃ : List ℕ} → length seed ≡ 16 → length secret ≡ 16
     → o₁ ≡ take 0 o ++ hexOf (frontBytes p) ++ drop (0 + 2 * length (frontBytes p)) o
-    → o₂ ≡ take (2 * place seedField) o₁ ++ hexOf seed ++ drop (2 * place seedField + 2 * length seed) o₁
-    → o₃ ≡ take (2 * place secretField) o₂ ++ hexOf secret ++ drop (2 * place secretField + 2 * length secret) o₂
-    → o₃ ≡ hexOf (frontBytes p ++ seed ++ secret) ++ drop (2 * place nextField) o
+    → o₂ ≡ take (2 * fieldPlace seedField) o₁ ++ hexOf seed ++ drop (2 * fieldPlace seedField + 2 * length seed) o₁
+    → o₃ ≡ take (2 * fieldPlace secretField) o₂ ++ hexOf secret ++ drop (2 * fieldPlace secretField + 2 * length secret) o₂
+    → o₃ ≡ hexOf (frontBytes p ++ seed ++ secret) ++ drop (2 * fieldPlace nextField) o
 unfolding toBytes
 front-written p seed secret o seed-long secret-long e₁ e₂ e₃ =
     let front : List ℕ = frontBytes p in
-    let second = rw seed-long at (bytes-behind front seed o (2 * place seedField) refl e₁ e₂) in
-    let long : 2 * length (front ++ seed) ≡ 2 * place secretField = omega (arith, length-append front seed) in
-    bytes-behind (front ++ seed) secret o (2 * place secretField) long second e₃ ∙ rw secret-long
+    let second = rw seed-long at (bytes-behind front seed o (2 * fieldPlace seedField) refl e₁ e₂) in
+    let long : 2 * length (front ++ seed) ≡ 2 * fieldPlace secretField = omega (arith, length-append front seed) in
+    bytes-behind (front ++ seed) secret o (2 * fieldPlace secretField) long second e₃ ∙ rw secret-long
 
 pub last-long : (next : ℕ) (mark : Bool) (edition : ℕ) → length (lastBytes next mark edition) ≡ lastLength + length (editionByte edition)
 unfolding toBytes
@@ -87,18 +87,20 @@ module _ (key : SigningKey) (seed-long : length (key .seed) ≡ 16) (secret-long
 
   -- the whole frame
   pub frame-written : (o : List ℕ) {o₁ o₂ last : List ℕ} {end : ℕ}
-      → o₁ ≡ hexOf (frontBytes (key .profile) ++ key .seed ++ key .secret) ++ drop (2 * place nextField) o
+      → o₁ ≡ hexOf (frontBytes (key .profile) ++ key .seed ++ key .secret) ++ drop (2 * fieldPlace nextField) o
       → last ≡ lastBytes (key .counter .next) (markCounts (2 ^ key .profile .height) (key .counter)) (key .profile .edition)
-      → end ≡ 2 * place nextField + length (lineOf last) → o₂ ≡ take (2 * place nextField) o₁ ++ lineOf last ++ drop end o₁ → (end ≡ length (storedKey key))
+      → end ≡ 2 * fieldPlace nextField + length (lineOf last) → o₂ ≡ take (2 * fieldPlace nextField) o₁ ++ lineOf last ++ drop end o₁
+      → (end ≡ length (storedKey key))
       × (o₂ ≡ storedKey key ++ drop end o)
   unfolding storedKey withoutIdleMark toBytes
   frame-written o {end} e₁ l q e₂ =
       let front : List ℕ = frontBytes (key .profile) in
       let seeds : List ℕ = front ++ key .seed ++ key .secret in
       let last : List ℕ = lastBytes (key .counter .next) (markCounts (2 ^ key .profile .height) (key .counter)) (key .profile .edition) in
-      let long : 2 * length seeds ≡ 2 * place nextField = omega (arith, length-append (front ++ key .seed) (key .secret), length-append front (key .seed)) in (
+      let long : 2 * length seeds ≡ 2 * fieldPlace nextField = omega
+      (arith, length-append (front ++ key .seed) (key .secret), length-append front (key .seed)) in (
         omega (arith, stored-long, length-lineOf last, ap (λ l. length (lineOf l)) l),
-        line-behind seeds last o (2 * place nextField) long e₁ (q ∙ rw l) (e₂ ∙ rw l)
+        line-behind seeds last o (2 * fieldPlace nextField) long e₁ (q ∙ rw l) (e₂ ∙ rw l)
             ∙ ap (λ l. lineOf l ++ drop end o) (sym (key-parts (withoutIdleMark key))),
       )
 

@@ -40,18 +40,18 @@ nextField = 6
 abbrev pub markField : ℕ
 markField = 7
 
--- the sum of numbers
-abbrev pub total : List ℕ → ℕ
-total [] = 0
-total (n ∷ more) = n + total more
+-- how many bytes fields have together
+abbrev pub bytesOf : List ℕ → ℕ
+bytesOf [] = 0
+bytesOf (n ∷ more) = n + bytesOf more
 
 -- where a field begins: behind the bytes of those before it
 abbrev pub offset : (field : ℕ) → ℕ
-offset field = total (take field fieldSizes)
+offset field = bytesOf (take field fieldSizes)
 
 -- how many bytes the fields have; behind them stands the edition's byte, where there is one
 abbrev pub keyLength : ℕ
-keyLength = total fieldSizes
+keyLength = bytesOf fieldSizes
 
 -- the bytes of a field
 abbrev pub fieldIn : (field : ℕ) (bytes : List ℕ) → List ℕ

@@ -12,7 +12,7 @@ ghost use Rattle.signing_key.specs.Counter as counting;
 ghost use Rattle.stored_key.specs.KeyFields.{nextField};
 ghost use Rattle.stored_key.specs.KeyFrame.{storedKey};
 ghost use Rattle.stored_key.specs.Operations.{WritesKey};
-ghost use Rattle.stored_key.specs.inner.Parts.{place, frameLength, frontBytes, lastBytes};
+ghost use Rattle.stored_key.specs.inner.Parts.{fieldPlace, frameLength, frontBytes, lastBytes};
 use super::fields::LAST_BYTES;
 use super::fields::LINE_LENGTH;
 use super::fields::NEXT_AT;
@@ -55,8 +55,8 @@ fn last_bytes(p: Profile, counter: Counter) -> [u8; 6]
 
 // Writes the frame of a key up to behind its seeds.
 fn write_front(p: Profile, seed: [u8; 16], secret: [u8; 16], frame: &mut [u8])
-    requires { ⌜ SizesInLimits p × (2 * place nextField ≤ length (now frame)) ⌝ }
-    ensures { λ _. ⌜ now (frame .exit) ≡ hexOf (frontBytes p ++ seed ++ secret) ++ drop (2 * place nextField) (now (frame .entry)) ⌝ }
+    requires { ⌜ SizesInLimits p × (2 * fieldPlace nextField ≤ length (now frame)) ⌝ }
+    ensures { λ _. ⌜ now (frame .exit) ≡ hexOf (frontBytes p ++ seed ++ secret) ++ drop (2 * fieldPlace nextField) (now (frame .entry)) ⌝ }
 {
     let front = profile_head(7, p);
     write_bytes(frame, 0, &front[..SEED_AT]);

@@ -14,8 +14,8 @@ use Rattle.stored_key.specs.Operations.{noKey}
 use Rattle.stored_key.specs.declared.reader.KeyRead.{KeyRead}
 
 -- where a field stands in a frame's bytes: the kind is in front of all
-abbrev pub place : (field : ℕ) → ℕ
-place field = 1 + offset field
+abbrev pub fieldPlace : (field : ℕ) → ℕ
+fieldPlace field = 1 + offset field
 
 -- how many bytes a frame has in edition 1
 abbrev pub frameLength : ℕ
@@ -35,7 +35,7 @@ lastBytes next mark edition = toBytes 4 next ++ (cond mark 1 0 ∷ editionByte e
 
 -- the kind, the mark and the edition's byte are right: edition 2 alone has the last
 abbrev pub framedTest : (bytes : List ℕ) → Bool
-framedTest bytes = eqb (getD bytes 0 0) 7 && (ltb (getD bytes (place markField) 0) 2 && eqb (getD bytes frameLength 2) 2)
+framedTest bytes = eqb (getD bytes 0 0) 7 && (ltb (getD bytes (fieldPlace markField) 0) 2 && eqb (getD bytes frameLength 2) 2)
 
 -- the answer to a wrong frame
 pub record RefusesFrame (r : KeyRead) : Type 0 where

@@ -5,7 +5,7 @@ use borrow.Author.Tests.{lt-ltb, le-ltb, eq-eqb, ne-eqb}
 use denote.Ref.{now}
 use lib.ListN.{getD, List·getD-eq-default}
 use Rattle.stored_key.specs.KeyFields.{markField}
-use Rattle.stored_key.specs.inner.Parts.{place, frameLength}
+use Rattle.stored_key.specs.inner.Parts.{fieldPlace, frameLength}
 use Rattle.stored_key.proofs.ReadAnswer.{any-default}
 use Rattle.stored_key.proofs.reader.is_framed.Statement.{statement}
 use Rattle.stored_key.proofs.reader.is_framed.Tie as tie
@@ -17,7 +17,7 @@ returns-2 : tie.Need-returns-2
 returns-2 c =
     let kind = c .before .before in
     let bytes = now (kind .before .before .args .bytes) in
-    rw (eq-eqb (getD bytes 0 0) 7 (kind .if1 .left), le-ltb (getD bytes (place markField) 0) 2 (omega arith))
+    rw (eq-eqb (getD bytes 0 0) 7 (kind .if1 .left), le-ltb (getD bytes (fieldPlace markField) 0) 2 (omega arith))
 
 returns-3 : tie.Need-returns-3
 returns-3 c =
@@ -25,7 +25,7 @@ returns-3 c =
     let bytes = now (kind .before .before .args .bytes) in
     rw (
       eq-eqb (getD bytes 0 0) 7 (kind .if1 .left),
-      lt-ltb (getD bytes (place markField) 0) 2 (omega arith),
+      lt-ltb (getD bytes (fieldPlace markField) 0) 2 (omega arith),
       List·getD-eq-default bytes 2 {n = frameLength} (omega arith),
     )
 
@@ -33,7 +33,11 @@ returns-4 : tie.Need-returns-4
 returns-4 c =
     let kind = c .before .before .before .before in
     let bytes = now (kind .before .before .args .bytes) in
-    rw (eq-eqb (getD bytes 0 0) 7 (kind .if1 .left), lt-ltb (getD bytes (place markField) 0) 2 (omega arith), any-default bytes frameLength 0 2 (omega arith))
+    rw (
+      eq-eqb (getD bytes 0 0) 7 (kind .if1 .left),
+      lt-ltb (getD bytes (fieldPlace markField) 0) 2 (omega arith),
+      any-default bytes frameLength 0 2 (omega arith),
+    )
 
 pub is-framed-spec : {M : Type 1} → statement M
 is-framed-spec =

@@ -5,7 +5,7 @@ use borrow.Author.Needs.{needs}
 use denote.Ref.{now}
 use lib.ListN.{length, take}
 use Rattle.stored_key.specs.KeyFields.{seedField}
-use Rattle.stored_key.specs.inner.Parts.{place, frontBytes}
+use Rattle.stored_key.specs.inner.Parts.{fieldPlace, frontBytes}
 use Rattle.stored_key.proofs.WriteAnswer.{front-taken, front-long, front-written}
 use Rattle.stored_key.proofs.writer.write_front.Statement.{statement}
 use Rattle.stored_key.proofs.writer.write_front.Tie as tie
@@ -17,10 +17,10 @@ longs s = search needs
 abbrev start : tie.After-profile-head → tie.Start
 start h = h .before .before
 
-front-are : (h : tie.After-profile-head) → take (place seedField) (h .profile-head .result) ≡ frontBytes (start h .args .p)
+front-are : (h : tie.After-profile-head) → take (fieldPlace seedField) (h .profile-head .result) ≡ frontBytes (start h .args .p)
 front-are h = front-taken (start h .args .p) (h .profile-head .ensures)
 
-front-count : (h : tie.After-profile-head) → length (take (place seedField) (h .profile-head .result)) ≡ place seedField
+front-count : (h : tie.After-profile-head) → length (take (fieldPlace seedField) (h .profile-head .result)) ≡ fieldPlace seedField
 front-count h = ap length (front-are h) ∙ front-long (start h .args .p)
 
 slice-aggregate-write-bytes : tie.Need-slice-aggregate-write-bytes
