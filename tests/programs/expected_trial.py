@@ -210,8 +210,6 @@ OUTSIDE_SHAPE = [
     Profile(MASK, MASK, MASK, MASK, 1),
 ]
 OUTSIDE = [*OUTSIDE_SHAPE, SMALL._replace(h=256 + 2), SMALL._replace(h=MASK)]
-# Both editions, and numbers that are neither; one would be edition 2 if it were cut.
-TRIED_EDITIONS = [0, 1, 2, 3, 256 + 2, MASK]
 
 
 def named(p, more=""):
@@ -455,10 +453,6 @@ def bits_case(label, counts):
     return case("bits", label, taken, " ".join(told))
 
 
-# Every bit set, in the second half alone, and of both kinds.
-DIGESTS = [b"\xff" * 32, bytes(16) + b"\xff" * 16, hashlib.sha256(b"abc").digest()]
-
-
 def bits_cases():
     """Counts up to the ends of five words, most of which no profile has, and numbers of 0 to 128
     bits. No shape has a count of 0, which has no power of two below it; it is told as 0 bits."""
@@ -467,8 +461,9 @@ def bits_cases():
     for low in range(0, 160, 8):
         label = f"of 2^k - 1, 2^k, 2^k + 1, k {low} to {low + 7}"
         yield bits_case(label, around_powers(range(low, low + 8)))
-    # the 129 numbers of bits in three lines
-    for digest, low in itertools.product(DIGESTS, range(0, MOST_BITS + 1, 43)):
+    # every bit set, in the second half alone, and of both kinds; the 129 numbers in three lines
+    digests = [b"\xff" * 32, bytes(16) + b"\xff" * 16, hashlib.sha256(b"abc").digest()]
+    for digest, low in itertools.product(digests, range(0, MOST_BITS + 1, 43)):
         numbers = [number_told(first_bits(digest, bits)) for bits in range(low, low + 43)]
         told = ", ".join([f"from {low}", *numbers])
         yield case("first bits", f"of {digest.hex()}", digest + words([low, 43]), told)
@@ -506,8 +501,8 @@ def all_wrong_at(p):
 
 def any_edition_cases():
     """Count, Spread and Gather know no edition. Where it is neither of the two, 22 goes before all
-    that is tested later, and behind 4 and 3."""
-    for edition in TRIED_EDITIONS:
+    that is tested later, and behind 4 and 3. One would be edition 2 if it were cut."""
+    for edition in (0, 1, 2, 3, 256 + 2, MASK):
         p = SMALL._replace(edition=edition)
         yield from held([0], count_case(p, 5), *round_trip(p, 5, 5))
         yield from held([editions.answer_to(edition)], *all_right_at(edition))

@@ -1,7 +1,5 @@
 """Test vectors of keys: Reserve and Sign with every kind of next leaf and mark, stored keys written
 and read, and such as are wrong; and desks that go from fresh through cuts and restarts.
-
-Each call is said to have an outcome, to which what the implementation answers is held.
 """
 
 from types import SimpleNamespace
@@ -46,28 +44,9 @@ def counter_vector(operation, kind):
     return held(0, made)
 
 
-def slices_written():
-    for edition, longer in stored_keys.SLICED:
-        p = Profile(*SHAPE, 2, edition)
-        key, size = reserved_key(p, SEED, SECRET, 1), frame_length(p) + longer
-        note = f"edition {edition}, a slice of {size} bytes"
-        yield held(SLICES[longer], vector("write_key", note, key, frame=size))
-    yield held(6, vector("write_key", "edition 1, no slice", key._replace(profile=GATE), frame=0))
-
-
 # What is read: of the kinds at each place and each length, some.
 SOME = {"no digit at": ENDS, "another digit at": ENDS, "cut to": CUT}
 READ = [kind for kind in READ_KINDS if kind[1] not in SOME or kind[2] in SOME[kind[1]]]
-
-
-def frames_read():
-    """The key of the gate profile with the seeds of the example, which has a leaf reserved."""
-    key = reserved_key(GATE, SEED, SECRET, 0x0102)
-    for kind in READ:
-        frame = stored_keys.drawn_frame(FIXED, key, kind).before
-        made = vector("read_key", stored_keys.told_frame(kind), frame=frame)
-        answer = READ_KINDS[kind]
-        yield made if answer is None else held(answer, made)
 
 
 class Desk(Story):
@@ -121,7 +100,15 @@ def cuts_story(p):
     return desk.vectors
 
 
-def gate_keys():
+def keys_family():
+    for wanted in stored_keys.WANTED:
+        yield counter_vector(*wanted)
+    for edition, longer in stored_keys.SLICED:
+        p = Profile(*SHAPE, 2, edition)
+        key, size = reserved_key(p, SEED, SECRET, 1), frame_length(p) + longer
+        note = f"edition {edition}, a slice of {size} bytes"
+        yield held(SLICES[longer], vector("write_key", note, key, frame=size))
+    yield held(6, vector("write_key", "edition 1, no slice", key._replace(profile=GATE), frame=0))
     for p in (GATE, GATE_2):
         for note, key in [
             ("a fresh key of the gate profile", SigningKey(p, SEED, SECRET, 0, 0)),
@@ -131,13 +118,10 @@ def gate_keys():
             made, left = vector_and_left("write_key", note, key, frame=frame_length(p))
             yield held(0, made)
             yield held(0, vector("read_key", note, frame=left["frame"]))
-
-
-def keys_family():
-    for wanted in stored_keys.WANTED:
-        yield counter_vector(*wanted)
-    yield from slices_written()
-    yield from gate_keys()
-    yield from frames_read()
+    for kind in READ:
+        key, answer = reserved_key(GATE, SEED, SECRET, 0x0102), READ_KINDS[kind]
+        frame = stored_keys.drawn_frame(FIXED, key, kind).before
+        made = vector("read_key", stored_keys.told_frame(kind), frame=frame)
+        yield made if answer is None else held(answer, made)
     for edition in EDITIONS:
         yield from cuts_story(Profile(*SHAPE, 2, edition))

@@ -1,10 +1,6 @@
 """Test vectors of whole orders: a key reserves and signs and a cabinet checks, and what a call
-hands back goes to the next. Orders that are taken; replays; changed texts, signatures, seeds and
-roots; spent keys; numbers of few bits, of many and of 128; counts that are too small; orders of
-earlier days; orders that arrive out of order, and every way in which a leaf can stand to a cabinet;
-orders of edition 2, and such as are judged by the other edition.
-
-Each call is said to have an outcome, to which what the implementation answers is held.
+hands back goes to the next. Each call is said to have an outcome, to which what the implementation
+answers is held.
 """
 
 import hashlib
@@ -25,7 +21,7 @@ from zarosnik import MOST_BITS, first_bits, number_bits, row_of, table_length
 # The nearest count above 2^power gives numbers of so many bits, the nearest below one bit less: the
 # fewest and the most, and at the ends of words.
 POWERS = (8, 9, 16, 31, 32, 33, 64, 96, 127, 128)
-# Profiles at which orders of earlier days could be signed, and numbers have 127 and 112 bits today:
+# Shapes at which orders of earlier days could be signed, and numbers have 127 and 112 bits today:
 # in eight numbers about five were below the count, and in 2^15 one.
 EARLIER = [(34, 16, 204), shapes.shortest(shapes.neighbours(113)[0])]
 
@@ -68,16 +64,16 @@ class Story:
         self.sign("the key is spent, and no leaf is reserved", text, r, 20)
 
     def verify(self, note, order, outcome=0):
-        self.cabinet = handed_back(self.cabinet, self.check(note, self.cabinet, order, outcome))
-
-    def check(self, note, cabinet, order, outcome):
         given = {"message": order[0], "signature": order[1], "table": self.words}
-        return self.add("verify", note, cabinet, outcome, **given)
+        left = self.add("verify", note, self.cabinet, outcome, **given)
+        self.cabinet = handed_back(self.cabinet, left)
 
     def judge(self, note, order, outcome=15, **other):
         """A check by a cabinet that is fresh but for what is named. The story's cabinet stays."""
-        cabinet = self.cabinet._replace(**{"highest": 0, "marks": 0, **other})
-        self.check(note, cabinet, order, outcome)
+        own = self.cabinet
+        self.cabinet = own._replace(**{"highest": 0, "marks": 0, **other})
+        self.verify(note, order, outcome)
+        self.cabinet = own
 
     def number(self, text, leaf=0):
         return message_number(self.p, R, SEED, self.root, leaf, text)
@@ -360,16 +356,6 @@ def crossed_story():
     return first.vectors + second.vectors
 
 
-def second_edition():
-    """What the first has, at fewer shapes."""
-    yield from gate_story(GATE_2)
-    for shape in order_shapes()[::6]:
-        yield from bits_story(shape, 2)
-    yield from scant_story(shapes.nearly_signing()[0], 2)
-    yield from arrivals_story(WINDOW_PROFILE._replace(edition=2))
-    yield from full_story(Profile(40, 11, 200, 1, 2), "narrow")
-
-
 def orders_family():
     yield from gate_story(GATE)
     yield from worked_story()
@@ -385,5 +371,11 @@ def orders_family():
     yield from full_story(GATE._replace(h=0), "one leaf")
     yield from full_story(Profile(40, 11, 200, 1, 1), "narrow")
     yield from full_story(Profile(40, 16, 300, 2, 1), "longest")
-    yield from second_edition()
+    # in edition 2 what the first has, at fewer shapes
+    yield from gate_story(GATE_2)
+    for shape in order_shapes()[::6]:
+        yield from bits_story(shape, 2)
+    yield from scant_story(shapes.nearly_signing()[0], 2)
+    yield from arrivals_story(WINDOW_PROFILE._replace(edition=2))
+    yield from full_story(Profile(40, 11, 200, 1, 2), "narrow")
     yield from crossed_story()

@@ -32,7 +32,7 @@ WRONG = {
 NO_EDITION, NO_EDITIONS = 3, (0, PAST_WORD - 1)
 
 
-def profile_with(p, causes, no_edition=NO_EDITION):
+def profile_with(p, causes, no_edition):
     l = 41 if 1 in causes else p.l
     w = 17 if 2 in causes else p.w
     s = l * (w - 1) + 1 if 3 in causes else p.s
@@ -40,100 +40,64 @@ def profile_with(p, causes, no_edition=NO_EDITION):
     return Profile(l, w, s, h, no_edition if 22 in causes else p.edition)
 
 
-class Refused:
-    """A call with just these causes. Slices have the sizes that go with the wrong profile, or with
-    the gate where the profile is given: a library that takes it is not saved by a slice that is too
-    short. A method lays the causes that the argument of its name can have."""
+def beyond(cause, causes, end, far):
+    """The last number that is good. With the cause alone the next one, with others one far off."""
+    if cause not in causes:
+        return end - 1
+    return end if causes == [cause] else far
 
-    def __init__(self, operation, good, causes, given=None, **no_edition):
-        self.operation, self.good, self.causes = operation, good, causes
-        self.p = given or profile_with(good, causes, **no_edition)
-        self.sized, self.end = good if given else self.p, 2**good.h
-        self.alone = len(causes) == 1
 
-    def vector(self, note):
-        """Slices that may be written are given by their size. In the cabinet the leaf below was
-        accepted; where the leaf is passed, it itself too."""
-        p, causes, short = self.sized, self.causes, 6 in self.causes
-        sizes = {
-            "table": table_length(p.l, p.s) - (5 in causes),
-            "row": p.l - short,
-            "values": 16 * p.l - short,
-            "signature": signature_length(p) - short,
-            "message": len(ORDER),
-            "sheet": sheet_length(p, len(self.message())) - short,
-            "frame": frame_length(p) - short,
-        }
-        known = {**self.p._asdict(), **SEEDS, "r": R, "root": root_of(self.good, SEED, SECRET)}
-        known |= {"highest_leaf": self.leaf(), "marks": 2 + (14 in causes)}
-        given = {}
-        for name, kind, _ in parameters(self.operation):
-            if name in LENT[self.operation]:
-                given[name] = sizes[name]
-            elif kind != "*":
-                given[name] = known[name] if name in known else getattr(self, name)()
-        return vector(self.operation, note, **given)
+def row_with(good, size, causes):
+    row = row_of(*good[:3], count_of(good) - 1)
+    if 9 in causes:
+        # the sum stays
+        row = bytes([good.w, good.s - good.w]) + bytes(good.l - 2)
+    if 10 in causes:
+        row = row[:-1] + bytes([row[-1] + 1])
+    return (row + bytes(size))[: size + (8 in causes)]
 
-    def number(self):
-        """Alone, the smallest that is too large."""
-        count = count_of(self.good)
-        if 7 not in self.causes:
-            return count - 1
-        return count if self.alone else (1 << 160) - 1
 
-    def leaf(self):
-        """Alone, the lowest that is too high; else one that is so for every height."""
-        if 11 not in self.causes:
-            return self.end - 1
-        return self.end if self.alone else PAST_WORD - 2
-
-    def message(self):
-        return b"" if 16 in self.causes else ORDER
-
-    def row(self):
-        good, size = self.good, self.sized.l
-        row = row_of(*good[:3], count_of(good) - 1)
-        if 9 in self.causes:
-            # the sum stays
-            row = bytes([good.w, good.s - good.w]) + bytes(good.l - 2)
-        if 10 in self.causes:
-            row = row[:-1] + bytes([row[-1] + 1])
-        return (row + bytes(size))[: size + (8 in self.causes)]
-
-    def values(self):
-        return derived("values", 16 * self.sized.l + (13 in self.causes))
-
-    def next_leaf(self):
-        """To reserve, the last leaf, or none; to sign, the last leaf was reserved, or a mark counts
-        with no height."""
-        if self.operation == "reserve":
-            return self.end - (12 not in self.causes)
-        idle = 20 in self.causes and not self.alone
-        return 1 if self.operation == "write_key" else PAST_WORD - 1 if idle else self.end
-
-    def mark(self):
-        """Not reserved, a leaf has no mark or, where 20 is not alone, one that does not count."""
-        if self.operation == "reserve":
-            return int(21 in self.causes)
-        return int(20 not in self.causes or not self.alone)
-
-    def signature(self):
-        """To check, where the count is too small, what the rule would sign if it were not."""
-        p, last, size = self.good, self.end - 1, signature_length(self.sized) - (13 in self.causes)
-        if self.operation == "write_sheet":
-            return derived("signature", size)
-        number = message_number(p, R, SEED, root_of(p, SEED, SECRET), last, ORDER)
-        signed = signature_of(p, SEED, SECRET, last, R, number)
-        signature = (self.leaf().to_bytes(4, "big") + signed[4:] + bytes(size))[:size]
-        return flipped(signature, -1) if 15 in self.causes else signature
-
-    def sheet(self):
-        sheet = right_sheet(self.good, derived("signature", signature_length(self.good)), ORDER)
-        return sheet[: len(sheet) - (17 in self.causes)]
-
-    def frame(self):
-        line = right_frame(SigningKey(self.good, SEED, SECRET, 1, 1))
-        return line[: len(line) - (17 in self.causes)]
+def arguments_with(causes, operation, good, p, sized):
+    """What a call is given that has just these causes, by name: the profile p, all else as it would
+    be right for the good one, in sizes that go with a third. What may be written is given by its
+    size."""
+    end, root, text = 2**good.h, root_of(good, SEED, SECRET), b"" if 16 in causes else ORDER
+    leaf, idle = beyond(11, causes, end, PAST_WORD - 2), 20 in causes and causes != [20]
+    next_leaf, mark = {
+        # the last leaf is the next, or none is
+        "reserve": (end - (12 not in causes), 21 in causes),
+        # the last leaf is reserved; it has no mark, or one that counts with no height
+        "sign": (PAST_WORD - 1 if idle else end, idle or 20 not in causes),
+    }.get(operation, (1, 1))
+    if operation == "write_sheet":
+        signature = derived("signature", signature_length(sized))
+    else:
+        # where the count is too small, what the rule would sign if it were not
+        number = message_number(good, R, SEED, root, end - 1, ORDER)
+        signed = signature_of(good, SEED, SECRET, end - 1, R, number)
+        signature = leaf.to_bytes(4, "big") + signed[4:] + bytes(signature_length(sized))
+    signature = signature[: signature_length(sized) - (13 in causes)]
+    sheet = right_sheet(good, derived("signature", signature_length(good)), ORDER)
+    frame = right_frame(SigningKey(good, SEED, SECRET, 1, 1))
+    given = {**p._asdict(), **SEEDS, "r": R, "root": root, "message": text, "leaf": leaf}
+    given |= {"next_leaf": next_leaf, "mark": int(mark)}
+    # the leaf below was accepted; where the leaf is passed, it itself too
+    given |= {"highest_leaf": leaf, "marks": 2 + (14 in causes)}
+    given |= {
+        "number": beyond(7, causes, count_of(good), (1 << 160) - 1),
+        "row": row_with(good, sized.l, causes),
+        "values": derived("values", 16 * sized.l + (13 in causes)),
+        "signature": flipped(signature, -1) if 15 in causes else signature,
+        "sheet": sheet[: len(sheet) - (17 in causes)],
+        "frame": frame[: len(frame) - (17 in causes)],
+    }
+    needed = {"row": sized.l, "values": 16 * sized.l, "signature": signature_length(sized)}
+    needed |= {"sheet": sheet_length(sized, len(text)), "frame": frame_length(sized)}
+    sizes = {name: room - (6 in causes) for name, room in needed.items()}
+    sizes |= {"table": table_length(sized.l, sized.s) - (5 in causes), "message": len(ORDER)}
+    given |= {name: sizes[name] for name in LENT[operation]}
+    answers = {name for name, kind, cause in parameters(operation) if kind == "*" and not cause}
+    return {name: value for name, value in given.items() if name not in answers}
 
 
 def right_profile(operation, causes):
@@ -141,9 +105,13 @@ def right_profile(operation, causes):
     return LOW_GATE if operation in ORDERS and 19 not in causes else SMALL
 
 
-def refused(operation, note, causes, good=None, **wrong):
+def refused(operation, note, causes, good=None, given=None, no_edition=NO_EDITION):
+    """Where the profile is given, sizes go with the good one: a library that takes the wrong one is
+    not saved by a slice that is too short."""
     good = good or right_profile(operation, causes)
-    return held(causes[0], Refused(operation, good, causes, **wrong).vector(note))
+    p = given or profile_with(good, causes, no_edition)
+    arguments = arguments_with(causes, operation, good, p, good if given else p)
+    return held(causes[0], vector(operation, note, **arguments))
 
 
 def refusals_of(operation):

@@ -6,7 +6,7 @@ import itertools
 
 import editions
 from sheets import hex_line, profile_frame, right_sheet, sheet_length
-from signatures import EDITIONS, GATE, GATE_2, Profile, reserved_key, sign, signature_length
+from signatures import GATE, GATE_2, Profile, reserved_key, sign, signature_length
 from vector_calls import LONG_ORDER, ORDER, SECRET, SEED, SMALL, R, derived, flipped, held, vector
 from written_sheets import LEAVES, SLICES, answer_to
 from zarosnik import table_length
