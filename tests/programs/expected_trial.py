@@ -82,7 +82,7 @@ def held(outcomes, *made):
     for given, line in made:
         found = [int(number) for number in re.findall(r": outcome (\d+)", line)]
         found = found if line.startswith("orders ") else found[:1]
-        if found not in (outcomes, outcomes * len(found)):
+        if not found or found not in (outcomes, outcomes * len(found)):
             fail(f"not answered by {outcomes}: {line}")
         yield given, line
 
