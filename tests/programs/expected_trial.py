@@ -1,55 +1,37 @@
 """The standard input of the program `trial`, and its expected standard output.
 
-    python3 tests/programs/expected_trial.py DIR            writes them as DIR/stdin and DIR/stdout
-    python3 tests/programs/expected_trial.py --check DIR    succeeds where these files are exactly those
+    python3 tests/programs/expected_trial.py DIR            writes DIR/stdin and DIR/stdout
+    python3 tests/programs/expected_trial.py --check DIR    succeeds where they are exactly those
 
 The cases are the document's trial values, the published SHA-256 examples, some values for each
 operation, each operation at both editions and at numbers that are neither, and what the C interface
 cannot be given: states of the running hash, counts that no profile has, and digests.
-tests/interface/compare.py has the breadth. Nothing here is taken from the program or from the library under
-test: digests of messages come from hashlib, and all else from the implementations in this folder,
-which are first held to hashlib, to lists of all rows and to binary digits.
+tests/interface/compare.py has the breadth. Nothing here is taken from the program or from the
+library under test: the SHA-256 below is held to hashlib, and all else comes from the independent
+implementation, which tests/vectors/make_vectors.py holds to lists of all rows and binary digits.
 """
 
+import argparse
 import hashlib
 import itertools
-import math
-import os
 import re
-import sys
+from collections import namedtuple
+from pathlib import Path
 
-import paths
-from typing import NamedTuple
+from paths import fail
 
 import editions
 import signatures
 import zarosnik
 from sheets import read_sheet, right_sheet
-from signatures import (
-    EDITIONS,
-    GATE,
-    LEAST_COUNT,
-    Profile,
-    SigningKey,
-    Verifier,
-    signature_length,
-)
-from zarosnik import (
-    MOST_BITS,
-    around_powers,
-    first_bits,
-    number_bits,
-    number_words,
-    table_length,
-)
+from signatures import EDITIONS, GATE, LEAST_COUNT, Profile, SigningKey, Verifier
+from signatures import fresh_key, root_of, signature_length
+from vector_calls import SECRET, SEED, R, flipped
+from zarosnik import MOST_BITS, around_powers, first_bits, number_bits, number_words, table_length
 
 MASK = 0xFFFFFFFF
 MOST = 65535
-REFUSED = 18
-
-SEED = bytes(range(0x10, 0x20))
-SECRET = bytes(range(0xE0, 0xF0))
-R = bytes(range(0x71, 0x81))
+TEXT = b"Gate 7: open 40 cm from 06:15 to 09:30 on 12 March.\n"
 
 
 def message(length):
@@ -66,16 +48,6 @@ def stale_bytes(count):
     return bytes(160 + i % 64 for i in range(count))
 
 
-# A case is what the program reads of a call: how many words are lent, the bytes of three slices, the
-# number of the operation and what else it takes; and the line that it must write. The label, which
-# begins the line, is the first of the slices.
-
-OPERATIONS = [
-    *["sha256", "count", "spread", "gather", "leaf key", "root", "reveal", "recover"],
-    *["orders", "check", "sheet", "bits", "first bits"],
-]
-
-
 def word(n):
     return n.to_bytes(4, "big")
 
@@ -84,37 +56,35 @@ def words(numbers):
     return b"".join(map(word, numbers))
 
 
-def table_sums(table):
-    """The sum of all words, and the sum of the sums up to each."""
-    sums = list(itertools.accumulate(table))
-    return f"{sum(table) & MASK} {sum(sums) & MASK}"
+# A case is what the program reads of a call: how many words are lent, the bytes of three slices,
+# the number of the operation and what else it takes; and the line that it must write. The label,
+# which begins the line, is the first of the slices.
+OPERATIONS = ["sha256", "count", "spread", "gather", "leaf key", "root", "reveal", "recover"]
+OPERATIONS += ["orders", "check", "sheet", "bits", "first bits"]
+Slices = namedtuple("Slices", "table lent text", defaults=([], b"", b""))
 
 
-class Slices(NamedTuple):
-    table: list = []
-    lent: bytes = b""
-    text: bytes = b""
-
-
-# The program has no more room for a label, for the two slices and for the table.
-ROOM = (128, 1024, 256, 44803)
-
-
-def case(operation, label, taken, told, before=Slices(), after=Slices()):
-    """What the program reads and what it writes, from what a call takes and tells, and what the
-    slices hold before and after it."""
-    label = f"{operation} {label}"
+def case(operation, label, taken, told, before=Slices(), after=None):
+    """From what a call takes and tells, and what the slices hold before and, where it is something
+    else, after it. Of a table the sum of all words is told, and the sum of the sums up to each."""
+    label, after = f"{operation} {label}", after or before
     slices = [label.encode("ascii"), before.lent, before.text]
-    if any(len(part) > room for part, room in zip([*slices, before.table], ROOM, strict=True)):
-        sys.exit(f"the program has no room for {label}")
-    lengths = words([len(before.table), *map(len, slices)])
-    given = lengths + b"".join(slices) + word(OPERATIONS.index(operation)) + taken
-    lent = [
-        f"table {table_sums(after.table)}",
-        f"bytes {after.lent.hex()}",
-        f"text {after.text.hex()}",
-    ]
-    return given, ", ".join([f"{label}: {told}", *lent])
+    given = words([len(before.table), *map(len, slices)]) + b"".join(slices)
+    sums = list(itertools.accumulate(after.table, initial=0))
+    left = f"table {sums[-1] & MASK} {sum(sums) & MASK}, bytes {after.lent.hex()}"
+    line = f"{label}: {told}, {left}, text {after.text.hex()}"
+    return given + word(OPERATIONS.index(operation)) + taken, line
+
+
+def held(outcomes, *made):
+    """The cases, each of which must be answered so by the document: of a desk the steps, all by one
+    outcome or each by its own; of a cabinet, which then has passed the leaf, the first check."""
+    for given, line in made:
+        found = [int(number) for number in re.findall(r": outcome (\d+)", line)]
+        found = found if line.startswith("orders ") else found[:1]
+        if not found or found not in (outcomes, outcomes * len(found)):
+            fail(f"not answered by {outcomes}: {line}")
+        yield given, line
 
 
 def number_told(n):
@@ -123,32 +93,10 @@ def number_told(n):
 
 # SHA-256, by FIPS 180-4: hashlib cannot start from a given state.
 
-
-def primes(count):
-    found = []
-    n = 2
-    while len(found) < count:
-        if all(n % p for p in found):
-            found.append(n)
-        n += 1
-    return found
-
-
-def cube_root(n):
-    """The largest whole number whose cube is at most n."""
-    low, high = 0, 1 << (n.bit_length() // 3 + 1)
-    while low < high:
-        middle = (low + high + 1) // 2
-        if middle**3 <= n:
-            low = middle
-        else:
-            high = middle - 1
-    return low
-
-
+PRIMES = [n for n in range(2, 312) if all(n % divisor for divisor in range(2, n))]
 # 5.3.3 and 4.2.2: the first 32 bits of the fractional parts of the primes' square and cube roots.
-INITIAL = [math.isqrt(p << 64) & MASK for p in primes(8)]
-ROUND_WORDS = [cube_root(p << 96) & MASK for p in primes(64)]
+INITIAL = [int(p ** (1 / 2) % 1 * 2**32) for p in PRIMES[:8]]
+ROUND_WORDS = [int(p ** (1 / 3) % 1 * 2**32) for p in PRIMES]
 
 
 def rotr(n, x):
@@ -171,48 +119,37 @@ def compress(state, block):
     return [(x + y) & MASK for x, y in zip(state, [a, b, c, d, e, f, g, h])]
 
 
-class Hash:
+class Hash(namedtuple("Hash", "state block total", defaults=(INITIAL, bytes(64), 0))):
     """The running hash: the words, a block with total modulo 64 pending bytes, and the total."""
 
-    def __init__(self, words=INITIAL, block=bytes(64), total=0):
-        self.words, self.block, self.total = list(words), block, total
-
-    def pending(self):
-        return self.block[: self.total % 64]
-
     def blocks(self, data):
-        """The words after the whole blocks of data, and the bytes behind them."""
-        words = self.words
+        """The words after the whole blocks of what is pending and data, and the bytes behind."""
+        data, state = self.block[: self.total % 64] + data, self.state
         end = len(data) // 64 * 64
         for at in range(0, end, 64):
-            words = compress(words, data[at : at + 64])
-        return words, data[end:]
+            state = compress(state, data[at : at + 64])
+        return state, data[end:]
 
     def add(self, data):
         """The number of the outcome, and the state that is handed back."""
         if self.total + len(data) > MOST:
-            return REFUSED, self
-        words, rest = self.blocks(self.pending() + data)
-        return 0, Hash(words, rest + bytes(64 - len(rest)), self.total + len(data))
+            return 18, self
+        state, rest = self.blocks(data)
+        return 0, Hash(state, rest + bytes(64 - len(rest)), self.total + len(data))
 
     def digest(self):
-        """5.1.1: pending bytes, a one bit, zeros and the number of bits; then the words' bytes."""
-        tail = self.pending() + b"\x80"
-        tail += bytes(-(len(tail) + 8) % 64) + (8 * self.total).to_bytes(8, "big")
-        words, _ = self.blocks(tail)
-        return b"".join(map(word, words))
+        """5.1.1: a one bit, zeros and the number of bits; then the words' bytes."""
+        padding = b"\x80" + bytes(-(self.total + 9) % 64) + (8 * self.total).to_bytes(8, "big")
+        return words(self.blocks(padding)[0])
 
 
 def hold_to_hashlib():
-    """Stops unless the SHA-256 above agrees with hashlib, on a message whole and in two pieces."""
+    """On messages whole and in two pieces."""
     for n in [*range(260), 4095, 4096, MOST]:
-        data = message(n)
-        cut = n * 5 // 7
-        whole = Hash().add(data)[1]
-        pieces = Hash().add(data[:cut])[1].add(data[cut:])[1]
-        wanted = hashlib.sha256(data).digest()
-        if whole.digest() != wanted or pieces.digest() != wanted:
-            sys.exit(f"the SHA-256 of this script is wrong at length {n}")
+        for cut in (n, n * 5 // 7):
+            found = Hash().add(message(n)[:cut])[1].add(message(n)[cut:])[1].digest()
+            if found != hashlib.sha256(message(n)).digest():
+                fail(f"the SHA-256 of this script is wrong at length {n}")
 
 
 # The examples of FIPS 180-4, and a message of no bytes.
@@ -225,57 +162,33 @@ EXAMPLES = [
 ]
 # Lengths of two pieces: on both sides of each place at which the padding or the block changes.
 PIECES = [(1, 0), (55, 0), (0, 56), (13, 42), (20, 43), (30, 34), (1, 64), (64, 55), (600, 200)]
-# Every byte of the block counts, also where nothing is pending.
-STALE_WORDS = [
-    0x01234567,
-    0x89ABCDEF,
-    0xFEDCBA98,
-    0x76543210,
-    0xDEADBEEF,
-    0x00000000,
-    0xFFFFFFFF,
-    0x80000001,
-]
+STALE_WORDS = [0x01234567, 0x89ABCDEF, 0xFEDCBA98, 0x76543210, 0xDEADBEEF, 0, MASK, 0x80000001]
 # A total and two pieces. At most 65,535 bytes are taken in all; a refused piece changes nothing.
+# Every byte of the block counts, also where nothing is pending.
 STATES = [
-    (0, 0, 0),
-    (64, 0, 0),
-    (70, 0, 0),
-    (70, 60, 0),
-    (70, 57, 70),
-    (127, 1, 63),
-    (65535, 0, 0),
-    (65535, 1, 0),
-    (65500, 35, 1),
-    (65500, 36, 35),
-    (65400, 200, 135),
+    *[(0, 0, 0), (64, 0, 0), (70, 0, 0), (70, 60, 0), (70, 57, 70), (127, 1, 63)],
+    *[(65535, 0, 0), (65535, 1, 0), (65500, 35, 1), (65500, 36, 35), (65400, 200, 135)],
 ]
 
 
-def hash_case(label, taken, state, one, two):
+def hash_case(label, data, cut, state=Hash(), taken=(0,)):
+    one, two = data[:cut], data[cut:]
     first, middle = state.add(one)
     second, last = middle.add(two)
-    told = [
-        f"outcome {first}: outcome {second}",
-        f"total {last.total}",
-        f"block {last.block.hex()}",
-        f"finished: total 0, block {bytes(64).hex()}",
-        f"digest {last.digest().hex()}",
-    ]
-    slices = Slices([], one, two)
-    return case("sha256", label, words(taken), ", ".join(told), slices, slices)
+    told = f"outcome {first}: outcome {second}, total {last.total}, block {last.block.hex()}"
+    told += f", finished: total 0, block {bytes(64).hex()}, digest {last.digest().hex()}"
+    return case("sha256", label, words(taken), told, Slices([], one, two))
 
 
 def hash_cases():
+    hold_to_hashlib()
     for text in EXAMPLES:
-        yield hash_case(f'"{text}"', [0], Hash(), text.encode("ascii"), b"")
+        yield hash_case(f'"{text}"', text.encode("ascii"), len(text))
     for one, two in PIECES:
-        data = message(one + two)
-        yield hash_case(f"{one} and {two} bytes", [0], Hash(), data[:one], data[one:])
+        yield hash_case(f"{one} and {two} bytes", message(one + two), one)
     for total, one, two in STATES:
-        data, state = message(one + two), Hash(STALE_WORDS, b"\xa5" * 64, total)
-        label = f"at total {total}, {one} and {two} bytes"
-        yield hash_case(label, [1, total], state, data[:one], data[one:])
+        state, label = Hash(STALE_WORDS, b"\xa5" * 64, total), f"{one} and {two} bytes"
+        yield hash_case(f"at total {total}, {label}", message(one + two), one, state, [1, total])
 
 
 # Profiles. The document's starred trial values are proved; here are the others, and some more.
@@ -283,26 +196,20 @@ def hash_cases():
 SMALL = Profile(3, 3, 3, 2, 1)
 WIDE = Profile(40, 16, 0, 1, 1)
 FLAT = GATE._replace(h=0)
+TALL = GATE._replace(h=3)
 # Orders have numbers of 8 bits, and of 127. The first has the least count that signs, which is 266.
 FEWEST_BITS = Profile(7, 3, 5, 0, 1)
 NEARLY_ALL_BITS = FLAT._replace(s=204)
 # The largest count that does not sign, which is 255.
 NEARLY_SIGNING = Profile(5, 5, 7, 1, 1)
+SHEET = Profile(2, 3, 2, 1, 1)
 # Outside the limits, also by numbers that narrower types would cut to right ones.
-OUTSIDE = [
-    Profile(41, 3, 3, 2, 1),
-    Profile(MASK, 3, 3, 2, 1),
-    Profile(3, MASK, 3, 2, 1),
-    Profile(3, 3, MASK, 2, 1),
+OUTSIDE_SHAPE = [
+    *[SMALL._replace(**one) for one in ({"l": 41}, {"l": MASK}, {"w": MASK}, {"s": MASK})],
     Profile(256 + 3, 256 + 3, 65536 + 3, 256 + 2, 1),
     Profile(MASK, MASK, MASK, MASK, 1),
 ]
-OUTSIDE_HEIGHT = [SMALL._replace(h=256 + 2), SMALL._replace(h=MASK)]
-# Both editions, and numbers that are neither; one would be edition 2 if it were cut.
-TRIED_EDITIONS = [0, 1, 2, 3, 256 + 2, MASK]
-
-
-GATE_COUNT = zarosnik.ways(GATE.w, GATE.l, GATE.s)
+OUTSIDE = [*OUTSIDE_SHAPE, SMALL._replace(h=256 + 2), SMALL._replace(h=MASK)]
 
 
 def named(p, more=""):
@@ -314,56 +221,33 @@ def table_of(p, more=0):
     return stale_words(more + (table_length(p.l, p.s) if p.l <= 40 and p.s <= 600 else 80))
 
 
-def code_cases():
-    """Count, Spread and Gather. Three words and three bytes more than needed are lent."""
-    wrong = zarosnik.disagreement()
-    if wrong:
-        sys.exit(f"zarosnik.py is wrong at l, w, s = {wrong}")
-    middle = Profile(17, 5, 30, 0, 1)
-    for p in [SMALL, middle, WIDE, GATE, *OUTSIDE]:
-        yield count_case(p, named(p[:3]))
-    numbered = [(SMALL, 0), (SMALL, 5), (SMALL, 7), (middle, 0x123456789), (WIDE, 0), (WIDE, 1)]
-    numbered += [(GATE, n) for n in (0, GATE_COUNT - 1, GATE_COUNT, (1 << 128) - 1)]
-    for p, n in numbered + [(p, 0) for p in OUTSIDE]:
-        yield from round_trip(p, n)
+# One operation each, or two, of which the second is given what the first left.
 
 
-def count_case(p, label):
+def count_case(p, told_of=3):
+    """So many numbers of the profile are in the label, here and below. Three words and three bytes
+    more than needed are lent."""
     table = table_of(p, 3)
     outcome, count, filled = zarosnik.count(*p[:3], table)
     told = f"outcome {outcome}, {number_told(count)}"
-    return case("count", label, words(p), told, Slices(table), Slices(filled))
+    return case("count", named(p[:told_of]), words(p), told, Slices(table), Slices(filled))
 
 
-def round_trip(p, n, numbers=3):
-    """Spread, and Gather of the row that it left. So many numbers of the profile are told."""
-    shown = p[:numbers]
-    table, row = table_of(p, 3), stale_bytes(min(p.l, 41) + 3)
-    outcome, written, filled = zarosnik.spread(*p[:3], n, table, row)
-    taken = words([*p, *number_words(n)])
-    before, after = Slices(table, row), Slices(filled, written)
-    yield case("spread", named(shown, f", number {n}"), taken, f"outcome {outcome}", before, after)
-    row = written[:-3]
+def round_trip(p, n, told_of=3):
+    """Spread, and Gather of the row that it left."""
+    label, table, row = named(p[:told_of]), table_of(p, 3), stale_bytes(min(p.l, 41) + 3)
+    outcome, left, filled = zarosnik.spread(*p[:3], n, table, row)
+    taken, slices = words([*p, *number_words(n)]), (Slices(table, row), Slices(filled, left))
+    yield case("spread", f"{label}, number {n}", taken, f"outcome {outcome}", *slices)
+    row = left[:-3]
     outcome, number, filled = zarosnik.gather(*p[:3], row, table)
     told = f"outcome {outcome}, {number_told(number)}"
-    yield case("gather", named(shown), words(p), told, Slices(table, row), Slices(filled, row))
-
-
-def key_cases():
-    """Leaf key and Root. FIPS 205's WOTS+ keys of SLH-DSA-SHA2-128 in layer 0, tree 0 are those of
-    l = 35 and w = 16."""
-    fips = Profile(35, 16, 262, 2, 1)
-    leaves = [(SMALL, 0), (SMALL, 3), (SMALL, 4), (fips, 3), (WIDE, 1), (GATE, 1023), (SMALL, MASK)]
-    for p, leaf in leaves + [(p, 0) for p in OUTSIDE + OUTSIDE_HEIGHT]:
-        yield leaf_key_case(p, leaf)
-    for p in [SMALL, FLAT, WIDE, Profile(4, 2, 2, 10, 1), *OUTSIDE, *OUTSIDE_HEIGHT]:
-        yield root_case(p)
+    yield case("gather", label, words(p), told, Slices(table, row), Slices(filled, row))
 
 
 def leaf_key_case(p, leaf):
     outcome, key = signatures.leaf_key(p, SEED, SECRET, leaf)
-    taken = words(p) + SEED + SECRET + word(leaf)
-    told = f"outcome {outcome}, key {key.hex()}"
+    taken, told = words(p) + SEED + SECRET + word(leaf), f"outcome {outcome}, key {key.hex()}"
     return case("leaf key", named(p, f", leaf {leaf}"), taken, told)
 
 
@@ -373,28 +257,18 @@ def root_case(p):
     return case("root", named(p), words(p) + SEED + SECRET, told)
 
 
-def value_cases():
-    """Reveal, and Recover from what it left; l = 40, w = 16, s = 0 makes 600 steps."""
-    shown = [(SMALL, 3, 5), (SMALL, 4, 5), (SMALL, 0, 7), (WIDE, 1, 0), (GATE, 682, (1 << 128) - 1)]
-    for p, leaf, n in shown + [(p, 0, 0) for p in OUTSIDE + OUTSIDE_HEIGHT]:
-        yield from shown_values(p, leaf, n, table_of(p), 16 * min(p.l, 41))
-
-
-def shown_values(p, leaf, n, table, size):
-    values = stale_bytes(size)
+def shown_values(p, leaf, n, table=None, size=None):
+    """Reveal, and Recover from what it left."""
+    table = table_of(p) if table is None else table
+    values, label = stale_bytes(size or 16 * min(p.l, 41)), named(p, f", leaf {leaf}, number {n}")
     outcome, left, filled = signatures.reveal(p, SEED, SECRET, leaf, n, table, values)
-    label = named(p, f", leaf {leaf}, number {n}")
-    place = words([leaf, *number_words(n)])
+    place, slices = words([leaf, *number_words(n)]), (Slices(table, values), Slices(filled, left))
     taken = words(p) + SEED + SECRET + place
-    before, after = Slices(table, values), Slices(filled, left)
-    yield case("reveal", label, taken, f"outcome {outcome}", before, after)
+    yield case("reveal", label, taken, f"outcome {outcome}", *slices)
     outcome, key, steps, filled = signatures.recover(p, SEED, leaf, n, left, table)
     told = f"outcome {outcome}, key {key.hex()}, steps {steps}"
-    before, after = Slices(table, left), Slices(filled, left)
-    yield case("recover", label, words(p) + SEED + place, told, before, after)
-
-
-TEXT = b"Gate 7: open 40 cm from 06:15 to 09:30 on 12 March.\n"
+    slices = Slices(table, left), Slices(filled, left)
+    yield case("recover", label, words(p) + SEED + place, told, *slices)
 
 
 # The steps of a desk, by the program's numbers.
@@ -402,78 +276,79 @@ RESERVE, SIGN, RESTART = range(3)
 TWO_ORDERS = [RESERVE, SIGN] * 2
 
 
-def stepped(step, key, text, table, lent):
-    """What a step tells, the key that it hands back, the output slice, the work slice."""
-    if step == RESERVE:
-        outcome, key = signatures.reserve(key)
-        told = f"reserve: outcome {outcome}"
-    elif step == SIGN:
-        outcome, key, lent, table = signatures.sign(key, R, text, table, lent)
-        told = f"sign: outcome {outcome}"
-    else:
-        key = signatures.restarted(key)
-        told = "restart"
-    return f"{told}, next {key.next}, mark {key.mark}", key, lent, table
-
-
-def orders_case(key, size, steps=TWO_ORDERS, text=TEXT, words_lent=None):
+def orders_case(key, size, steps=TWO_ORDERS, text=TEXT, table=None):
     """Each step has the key that the one before handed back. An order goes into the slice, and with
     a refusal the one before it stays there."""
     p, lent, told = key.profile, stale_bytes(size), []
-    table = table_of(p) if words_lent is None else stale_words(words_lent)
-    before = Slices(table, lent, text)
-    label = named(p, f", next {key.next}, mark {key.mark}")
+    table = table_of(p) if table is None else table
+    label, before = named(p, f", next {key.next}, mark {key.mark}"), Slices(table, lent, text)
     taken = words(p) + key.seed + key.secret + words([key.next, key.mark]) + R
     for step in steps:
-        one, key, lent, table = stepped(step, key, text, table, lent)
-        told.append(one)
+        if step == RESERVE:
+            outcome, key = signatures.reserve(key)
+        elif step == SIGN:
+            outcome, key, lent, table = signatures.sign(key, R, text, table, lent)
+        else:
+            key = signatures.restarted(key)
+        name = [f"reserve: outcome {outcome}", f"sign: outcome {outcome}", "restart"][step]
+        told.append(f"{name}, next {key.next}, mark {key.mark}")
     taken += words([len(steps), *steps])
     return case("orders", label, taken, ": ".join(told), before, Slices(table, lent, text))
 
 
-def outcomes(line):
-    return [int(number) for number in re.findall(r": outcome (\d+)", line)]
-
-
 def signed(p, leaf):
-    key, out = signatures.reserved_key(p, SEED, SECRET, leaf), stale_bytes(signature_length(p))
-    return signatures.sign(key, R, TEXT, table_of(p), out)[2]
+    """What would be accepted if its count were taken, where this is too small."""
+    number = signatures.message_number(p, R, SEED, root_of(p, SEED, SECRET), leaf, TEXT)
+    return signatures.signature_of(p, SEED, SECRET, leaf, R, number)
 
 
-def check_case(cabinet, signature, text, change="", words_lent=None):
+def cabinet_of(p, highest=0, marks=0):
+    return Verifier(p, SEED, root_of(p, SEED, SECRET), highest, marks)
+
+
+def check_case(cabinet, signature, change="", text=TEXT, table=None):
     """Two checks, the second by the cabinet that the first handed back."""
-    p, told = cabinet.profile, []
-    table = table_of(p) if words_lent is None else stale_words(words_lent)
-    before = Slices(table, signature, text)
-    window = cabinet.highest, cabinet.marks
-    label = named(p, ", highest {}, marks {}{}".format(*window, change))
-    taken = words(p) + cabinet.seed + cabinet.root + words(window)
+    p, told, window = cabinet.profile, [], "highest {0.highest}, marks {0.marks}"
+    table = table_of(p) if table is None else table
+    label, before = named(p, f", {window.format(cabinet)}{change}"), Slices(table, signature, text)
+    taken = words(p) + cabinet.seed + cabinet.root + words([cabinet.highest, cabinet.marks])
     for _ in range(2):
         outcome, cabinet, steps, table = signatures.check(cabinet, text, signature, table)
-        window = f"highest {cabinet.highest}, marks {cabinet.marks}"
-        told.append(f"outcome {outcome}, {window}, steps {steps}")
+        told.append(f"outcome {outcome}, {window.format(cabinet)}, steps {steps}")
     return case("check", label, taken, ": ".join(told), before, Slices(table, signature, text))
 
 
-def flat_cases(p):
-    """h = 0: one order, then 12 from Reserve; the order accepted, then passed; and another text."""
-    key, size = signatures.fresh_key(p, SEED, SECRET), signature_length(p)
-    yield orders_case(key, size + 3)
-    signature = signed(p, 0)
-    cabinet = Verifier(p, SEED, signatures.root_of(p, SEED, SECRET), 0, 0)
-    yield check_case(cabinet, signature, TEXT)
-    yield check_case(cabinet, signature, TEXT[:-1], ", another text")
+def sheet_case(p, sheet, size, room=200, change=""):
+    before = Slices([], stale_bytes(size), stale_bytes(room))
+    outcome, wrong, length, *left = read_sheet(p, sheet, before.lent, before.text)
+    told, taken = f"outcome {outcome}, line {wrong}, length {length}", word(len(sheet)) + sheet
+    return case("sheet", named(p, change), taken + words(p), told, before, Slices([], *left))
 
 
-def scant_cases(p, leaf):
-    """19, for an order that would be accepted if its count were taken, and 20 before it."""
-    key, size = SigningKey(p, SEED, SECRET, leaf, 0), signature_length(p) + 3
-    yield orders_case(key, size)
-    yield orders_case(key, size, [SIGN])
-    root = signatures.root_of(p, SEED, SECRET)
-    number = signatures.message_number(p, R, SEED, root, leaf, TEXT)
-    signature = signatures.signature_of(p, SEED, SECRET, leaf, R, number)
-    yield check_case(Verifier(p, SEED, root, leaf, 2), signature, TEXT)
+# What the document has, and more of its kind.
+
+
+def code_cases():
+    """Count, Spread and Gather."""
+    middle, count = Profile(17, 5, 30, 0, 1), signatures.count_of(GATE)
+    yield from map(count_case, [SMALL, middle, WIDE, GATE, *OUTSIDE_SHAPE])
+    numbered = [(SMALL, 0), (SMALL, 5), (SMALL, 7), (middle, 0x123456789), (WIDE, 0), (WIDE, 1)]
+    numbered += [(GATE, n) for n in (0, count - 1, count, (1 << 128) - 1)]
+    for p, n in numbered + [(p, 0) for p in OUTSIDE_SHAPE]:
+        yield from round_trip(p, n)
+
+
+def key_cases():
+    """Leaf key and Root; Reveal and Recover. FIPS 205's WOTS+ keys of SLH-DSA-SHA2-128 in layer 0,
+    tree 0 are those of l = 35 and w = 16; l = 40, w = 16, s = 0 makes 600 steps."""
+    fips = Profile(35, 16, 262, 2, 1)
+    leaves = [(SMALL, 0), (SMALL, 3), (SMALL, 4), (fips, 3), (WIDE, 1), (GATE, 1023), (SMALL, MASK)]
+    for p, leaf in leaves + [(p, 0) for p in OUTSIDE]:
+        yield leaf_key_case(p, leaf)
+    yield from map(root_case, [SMALL, FLAT, WIDE, Profile(4, 2, 2, 10, 1), *OUTSIDE])
+    shown = [(SMALL, 3, 5), (SMALL, 4, 5), (SMALL, 0, 7), (WIDE, 1, 0), (GATE, 682, (1 << 128) - 1)]
+    for given in shown + [(p, 0, 0) for p in OUTSIDE]:
+        yield from shown_values(*given)
 
 
 # Next leaf and mark of a key with two leaves, and steps, each with the outcome that the document
@@ -493,36 +368,22 @@ COUNTERS = [
 ]
 
 
-def counter_cases(p):
-    for next_leaf, mark, wanted in COUNTERS:
-        key, steps = SigningKey(p, SEED, SECRET, next_leaf, mark), [step for step, _ in wanted]
-        given, line = orders_case(key, signature_length(p), steps)
-        if outcomes(line) != [outcome for _, outcome in wanted if outcome is not None]:
-            sys.exit(f"not answered so: {line}")
-        yield given, line
-
-
-def order_cases():
-    """Reserve, Sign and Check."""
-    tall = GATE._replace(h=3)
-    size = signature_length(tall)
-    for p in [FLAT, FEWEST_BITS, NEARLY_ALL_BITS]:
-        yield from flat_cases(p)
-    yield from scant_cases(NEARLY_SIGNING, 1)
-    yield from counter_cases(FEWEST_BITS._replace(h=1))
-    yield orders_case(SigningKey(tall, SEED, SECRET, 5, 0), size)
-    for p in [SMALL, *OUTSIDE, *OUTSIDE_HEIGHT]:
-        yield orders_case(signatures.fresh_key(p, SEED, SECRET), 100)
-    signature = signed(tall, 5)
-    # it has accepted the leaves 0 and 2
-    cabinet = Verifier(tall, SEED, signatures.root_of(tall, SEED, SECRET), 2, 5)
-    yield check_case(cabinet, signature, TEXT)
-    yield check_case(cabinet, signature, TEXT[:-1], ", another text")
-    changed = signature[:20] + bytes([signature[20] ^ 1]) + signature[21:]
-    yield check_case(cabinet, changed, TEXT, ", another value")
-    for p in [SMALL, *OUTSIDE, *OUTSIDE_HEIGHT]:
-        yield check_case(Verifier(p, SEED, bytes(16), 0, 0), bytes(100), TEXT)
-    yield from window_cases()
+def document_orders(edition):
+    for p in [q._replace(edition=edition) for q in (FLAT, FEWEST_BITS, NEARLY_ALL_BITS)]:
+        # one order, then 12 from Reserve; the order accepted, then passed; and another text
+        yield orders_case(fresh_key(p, SEED, SECRET), signature_length(p) + 3)
+        yield check_case(cabinet_of(p), signed(p, 0))
+        yield check_case(cabinet_of(p), signed(p, 0), ", another text", TEXT[:-1])
+    # 19, and 20 before it
+    p = NEARLY_SIGNING._replace(edition=edition)
+    for steps in (TWO_ORDERS, [SIGN]):
+        yield orders_case(SigningKey(p, SEED, SECRET, 1, 0), signature_length(p) + 3, steps)
+    yield check_case(cabinet_of(p, 1, 2), signed(p, 1))
+    p = FEWEST_BITS._replace(h=1, edition=edition)
+    for *counter, answers in COUNTERS:
+        steps = [step for step, _ in answers]
+        made = orders_case(SigningKey(p, SEED, SECRET, *counter), signature_length(p), steps)
+        yield from held([outcome for step, outcome in answers if step != RESTART], made)
 
 
 # The highest leaf and the marks of cabinets, by the leaf that they are given. The leaf 40: with no
@@ -539,173 +400,50 @@ WINDOWS = {
 }
 
 
-def window_cases():
-    """Check by cabinets that have accepted leaves, at a profile with few steps. The labels are told
-    apart by the leaf, too."""
-    p = FEWEST_BITS._replace(h=6)
-    root = signatures.root_of(p, SEED, SECRET)
+def window_cases(edition, leaf, windows, change="", text=TEXT):
+    """At a profile with few steps."""
+    p = FEWEST_BITS._replace(h=6, edition=edition)
+    for window in windows:
+        yield check_case(cabinet_of(p, *window), signed(p, leaf), f", leaf {leaf}{change}", text)
+
+
+def order_cases():
+    """Reserve, Sign and Check."""
+    yield from document_orders(1)
+    yield orders_case(SigningKey(TALL, SEED, SECRET, 5, 0), signature_length(TALL))
+    for p in [SMALL, *OUTSIDE]:
+        yield orders_case(fresh_key(p, SEED, SECRET), 100)
+    # it has accepted the leaves 0 and 2
+    cabinet, signature = cabinet_of(TALL, 2, 5), signed(TALL, 5)
+    yield check_case(cabinet, signature)
+    yield check_case(cabinet, signature, ", another text", TEXT[:-1])
+    yield check_case(cabinet, flipped(signature, 20), ", another value")
+    for p in [SMALL, *OUTSIDE]:
+        yield check_case(Verifier(p, SEED, bytes(16), 0, 0), bytes(100))
     for leaf, windows in WINDOWS.items():
-        number = signatures.message_number(p, R, SEED, root, leaf, TEXT)
-        signature = signatures.signature_of(p, SEED, SECRET, leaf, R, number)
-        for window in windows:
-            cabinet = Verifier(p, SEED, root, *window)
-            yield check_case(cabinet, signature, TEXT, f", leaf {leaf}")
-        for window in windows[::4]:
-            cabinet = Verifier(p, SEED, root, *window)
-            yield check_case(cabinet, signature, TEXT[:-1], f", leaf {leaf}, another text")
+        yield from window_cases(1, leaf, windows)
+        yield from window_cases(1, leaf, windows[::4], ", another text", TEXT[:-1])
 
 
-def sheet_case(p, sheet, size, room, change=""):
-    before = Slices([], stale_bytes(size), stale_bytes(room))
-    outcome, wrong, length, lent, text = read_sheet(p, sheet, before.lent, before.text)
-    told = f"outcome {outcome}, line {wrong}, length {length}"
-    after = Slices([], lent, text)
-    taken = word(len(sheet)) + sheet + words(p)
-    return case("sheet", named(p, change), taken, told, before, after)
-
-
-SHEET = Profile(2, 3, 2, 1, 1)
+def long_sheet(p):
+    size = signature_length(p)
+    return sheet_case(p, right_sheet(p, message(size), message(200)), size)
 
 
 def sheet_cases():
-    p, long = SHEET, signature_length(GATE)
-    size = signature_length(p)
-    right = right_sheet(p, message(size), TEXT)
-    yield sheet_case(p, right, size + 3, len(TEXT) + 3)
-    yield sheet_case(p, right[:-1], size, 200, ", the last ending missing")
-    yield sheet_case(p, right + b"0", size, 200, ", more behind it")
-    yield sheet_case(p, right[:60] + right[60:].lower(), size, 200, ", lower case")
-    yield sheet_case(p, right, size - 1, 200, ", a short slice")
-    yield sheet_case(p, right, size, len(TEXT) - 1, ", a short text slice")
-    yield sheet_case(GATE, right_sheet(GATE, message(long), message(200)), long, 200)
-    for other in OUTSIDE + OUTSIDE_HEIGHT:
-        yield sheet_case(other, right, size, 200)
-
-
-# Editions.
-
-
-def fresh_cabinet(p):
-    return Verifier(p, SEED, signatures.root_of(p, SEED, SECRET), 0, 0)
-
-
-def answered(outcome, made):
-    """The cases, each of which must be answered so by the document: of a desk all steps, and of a
-    cabinet, which then has passed the leaf, the first check."""
-    for given, line in made:
-        found = outcomes(line)
-        if set(found if line.startswith("orders ") else found[:1]) != {outcome}:
-            sys.exit(f"not answered by {outcome}: {line}")
-        yield given, line
-
-
-def code_at(p):
-    yield count_case(p, named(p))
-    yield from round_trip(p, 5, len(p))
-
-
-def all_right_at(edition):
-    """The operations that a profile's edition is for. Where it is none, the order and the sheet are
-    those of edition 1."""
-    right = edition if edition in EDITIONS else 1
-    p, order, sheet = (
-        q._replace(edition=edition) for q in (SMALL, FEWEST_BITS._replace(h=1), SHEET)
-    )
-    yield leaf_key_case(p, 3)
-    yield root_case(p)
-    yield from shown_values(p, 3, 5, table_of(p), 16 * p.l)
-    yield orders_case(signatures.fresh_key(order, SEED, SECRET), signature_length(order))
-    signature = signed(order._replace(edition=right), 1)
-    yield check_case(fresh_cabinet(order), signature, TEXT, ", leaf 1")
-    size = signature_length(sheet)
-    shown = right_sheet(sheet._replace(edition=right), message(size), TEXT)
-    yield sheet_case(sheet, shown, size, 200, ", a right sheet")
-
-
-def all_wrong_at(p):
-    """The same with everything wrong that is tested behind the profile."""
-    yield leaf_key_case(p, MASK)
-    yield root_case(p)
-    yield from shown_values(p, MASK, (1 << 160) - 1, [], 3)
-    yield orders_case(SigningKey(p, SEED, SECRET, MASK, 1), 3, TWO_ORDERS, b"", 3)
-    yield check_case(Verifier(p, SEED, R, MASK, MASK), b"\xff" * 5, b"", "", 3)
-    yield sheet_case(p, b"474F31", 3, 3, ", no right line")
-
-
-def any_edition_cases():
-    """Count, Spread and Gather know no edition. Where it is neither of the two, 22 goes before all
-    that is tested later, and behind 4 and 3."""
-    for edition in TRIED_EDITIONS:
-        yield from answered(0, code_at(SMALL._replace(edition=edition)))
-        refused = 0 if edition in EDITIONS else 22
-        yield from answered(refused, all_right_at(edition))
-    for edition in (0, MASK):
-        yield from answered(22, all_wrong_at(SMALL._replace(edition=edition)))
-    yield from answered(4, all_wrong_at(SMALL._replace(h=11, edition=3)))
-    yield from answered(3, all_wrong_at(SMALL._replace(s=7, h=11, edition=3)))
-
-
-def second_edition_cases():
-    """The document's trial values for orders, and the window, in edition 2. Only the digest is
-    another: keys, roots and values are those of edition 1."""
-    for p in [FLAT, FEWEST_BITS, NEARLY_ALL_BITS]:
-        yield from flat_cases(p._replace(edition=2))
-    yield from scant_cases(NEARLY_SIGNING._replace(edition=2), 1)
-    yield from counter_cases(FEWEST_BITS._replace(h=1, edition=2))
-    p = WIDE._replace(edition=2)
-    yield from shown_values(p, 1, 0, table_of(p), 16 * p.l)
-    yield leaf_key_case(GATE._replace(edition=2), 1023)
-    yield root_case(FLAT._replace(edition=2))
-    p = FEWEST_BITS._replace(h=6, edition=2)
-    for window in WINDOWS[40][::3]:
-        cabinet = fresh_cabinet(p)._replace(highest=window[0], marks=window[1])
-        yield check_case(cabinet, signed(p, 40), TEXT, ", leaf 40")
-
-
-# A leaf of two bytes that differ: their order in the digest shows. Numbers have 16 bits.
-TWO_BYTES = 0x0203
-TALLEST = Profile(10, 4, 15, 10, 1)
-
-
-def crossed_cases():
-    """An order of one edition is judged by a cabinet of the other by that one's digest alone, which
-    leads to another root. Its own edition takes it."""
-    for p, leaf in [(GATE._replace(h=3), 5), (TALLEST, TWO_BYTES)]:
-        both = [p._replace(edition=edition) for edition in EDITIONS]
-        for own, other in (both, both[::-1]):
-            change = f", edition {own.edition}'s order"
-            crossed = check_case(fresh_cabinet(other), signed(own, leaf), TEXT, change)
-            yield from answered(15, [crossed])
-        second = both[1]
-        order = [
-            orders_case(SigningKey(second, SEED, SECRET, leaf, 0), signature_length(second)),
-            check_case(fresh_cabinet(second), signed(second, leaf), TEXT, f", leaf {leaf}"),
-        ]
-        yield from answered(0, order)
-
-
-# What may stand behind s in frame 01: digits, two a byte.
-LAST = ["", "00", "01", "02", "03", "82", "0202", "0200", "0002", "2"]
-
-
-def edition_sheet_cases():
-    """Frame 01 ends with 02 in edition 2, and with nothing in edition 1."""
-    size = signature_length(SHEET)
-    sheet = right_sheet(SHEET, message(size), TEXT)
-    for edition, last in itertools.product(EDITIONS, LAST):
-        p, change = SHEET._replace(edition=edition), f", frame 01 ends with {last or 'no byte'}"
-        shown = sheet_case(p, editions.with_last(p, sheet, last), size, 200, change)
-        yield from answered(17 if editions.line_to(edition, last) else 0, [shown])
-    p = GATE._replace(edition=2)
-    size = signature_length(p)
-    yield sheet_case(p, right_sheet(p, message(size), message(200)), size, 200)
-
-
-def edition_cases():
-    yield from any_edition_cases()
-    yield from second_edition_cases()
-    yield from crossed_cases()
-    yield from edition_sheet_cases()
+    size, room = signature_length(SHEET), len(TEXT)
+    right = right_sheet(SHEET, message(size), TEXT)
+    for sheet, *given in [
+        (right, size + 3, room + 3),
+        (right[:-1], size, 200, ", the last ending missing"),
+        (right + b"0", size, 200, ", more behind it"),
+        (right[:60] + right[60:].lower(), size, 200, ", lower case"),
+        (right, size - 1, 200, ", a short slice"),
+        (right, size, room - 1, ", a short text slice"),
+    ]:
+        yield sheet_case(SHEET, sheet, *given)
+    yield long_sheet(GATE)
+    yield from (sheet_case(other, right, size) for other in OUTSIDE)
 
 
 def bits_case(label, counts):
@@ -715,78 +453,120 @@ def bits_case(label, counts):
     return case("bits", label, taken, " ".join(told))
 
 
-# Every bit set, in the second half alone, and of both kinds.
-DIGESTS = [b"\xff" * 32, bytes(16) + b"\xff" * 16, hashlib.sha256(b"abc").digest()]
-# So many powers, and so many of the 129 numbers of bits, in a line.
-POWERS_TOLD = 8
-BITS_TOLD = 43
-
-
 def bits_cases():
     """Counts up to the ends of five words, most of which no profile has, and numbers of 0 to 128
     bits. No shape has a count of 0, which has no power of two below it; it is told as 0 bits."""
-    wrong = zarosnik.wrong_bits()
-    if wrong is not None:
-        sys.exit(f"the bits of zarosnik.py are wrong for {wrong}")
     yield bits_case("of 0", [0])
     yield bits_case("of 1, 255, 256, 257, 2^160 - 1", [1, 255, 256, 257, (1 << 160) - 1])
-    for low in range(0, 160, POWERS_TOLD):
-        powers = range(low, low + POWERS_TOLD)
-        label = f"of 2^k - 1, 2^k, 2^k + 1, k {low} to {powers[-1]}"
-        yield bits_case(label, around_powers(powers))
-    for digest, low in itertools.product(DIGESTS, range(0, MOST_BITS + 1, BITS_TOLD)):
-        numbers = [first_bits(digest, bits) for bits in range(low, low + BITS_TOLD)]
-        told = ", ".join([f"from {low}", *map(number_told, numbers)])
-        taken = digest + words([low, BITS_TOLD])
-        yield case("first bits", f"of {digest.hex()}", taken, told)
+    for low in range(0, 160, 8):
+        label = f"of 2^k - 1, 2^k, 2^k + 1, k {low} to {low + 7}"
+        yield bits_case(label, around_powers(range(low, low + 8)))
+    # every bit set, in the second half alone, and of both kinds; the 129 numbers in three lines
+    digests = [b"\xff" * 32, bytes(16) + b"\xff" * 16, hashlib.sha256(b"abc").digest()]
+    for digest, low in itertools.product(digests, range(0, MOST_BITS + 1, 43)):
+        numbers = [number_told(first_bits(digest, bits)) for bits in range(low, low + 43)]
+        told = ", ".join([f"from {low}", *numbers])
+        yield case("first bits", f"of {digest.hex()}", digest + words([low, 43]), told)
 
 
-def cases():
-    hold_to_hashlib()
-    groups = [hash_cases, code_cases, key_cases, value_cases, order_cases, sheet_cases, bits_cases]
-    for group in [*groups, edition_cases]:
-        yield from group()
+# Editions.
 
 
-def files():
-    """The files, by name."""
-    all_cases = list(cases())
-    given = b"".join(given for given, _ in all_cases)
-    wanted = "".join(line + "\n" for _, line in all_cases)
-    return {"stdin": word(len(all_cases)) + given, "stdout": wanted.encode("ascii")}
+def all_right_at(edition):
+    """The operations that a profile's edition is for. Where it is none, the order and the sheet are
+    those of edition 1."""
+    right = edition if edition in EDITIONS else 1
+    profiles = SMALL, FEWEST_BITS._replace(h=1), SHEET
+    p, order, sheet = (q._replace(edition=edition) for q in profiles)
+    yield leaf_key_case(p, 3)
+    yield root_case(p)
+    yield from shown_values(p, 3, 5)
+    yield orders_case(fresh_key(order, SEED, SECRET), signature_length(order))
+    yield check_case(cabinet_of(order), signed(order._replace(edition=right), 1), ", leaf 1")
+    size = signature_length(sheet)
+    shown = right_sheet(sheet._replace(edition=right), message(size), TEXT)
+    yield sheet_case(sheet, shown, size, 200, ", a right sheet")
 
 
-def same(path, expected):
-    """Whether the file is the expected one; where it is not, says which line differs first."""
-    with open(path, "rb") as file:
-        found = file.read()
-    if found == expected:
-        return True
-    print(f"{path}: {len(found)} bytes, and {len(expected)} are expected", file=sys.stderr)
-    pairs = zip(expected.splitlines(), found.splitlines())
-    for at, (wanted, got) in enumerate(pairs, 1):
-        if wanted != got:
-            print(f"line {at}: expected {wanted!r}\nfound {got!r}", file=sys.stderr)
-            break
-    return False
+def all_wrong_at(p):
+    """The same with everything wrong that is tested behind the profile."""
+    short = stale_words(3)
+    yield leaf_key_case(p, MASK)
+    yield root_case(p)
+    yield from shown_values(p, MASK, (1 << 160) - 1, [], 3)
+    yield orders_case(SigningKey(p, SEED, SECRET, MASK, 1), 3, TWO_ORDERS, b"", short)
+    yield check_case(Verifier(p, SEED, R, MASK, MASK), b"\xff" * 5, "", b"", short)
+    yield sheet_case(p, b"474F31", 3, 3, ", no right line")
 
 
-def main(arguments):
-    script, *rest = arguments
-    checks = rest[:1] == ["--check"]
-    if len(rest) != 1 + checks:
-        print(f"usage: {os.path.basename(script)} [--check] DIR", file=sys.stderr)
-        return 2
-    wrong = 0
-    for name, content in files().items():
-        path = os.path.join(rest[-1], name)
-        if not checks:
-            with open(path, "wb") as file:
-                file.write(content)
-        elif not same(path, content):
-            wrong = 1
-    return wrong
+def any_edition_cases():
+    """Count, Spread and Gather know no edition. Where it is neither of the two, 22 goes before all
+    that is tested later, and behind 4 and 3. One would be edition 2 if it were cut."""
+    for edition in (0, 1, 2, 3, 256 + 2, MASK):
+        p = SMALL._replace(edition=edition)
+        yield from held([0], count_case(p, 5), *round_trip(p, 5, 5))
+        yield from held([editions.answer_to(edition)], *all_right_at(edition))
+    for edition in (0, MASK):
+        yield from held([22], *all_wrong_at(SMALL._replace(edition=edition)))
+    yield from held([4], *all_wrong_at(SMALL._replace(h=11, edition=3)))
+    yield from held([3], *all_wrong_at(SMALL._replace(s=7, h=11, edition=3)))
+
+
+def second_edition_cases():
+    """The document's trial values for orders, and the window, in edition 2. Only the digest is
+    another: keys, roots and values are those of edition 1."""
+    yield from document_orders(2)
+    yield from shown_values(WIDE._replace(edition=2), 1, 0)
+    yield leaf_key_case(GATE._replace(edition=2), 1023)
+    yield root_case(FLAT._replace(edition=2))
+    yield from window_cases(2, 40, WINDOWS[40][::3])
+
+
+def crossed_cases():
+    """An order of one edition is judged by a cabinet of the other by that one's digest alone, which
+    leads to another root. Its own edition takes it. Where a leaf has two bytes that differ, their
+    order in the digest shows; numbers have 16 bits there."""
+    for p, leaf in [(TALL, 5), (Profile(10, 4, 15, 10, 1), 0x0203)]:
+        both = [p._replace(edition=edition) for edition in EDITIONS]
+        for own, other in (both, both[::-1]):
+            change = f", edition {own.edition}'s order"
+            yield from held([15], check_case(cabinet_of(other), signed(own, leaf), change))
+        key, size = SigningKey(both[1], SEED, SECRET, leaf, 0), signature_length(p)
+        check = check_case(cabinet_of(both[1]), signed(both[1], leaf), f", leaf {leaf}")
+        yield from held([0], orders_case(key, size), check)
+
+
+def edition_sheet_cases():
+    """Frame 01 ends with 02 in edition 2, and with nothing in edition 1."""
+    size = signature_length(SHEET)
+    sheet = right_sheet(SHEET, message(size), TEXT)
+    lasts = ["", "00", "01", "02", "03", "82", "0202", "0200", "0002", "2"]
+    for edition, last in itertools.product(EDITIONS, lasts):
+        p, change = SHEET._replace(edition=edition), f", frame 01 ends with {last or 'no byte'}"
+        shown = sheet_case(p, editions.with_last(p, sheet, last), size, 200, change)
+        yield from held([17 if editions.line_to(edition, last) else 0], shown)
+    yield long_sheet(GATE._replace(edition=2))
+
+
+GROUPS = [hash_cases, code_cases, key_cases, order_cases, sheet_cases, bits_cases]
+GROUPS += [any_edition_cases, second_edition_cases, crossed_cases, edition_sheet_cases]
+
+
+def main():
+    parser = argparse.ArgumentParser(description="Writes what the program trial reads and writes.")
+    parser.add_argument("--check", action="store_true", help="compare, write nothing")
+    parser.add_argument("folder", type=Path)
+    arguments = parser.parse_args()
+    cases = [made for group in GROUPS for made in group()]
+    stdin = word(len(cases)) + b"".join(given for given, _ in cases)
+    stdout = "".join(f"{line}\n" for _, line in cases).encode("ascii")
+    for name, content in [("stdin", stdin), ("stdout", stdout)]:
+        path = arguments.folder / name
+        if not arguments.check:
+            path.write_bytes(content)
+        elif path.read_bytes() != content:
+            fail(f"{path} is not what is to be written")
 
 
 if __name__ == "__main__":
-    sys.exit(main(sys.argv))
+    main()

@@ -46,15 +46,9 @@ def rows(l, w, s):
 
 
 def refusal(l, w, s):
-    if not 1 <= l <= 40:
-        return 1
-    if not 2 <= w <= 16:
-        return 2
-    if not 0 <= s <= l * (w - 1):
-        return 3
-    if WORK_WORDS < 5 * (l + 1) * (s + 1):
-        return 5
-    return 0
+    causes = {1: not 1 <= l <= 40, 2: not 2 <= w <= 16, 3: not 0 <= s <= l * (w - 1)}
+    causes[5] = WORK_WORDS < 5 * (l + 1) * (s + 1)
+    return next((number for number, holds in causes.items() if holds), 0)
 
 
 def expected(given):
@@ -64,11 +58,10 @@ def expected(given):
     fields = bytes.fromhex(first.decode()) if well_formed else b""
     if fields[:1] != b"\x10":
         return line(b"\x1f\x11")
-    l, w, s = fields[1], fields[2], int.from_bytes(fields[3:], "big")
-    number = refusal(l, w, s)
-    if number:
-        return line(bytes([0x1F, number]))
-    first_rows = itertools.islice(rows(l, w, s), MOST)
+    shape = fields[1], fields[2], int.from_bytes(fields[3:], "big")
+    if refusal(*shape):
+        return line(bytes([0x1F, refusal(*shape)]))
+    first_rows = itertools.islice(rows(*shape), MOST)
     return b"".join(line(b"\x11", n.to_bytes(2, "big"), row) for n, row in enumerate(first_rows))
 
 
@@ -76,25 +69,8 @@ def request(l, w, s):
     return line(bytes([0x10, l, w]), s.to_bytes(2, "big"))
 
 
-def listed_shapes():
-    """Every shape that is granted, with its count."""
-    for l, w in itertools.product(range(1, 41), range(2, 17)):
-        for s in range(l * (w - 1) + 1):
-            if not refusal(l, w, s):
-                yield zarosnik.ways(w, l, s), (l, w, s)
-
-
 EXAMPLE = b"1003030003\n"
-EXAMPLE_LISTING = b"""\
-110000000102
-110001000201
-110002010002
-110003010101
-110004010200
-110005020001
-110006020100
-"""
-
+EXAMPLE_ROWS = [b"000102", b"000201", b"010002", b"010101", b"010200", b"020001", b"020100"]
 REFUSED = [
     *[(l, 3, 3) for l in (0, 41, 255)],
     *[(3, w, 3) for w in (0, 1, 17, 255)],
@@ -104,35 +80,16 @@ REFUSED = [
     # several causes: the first one is told
     *[(0, 0, 65535), (41, 17, 700), (3, 1, 9), (3, 17, 1000), (40, 16, 601)],
 ]
-
 # the largest tables that are taken, and the ends of every limit
 LARGE = [
     *[(39, 16, 79), (40, 16, 77), (33, 16, 93), (40, 2, 40), (40, 2, 0)],
     *[(1, 16, 15), (1, 2, 0), (1, 2, 1)],
 ]
-
 MALFORMED = [
-    b"",
-    b"\n",
-    b"1",
-    b"1003030003",
-    b"100303000\n",
-    b"10030300\n",
-    b"10030300030\n",
-    b"100303000300\n",
-    b"10030300030A\n",
-    b"\n1003030003\n",
-    b" 1003030003\n",
-    b"1003030003 \n",
-    b"1003030003\r\n",
-    b"100303000\r\n",
-    b"1003030003\r",
-    b"1003030003\0\n",
-    b"1f05000000\n",
-    b"100a020005\n",
-    b"100A02000a\n",
-    b"0x03030003\n",
-    b"-003030003\n",
+    *[b"", b"\n", b"1", b"1003030003", b"100303000\n", b"10030300\n", b"10030300030\n"],
+    *[b"100303000300\n", b"10030300030A\n", b"\n1003030003\n", b" 1003030003\n", b"1003030003 \n"],
+    *[b"1003030003\r\n", b"100303000\r\n", b"1003030003\r", b"1003030003\0\n", b"1f05000000\n"],
+    *[b"100a020005\n", b"100A02000a\n", b"0x03030003\n", b"-003030003\n"],
     *[b"%02X03030003\n" % kind for kind in (0x00, 0x01, 0x0F, 0x11, 0x1F, 0x20, 0xFF)],
     # the neighbours of the digits, lower case and endings, at every place
     *[
@@ -141,8 +98,13 @@ MALFORMED = [
         for c in b"/:@G`ag\x00\x0a\x0d\x8a\xff"
     ],
 ]
-
 BEHIND = [b"\n", b"1", b"1004020002\n", b"G", b"\r\n", b"\0\0\0", bytes(range(256)) * 40]
+# What comes byte by byte.
+FED = [
+    *[EXAMPLE, b"10\n", b"\n", b"\n" + EXAMPLE, EXAMPLE + EXAMPLE, EXAMPLE[:-1] + b"1"],
+    *[EXAMPLE[:-1] + b"0\n", b"G" * 40, b"10" * 40 + b"\n", request(3, 3, 7)],
+    *[request(39, 16, 80) + b"\n", request(40, 16, 77), b"", b"1", EXAMPLE[:-1]],
+]
 
 
 def cases():
@@ -154,12 +116,14 @@ def cases():
     # all small shapes
     for l, w in itertools.product(range(1, 6), range(2, 6)):
         yield from (request(l, w, s) for s in range(l * (w - 1) + 2))
-    # the counts nearest to 256: all rows are listed, and only the first of them
-    counted = list(listed_shapes())
-    yield request(*max(pair for pair in counted if pair[0] <= MOST)[1])
-    yield request(*min(pair for pair in counted if MOST < pair[0])[1])
+    # of every shape that is granted, the counts nearest to 256: all rows are listed, and only the
+    # first of them
+    shapes = itertools.product(range(1, 41), range(2, 17), range(601))
+    granted = [(zarosnik.ways(w, l, s), (l, w, s)) for l, w, s in shapes if not refusal(l, w, s)]
+    yield request(*max(pair for pair in granted if pair[0] <= MOST)[1])
+    yield request(*min(pair for pair in granted if MOST < pair[0])[1])
     pick = random.Random(1)
-    yield from (request(*pick.choice(counted)[1]) for _ in range(200))
+    yield from (request(*pick.choice(granted)[1]) for _ in range(200))
     for _ in range(200):
         yield request(pick.randrange(256), pick.randrange(20), pick.randrange(1000))
     for _ in range(200):
@@ -172,99 +136,59 @@ def line_in(given):
     return (first + ending)[:LINE]
 
 
-class Fed:
-    """The program, given its input byte by byte through a pipe that stays open."""
+def started(stdin):
+    pipes = {"stdout": subprocess.PIPE, "stderr": subprocess.PIPE}
+    return subprocess.Popen([PROGRAM], stdin=stdin, **pipes)
 
-    def __init__(self, given):
-        self.reading, self.writing = os.pipe()
-        pipes = {"stdin": self.reading, "stdout": subprocess.PIPE, "stderr": subprocess.PIPE}
-        self.process = subprocess.Popen([PROGRAM], **pipes)
-        for byte in given:
-            os.write(self.writing, bytes([byte]))
-            time.sleep(PAUSE_SECONDS / len(given))
 
-    def waits(self):
-        """Whether it goes on reading."""
+def answer_of(process, given=None):
+    """What the program writes, or how it fails."""
+    try:
+        wrote, said = process.communicate(given, timeout=ANSWER_SECONDS)
+    except subprocess.TimeoutExpired:
+        process.kill()
+        process.communicate()
+        return b"no answer"
+    failed = said or process.returncode
+    return b"status %d, %s" % (process.returncode, said) if failed else wrote
+
+
+def fed(given):
+    """What the program writes when its input comes byte by byte, and what it leaves in the pipe.
+    Where the input has no whole line, it must wait for more, and answer when the input ends."""
+    reading, writing = os.pipe()
+    process, early = started(reading), False
+    for byte in given:
+        os.write(writing, bytes([byte]))
+        time.sleep(PAUSE_SECONDS / len(given))
+    has_line = b"\n" in line_in(given) or len(line_in(given)) == LINE
+    if not has_line:
         time.sleep(PAUSE_SECONDS)
-        return self.process.poll() is None
-
-    def answer(self):
-        """What it writes, or nothing where it does not end, and what it leaves in the pipe."""
-        try:
-            wrote, said = self.process.communicate(timeout=ANSWER_SECONDS)
-        except subprocess.TimeoutExpired:
-            self.process.kill()
-            wrote, said = b"no answer", self.process.communicate()[1]
-        if said or self.process.returncode:
-            wrote = b"status %d, %s" % (self.process.returncode, said)
-        return wrote, self.unread()
-
-    def unread(self):
-        os.set_blocking(self.reading, False)
-        try:
-            return os.read(self.reading, 1 << 16)
-        except BlockingIOError:
-            return b""
-
-    def close(self):
-        os.close(self.writing)
-
-
-def fed_answer(given):
-    """What the program does with an input that comes byte by byte. Where the input has no whole
-    line, it must wait for more, and answer when the input ends."""
-    fed = Fed(given)
-    line_read = line_in(given)
-    if not line_read.endswith(b"\n") and len(line_read) < LINE:
-        if not fed.waits():
-            return b"an answer before the line's end", b""
-        fed.close()
-        return fed.answer()
-    answer = fed.answer()
-    fed.close()
-    return answer
-
-
-FED = [
-    EXAMPLE,
-    b"10\n",
-    b"\n",
-    b"\n" + EXAMPLE,
-    EXAMPLE + EXAMPLE,
-    EXAMPLE[:-1] + b"1",
-    EXAMPLE[:-1] + b"0\n",
-    b"G" * 40,
-    b"10" * 40 + b"\n",
-    request(3, 3, 7),
-    request(39, 16, 80) + b"\n",
-    request(40, 16, 77),
-    b"",
-    b"1",
-    EXAMPLE[:-1],
-]
+        early = process.poll() is not None
+        os.close(writing)
+    wrote = answer_of(process)
+    if has_line:
+        os.close(writing)
+    return b"an answer before the line's end" if early else wrote, os.read(reading, 1 << 16)
 
 
 def main():
-    if expected(EXAMPLE) != EXAMPLE_LISTING or any(expected(m) != b"1F11\n" for m in MALFORMED):
+    example = [b"11%04X%s\n" % pair for pair in enumerate(EXAMPLE_ROWS)]
+    if expected(EXAMPLE) != b"".join(example) or any(expected(m) != b"1F11\n" for m in MALFORMED):
         fail("the implementation here does not give the document's values")
     check = ["rt", "check", "listing_main"]
     build = subprocess.run(check, cwd=ROOT, capture_output=True, text=True)
     if build.returncode:
         fail(f"listing_main is not built\n{build.stdout}{build.stderr}")
-    tried = wrong = 0
+    tried = []
     for given in cases():
-        tried += 1
-        run = subprocess.run([PROGRAM], input=given, capture_output=True)
-        if run.stdout != expected(given) or run.returncode or run.stderr:
-            wrong += 1
-            print(f"{given[:40]!r}: wrote {run.stdout[:80]!r}, not {expected(given)[:80]!r}")
+        tried.append((given, answer_of(started(subprocess.PIPE), given), expected(given)))
     for given in FED:
-        tried += 1
-        wrote, unread = fed_answer(given)
-        if (wrote, unread) != (expected(given), given[len(line_in(given)) :]):
-            wrong += 1
-            print(f"{given[:40]!r}, byte by byte: wrote {wrote[:80]!r}, left {unread[:40]!r}")
-    say(f"{tried} inputs, {wrong} answered otherwise than the document says")
+        tried.append((given, fed(given), (expected(given), given[len(line_in(given)) :])))
+    wrong = [(given, found, wanted) for given, found, wanted in tried if found != wanted]
+    for given, found, wanted in wrong:
+        print(f"{given[:40]!r}: found {found!r:.120}, not {wanted!r:.120}")
+    say(f"{len(tried)} inputs, {len(wrong)} answered otherwise than the document says")
     sys.exit(1 if wrong else 0)
 
 

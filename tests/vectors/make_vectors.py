@@ -14,26 +14,16 @@ from paths import ROOT, fail, say
 
 import signatures
 import zarosnik
-from comparisons import number_of_words
+from comparisons import HIGHEST, number_of_words
 from operations import MOST_HASHED
-from signatures import GATE, GATE_2, Profile
-from vector_calls import (
-    GATE_SHAPE,
-    SECRET,
-    SEED,
-    SEEDS,
-    SMALL,
-    derived,
-    flipped,
-    hash_vector,
-    seeds,
-    vector,
-)
+from signatures import GATE, GATE_2, Profile, count_of
+from vector_calls import GATE_SHAPE, SECRET, SEED, SEEDS, SMALL
+from vector_calls import derived, flipped, hash_vector, vector
 from vector_keys import keys_family
 from vector_orders import orders_family
 from vector_refusals import refusals_family
 from vector_sheets import sheets_family
-from zarosnik import WORDS, row_of, table_length, ways
+from zarosnik import WORDS, row_of, table_length
 
 FOLDER = ROOT / "vectors"
 
@@ -46,94 +36,70 @@ def hash_family():
     yield hash_vector("the most bytes that are taken", b"a", MOST_HASHED)
 
 
-# Their tables are written out, and every number is placed.
+# Their tables are written out, and every number is placed; of the large ones some are.
 SMALL_SHAPES = [(3, 3, 3), (4, 2, 2), (1, 16, 15), (3, 3, 6), (1, 2, 0), (2, 2, 1), (5, 4, 4)]
-LARGE_SHAPES = [
-    GATE_SHAPE,
-    (34, 15, 238),
-    (35, 16, 262),
-    (40, 16, 0),
-    (40, 16, 300),
-    (40, 16, 600),
-    (40, 2, 20),
-]
-
-
-def numbers_of(p):
-    """All numbers of a small shape, some of a large one."""
-    count = ways(p[1], p[0], p[2])
-    if p in SMALL_SHAPES:
-        return range(count)
-    message_number = int.from_bytes(derived("number"), "big")
-    some = [0, 1, 2**64, message_number, 2**128 - 1, count // 3, count - 1]
-    return sorted({number for number in some if number < count})
+LARGE_SHAPES = [GATE_SHAPE, (34, 15, 238), (35, 16, 262)]
+LARGE_SHAPES += [(40, 16, 0), (40, 16, 300), (40, 16, 600), (40, 2, 20)]
 
 
 def rows_family():
+    message_number = int.from_bytes(derived("number"), "big")
     for shape in SMALL_SHAPES + LARGE_SHAPES:
         p, words, size = Profile(*shape, 0, 1), table_length(shape[0], shape[2]), shape[0]
+        count = count_of(p)
+        some = {0, 1, 2**64, message_number, 2**128 - 1, count // 3, count - 1}
         yield vector("count", "a work slice just long enough", p, table=words)
         yield vector("count", "a longer work slice", p, table=words + 7)
-        for number in numbers_of(shape):
-            yield vector("unrank", "number to row", p, number=number, table=words, row=size)
-            yield vector("rank", "row to number", p, row=row_of(*shape, number), table=words)
-        longer = {"table": words + 1, "row": size + 3}
-        yield vector("unrank", "both slices longer", p, number=0, **longer)
+        for number in range(count) if shape in SMALL_SHAPES else sorted(some):
+            if number < count:
+                yield vector("unrank", "number to row", p, number=number, table=words, row=size)
+                yield vector("rank", "row to number", p, row=row_of(*shape, number), table=words)
+        yield vector("unrank", "both slices longer", p, number=0, table=words + 1, row=size + 3)
 
 
 # Words of a number, least first, all below 2^31: the highest bit makes each of them greater.
 COMPARED_WORDS = [0x71A2B3C4, 0x2D3E4F50, 0x61728394, 0x5A6B7C8D, 0x1E2F3041]
-MOST_WORD = 0xFFFFFFFF
 LARGEST = 2**160 - 1
 
 
 def with_word(place, word, below=None):
     """The number with another word at a place; below it the same words, or this one everywhere."""
-    words = list(COMPARED_WORDS)
-    words[place] = word
-    if below is not None:
-        words[:place] = [below] * place
-    return number_of_words(words)
+    low = COMPARED_WORDS[:place] if below is None else [below] * place
+    return number_of_words([*low, word, *COMPARED_WORDS[place + 1 :]])
 
 
-def differing_at(place):
-    """Words, and two numbers that are alike above a place, the lesser one first."""
-    word = COMPARED_WORDS[place]
-    high = word | 1 << 31
-    yield "one more", with_word(place, word), with_word(place, word + 1)
-    yield "another highest bit", with_word(place, word), with_word(place, high)
-    yield "0 and 2^32 - 1", with_word(place, 0), with_word(place, MOST_WORD)
-    if place:
-        numbers = with_word(place, word, MOST_WORD), with_word(place, word + 1, 0)
-        yield "the words below in the other order", *numbers
-        numbers = with_word(place, word, 0), with_word(place, high, MOST_WORD)
-        yield "the words below in the same order", *numbers
+def compared():
+    """Words, and two numbers, the lesser one first."""
+    for place in reversed(range(WORDS)):
+        word = COMPARED_WORDS[place]
+        high = word | 1 << 31
+        pairs = {
+            "one more": ([word], [word + 1]),
+            "another highest bit": ([word], [high]),
+            "0 and 2^32 - 1": ([0], [HIGHEST]),
+        }
+        if place:
+            pairs["the words below in the other order"] = [word, HIGHEST], [word + 1, 0]
+            pairs["the words below in the same order"] = [word, 0], [high, HIGHEST]
+        for note, numbers in pairs.items():
+            yield f"word {place} differs: {note}", *(with_word(place, *n) for n in numbers)
+    yield "zero and the largest number", 0, LARGEST
+    messages = sorted(int.from_bytes(derived(f"compared {k}"), "big") for k in range(2))
+    yield "two message numbers, whose highest words are 0", *messages
+    yield "a message number and the gate's count", messages[0], count_of(GATE)
 
 
 def compare_family():
     number = number_of_words(COMPARED_WORDS)
     for note, alike in [("zero", 0), ("a number", number), ("the largest number", LARGEST)]:
         yield vector("compare", f"{note} and itself", first=alike, second=alike)
-    pairs = [
-        (f"word {place} differs: {note}", *numbers)
-        for place in reversed(range(WORDS))
-        for note, *numbers in differing_at(place)
-    ]
-    pairs.append(("zero and the largest number", 0, LARGEST))
-    messages = sorted(int.from_bytes(derived(f"compared {k}"), "big") for k in range(2))
-    pairs.append(("two message numbers, whose highest words are 0", *messages))
-    count = ways(GATE.w, GATE.l, GATE.s)
-    pairs.append(("a message number and the gate's count", messages[0], count))
-    for note, less, greater in pairs:
+    for note, less, greater in compared():
         yield vector("compare", note, first=less, second=greater)
         yield vector("compare", f"{note}; the other way round", first=greater, second=less)
 
 
-SEED_PAIRS = [
-    SEEDS,
-    seeds(bytes(16), b"\xff" * 16),
-    seeds(derived("public"), derived("secret")),
-]
+OTHER_SEEDS = [(bytes(16), b"\xff" * 16), (derived("public"), derived("secret"))]
+SEED_PAIRS = [SEEDS, *({"public_seed": seed, "secret_seed": key} for seed, key in OTHER_SEEDS)]
 SAME = "edition 2, the same as edition 1"
 
 
@@ -165,83 +131,56 @@ def roots_family():
         yield vector("root", note, p, **SEEDS)
 
 
+# Profiles and leaves.
+ONE_TIME = [
+    *[(SMALL, 1), (Profile(4, 2, 2, 0, 1), 0), (Profile(1, 16, 15, 3, 1), 5)],
+    *[(Profile(3, 3, 6, 2, 1), 3), (Profile(40, 16, 0, 1, 1), 1), (Profile(40, 16, 600, 0, 1), 0)],
+    *[(Profile(40, 16, 300, 2, 1), 2), (GATE, 700)],
+]
+
+
+def one_time(operation, note, p, leaf, number, values, more_words=0):
+    """Shown into a slice of so many bytes, or recovered from these values."""
+    given = {"leaf": leaf, "number": number, "values": values}
+    words = table_length(p.l, p.s) + more_words
+    return vector(f"one_time_{operation}", note, p, **SEEDS, **given, table=words)
+
+
 def one_time_family():
-    for p, leaf in [
-        (SMALL, 1),
-        (Profile(4, 2, 2, 0, 1), 0),
-        (Profile(1, 16, 15, 3, 1), 5),
-        (Profile(3, 3, 6, 2, 1), 3),
-        (Profile(40, 16, 0, 1, 1), 1),
-        (Profile(40, 16, 600, 0, 1), 0),
-        (Profile(40, 16, 300, 2, 1), 2),
-        (GATE, 700),
-    ]:
-        count, size = ways(p.w, p.l, p.s), 16 * p.l
+    for p, leaf in ONE_TIME:
+        count, size = count_of(p), 16 * p.l
         for number in sorted({0, count // 3, count - 1}):
-            signed, recovered, values = both_of("the values of a number", p, leaf, number)
-            yield signed
-            yield {**recovered, "note": "leads to the leaf key"}
-        given = {"leaf": leaf, "number": number}
-        longer = {"table": table_length(p.l, p.s) + 3, "values": size + 5}
-        yield vector("one_time_sign", "both slices longer", p, **SEEDS, **given, **longer)
-        for note, other in [
-            ("the first value changed", flipped(values, 0)),
-            ("the last value changed", flipped(values, -1)),
-            ("any values", derived("values", size)),
-        ]:
-            yield recover_vector(note, p, **given, values=other)
+            last, values = (p, leaf, number), signatures.revealed(p, SEED, SECRET, leaf, number)
+            yield one_time("sign", "the values of a number", *last, size)
+            yield one_time("recover", "leads to the leaf key", *last, values)
+        yield one_time("sign", "both slices longer", *last, size + 5, 3)
+        yield one_time("recover", "the first value changed", *last, flipped(values, 0))
+        yield one_time("recover", "the last value changed", *last, flipped(values, -1))
+        yield one_time("recover", "any values", *last, derived("values", size))
     for p, leaf in [(SMALL._replace(edition=2), 1), (GATE_2, 700)]:
-        yield from both_of(SAME, p, leaf, ways(p.w, p.l, p.s) // 3)[:2]
+        number = count_of(p) // 3
+        values = signatures.revealed(p, SEED, SECRET, leaf, number)
+        yield one_time("sign", SAME, p, leaf, number, len(values))
+        yield one_time("recover", SAME, p, leaf, number, values)
 
 
-def recover_vector(note, p, **given):
-    words = table_length(p.l, p.s)
-    return vector("one_time_recover", note, p, public_seed=SEED, **given, table=words)
-
-
-def both_of(note, p, leaf, number):
-    """A number is revealed and recovered; and the values."""
-    values = signatures.revealed(p, SEED, SECRET, leaf, number)
-    given, lent = {"leaf": leaf, "number": number}, {"table": table_length(p.l, p.s)}
-    lent["values"] = 16 * p.l
-    signed = vector("one_time_sign", note, p, **SEEDS, **given, **lent)
-    return signed, recover_vector(note, p, **given, values=values), values
-
-
-FAMILIES = {
-    "hash": hash_family,
-    "rows": rows_family,
-    "compare": compare_family,
-    "leaf_keys": leaf_keys_family,
-    "roots": roots_family,
-    "one_time": one_time_family,
-    "orders": orders_family,
-    "refusals": refusals_family,
-    "sheets": sheets_family,
-    "keys": keys_family,
-}
-
-
-def file_text(family):
-    """A vector a line."""
-    lines = ",\n".join(json.dumps(made) for made in FAMILIES[family]())
-    return f'{{"family": "{family}", "vectors": [\n{lines}\n]}}\n'
+FAMILIES = [hash_family, rows_family, compare_family, leaf_keys_family, roots_family]
+FAMILIES += [one_time_family, orders_family, refusals_family, sheets_family, keys_family]
+FAMILIES = {family.__name__.removesuffix("_family"): family for family in FAMILIES}
 
 
 def main():
     parser = argparse.ArgumentParser(description="Writes the test vectors.")
     parser.add_argument("--check", action="store_true", help="compare, write nothing")
     check = parser.parse_args().check
-    wrong_shape = zarosnik.disagreement()
-    if wrong_shape:
-        fail(f"counts or rows are wrong at l, w, s = {wrong_shape}")
-    wrong_pair = zarosnik.wrong_comparison()
-    if wrong_pair:
-        fail(f"the comparison is wrong of {wrong_pair}")
-    wrong_bits = zarosnik.wrong_bits()
-    if wrong_bits is not None:
-        fail(f"the bits are wrong of {wrong_bits}")
-    texts = {f"{family}.json": file_text(family) for family in FAMILIES}
+    for holds in (zarosnik.disagreement, zarosnik.wrong_comparison, zarosnik.wrong_bits):
+        wrong = holds()
+        if wrong is not None:
+            fail(f"the independent implementation has a {holds.__name__} at {wrong}")
+    texts = {}
+    for name, family in FAMILIES.items():
+        lines = ",\n".join(map(json.dumps, family()))
+        texts[f"{name}.json"] = f'{{"family": "{name}", "vectors": [\n{lines}\n]}}\n'
     if not check:
         for name, text in texts.items():
             (FOLDER / name).write_text(text, encoding="ascii")
@@ -249,8 +188,7 @@ def main():
     for name in sorted(found.keys() | texts.keys()):
         if found.get(name) != texts.get(name):
             fail(f"vectors/{name} is not what is to be written")
-    size = sum(map(len, texts.values()))
-    say(f"{len(texts)} files, {size} bytes")
+    say(f"{len(texts)} files, {sum(map(len, texts.values()))} bytes")
 
 
 if __name__ == "__main__":

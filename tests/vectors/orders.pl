@@ -21,16 +21,22 @@ sub tweaked_hash {
     return substr(sha256($seed . "\0" x 48 . $address . $data), 0, 16);
 }
 
-# A chain's value, from one height up to another.
-sub step_on {
-    my ($seed, $leaf, $chain, $low, $high, $value) = @_;
-    $value = tweaked_hash($seed, 0, $leaf, $chain, $_, $value) for $low .. $high - 1;
-    return $value;
+sub hexed {
+    my ($bytes) = @_;
+    return uc unpack('H*', $bytes);
+}
+
+# Bytes written into a slice that was filled with A5 before.
+sub written {
+    my ($bytes, $size) = @_;
+    return hexed($bytes . "\xA5" x ($size - length $bytes));
 }
 
 sub chain_value {
     my ($seed, $secret, $leaf, $chain, $height) = @_;
-    return step_on($seed, $leaf, $chain, 0, $height, tweaked_hash($seed, 5, $leaf, $chain, 0, $secret));
+    my $value = tweaked_hash($seed, 5, $leaf, $chain, 0, $secret);
+    $value = tweaked_hash($seed, 0, $leaf, $chain, $_, $value) for 0 .. $height - 1;
+    return $value;
 }
 
 my %nodes;
@@ -65,27 +71,19 @@ sub count {
     return counts($l, $w, $s)->[$l][$s];
 }
 
-# The bytes that an order's digest is taken of. In edition 2 the leaf's four come behind the root's.
-sub digested {
-    my ($edition, $r, $seed, $root, $leaf, $text) = @_;
-    return join('', $r, $seed, $root, $edition == 2 ? pack('N', $leaf) : (), $text);
-}
-
-# The row of an order, whose message number is the first b bits of its digest.
+# The row of an order, whose message number is the first b bits of its digest. In edition 2 the leaf's four bytes are
+# digested behind the root's.
 sub row_of_order {
-    my ($l, $w, $s, @order) = @_;
+    my ($l, $w, $s, $edition, $r, $seed, $root, $leaf, $text) = @_;
     my $bits = 0;
     $bits++ while $bits < 128 && Math::BigInt->new(2)->bpow($bits + 1) <= count($l, $w, $s);
-    my $digest = unpack('B*', sha256(digested(@order)));
-    my $number = Math::BigInt->from_bin(substr($digest, 0, $bits));
-    my $d = counts($l, $w, $s);
+    my $digest = sha256(join '', $r, $seed, $root, $edition == 2 ? pack('N', $leaf) : (), $text);
+    my $number = Math::BigInt->from_bin(substr(unpack('B*', $digest), 0, $bits));
     my ($left, @row) = ($s);
-    for my $c (0 .. $l - 1) {
+    for my $after (reverse 0 .. $l - 1) {
+        my $counts = counts($l, $w, $s)->[$after];
         my $v = 0;
-        while ($number >= $d->[$l - 1 - $c][$left - $v]) {
-            $number -= $d->[$l - 1 - $c][$left - $v];
-            $v++;
-        }
+        $number -= $counts->[$left - $v], $v++ while $number >= $counts->[$left - $v];
         push @row, $v;
         $left -= $v;
     }
@@ -102,10 +100,8 @@ sub reserved_leaf {
 # The desk. Each operation answers with what the file has in `out`.
 sub reserve {
     my ($h, $next, $mark) = @_;
-    my $refused = sub { (outcome => $_[0], next_leaf => $next, mark => $mark) };
-    return $refused->(21) if defined reserved_leaf($h, $next, $mark);
-    return $refused->(12) if $next > 2**$h - 1;
-    return (outcome => 0, next_leaf => $next + 1, mark => 1);
+    my $refused = defined reserved_leaf($h, $next, $mark) ? 21 : $next > 2**$h - 1 ? 12 : 0;
+    return (outcome => $refused, next_leaf => $refused ? $next : $next + 1, mark => $refused ? $mark : 1);
 }
 
 sub sign {
@@ -119,7 +115,7 @@ sub sign {
     my @values = map { chain_value($seed, $secret, $leaf, $_, $row[$_]) } 0 .. $l - 1;
     my @siblings = map { node(@tree, $_, ($leaf >> $_) ^ 1) } 0 .. $h - 1;
     my $signature = join('', pack('N', $leaf), $r, @values, @siblings);
-    return (outcome => 0, mark => 0, signature => uc unpack('H*', $signature));
+    return (outcome => 0, mark => 0, signature => hexed($signature));
 }
 
 # A cabinet's marks as 32 digits: digit i, from 0, is 1 where the leaf i below the highest was accepted.
@@ -132,15 +128,13 @@ sub digits {
 sub with_leaf {
     my ($highest, $marks, $leaf) = @_;
     my $digits = digits($marks);
-    if (!$marks) {
-        ($highest, $digits) = ($leaf, '1' . '0' x 31);
-    } elsif ($leaf > $highest) {
+    $highest = $leaf if !$marks;
+    if ($leaf > $highest) {
         # the marks move up, and those behind the last place fall away
-        $digits = substr('1' . '0' x ($leaf - $highest - 1) . $digits, 0, 32);
+        $digits = substr('0' x ($leaf - $highest) . $digits, 0, 32);
         $highest = $leaf;
-    } else {
-        substr($digits, $highest - $leaf, 1, '1');
     }
+    substr($digits, $highest - $leaf, 1, '1');
     return (highest_leaf => $highest, marks => oct('0b' . reverse $digits));
 }
 
@@ -173,58 +167,50 @@ sub verify {
     return (outcome => 0, with_leaf($highest, $marks, $leaf), steps => $steps);
 }
 
-# The signature and the text of a sheet, or the number of the first wrong line. Slices were filled with A5 before.
-sub read_sheet {
-    my ($l, $w, $s, $h, $edition, $sheet, $signature_len, $text_len) = @_;
+# What each line of a sheet begins with.
+sub heads {
+    my ($l, $w, $s, $h, $edition) = @_;
     my $profile = sprintf('01%02X%02X%02X%04X', $l, $w, $h, $s) . ($edition == 2 ? '02' : '');
-    my @lines = (['474F31', 0, 0], [$profile, 0, 0], ['02', 4, 4], ['03', 16, 16]);
-    push @lines, map { [sprintf('04%02X', $_), 16, 16] } 0 .. $l - 1;
-    push @lines, map { [sprintf('05%02X', $_), 16, 16] } 0 .. $h - 1;
-    push @lines, ['06', 1, 200];
-    my $refused = sub {
-        (outcome => 17, line => $_[0], message_written => 0, signature => 'untouched', message => 'untouched');
-    };
-    my @carried;
-    for (@lines) {
-        my ($head, $least, $most) = @$_;
-        $sheet =~ s/\A$head((?:[0-9A-F]{2}){$least,$most})\n// or return $refused->(@carried + 1);
-        push @carried, $1;
-    }
-    return $refused->(@carried + 1) if length $sheet;
-    my $text = pop @carried;
-    my $signature = join '', @carried;
-    my $text_written = length($text) / 2;
-    $signature .= 'A5' x ($signature_len - length($signature) / 2);
-    $text .= 'A5' x ($text_len - $text_written);
-    return (outcome => 0, line => 0, message_written => $text_written, signature => $signature, message => $text);
+    my @values = map { sprintf '04%02X', $_ } 0 .. $l - 1;
+    my @siblings = map { sprintf '05%02X', $_ } 0 .. $h - 1;
+    return ('474F31', $profile, '02', '03', @values, @siblings, '06');
 }
 
-# The sheet of a signature and a text, in a slice that was filled with A5 before. Perl's n is a number in 2 bytes.
+# The signature and the text of a sheet, or the number of the first wrong line.
+sub read_sheet {
+    my ($l, $w, $s, $h, $edition, $sheet, $signature_len, $text_len) = @_;
+    my @refused = (outcome => 17, message_written => 0, signature => 'untouched', message => 'untouched');
+    my @sizes = (0, 0, 4, (16) x (1 + $l + $h), '1,200');
+    my @carried;
+    for my $head (heads($l, $w, $s, $h, $edition)) {
+        my $size = $sizes[@carried];
+        $sheet =~ s/\A$head((?:[0-9A-F]{2}){$size})\n// or return (@refused, line => @carried + 1);
+        push @carried, pack('H*', $1);
+    }
+    return (@refused, line => @carried + 1) if length $sheet;
+    my $text = pop @carried;
+    return (outcome => 0, line => 0, message_written => length $text,
+        signature => written(join('', @carried), $signature_len), message => written($text, $text_len));
+}
+
+# The sheet of a signature and a text.
 sub write_sheet {
     my ($l, $w, $s, $h, $edition, $signature, $text, $sheet_len) = @_;
     my $refused = sub { (outcome => $_[0], sheet_written => 0, sheet => 'untouched') };
     return $refused->(16) if length $text < 1 || length $text > 200;
     return $refused->(13) if length $signature != 20 + 16 * $l + 16 * $h;
-    my ($leaf, $r, @values) = unpack('a4 a16 (a16)*', $signature);
-    my @siblings = splice @values, $l;
-    my @frames = (pack('CCCCn', 1, $l, $w, $h, $s) . ($edition == 2 ? "\2" : ''), "\2$leaf", "\3$r");
-    push @frames, map { pack('CC', 4, $_) . $values[$_] } 0 .. $l - 1;
-    push @frames, map { pack('CC', 5, $_) . $siblings[$_] } 0 .. $h - 1;
-    my $sheet = join '', map { "$_\n" } '474F31', map { uc unpack('H*', $_) } @frames, "\6$text";
-    my $written = length $sheet;
-    return (outcome => 0, sheet_written => $written,
-        sheet => uc unpack('H*', $sheet . "\xA5" x ($sheet_len - $written)));
+    my @carried = ('', '', unpack('a4 (a16)*', $signature), $text);
+    my $sheet = join '', map { $_ . hexed(shift @carried) . "\n" } heads($l, $w, $s, $h, $edition);
+    return (outcome => 0, sheet_written => length $sheet, sheet => written($sheet, $sheet_len));
 }
 
-# The frame of a key, in a slice that was filled with A5 before.
+# The frame of a key. Perl's n is a number in 2 bytes.
 sub write_key {
     my ($l, $w, $s, $h, $edition, $seed, $secret, $next, $mark, $frame_len) = @_;
     my $marked = defined reserved_leaf($h, $next, $mark) ? 1 : 0;
     my $bytes = pack('CCCCn a16 a16 N C', 7, $l, $w, $h, $s, $seed, $secret, $next, $marked);
-    my $frame = sprintf "%s%s\n", uc unpack('H*', $bytes), $edition == 2 ? '02' : '';
-    my $written = length $frame;
-    return (outcome => 0, frame_written => $written,
-        frame => uc unpack('H*', $frame . "\xA5" x ($frame_len - $written)));
+    my $frame = hexed($bytes) . ($edition == 2 ? '02' : '') . "\n";
+    return (outcome => 0, frame_written => length $frame, frame => written($frame, $frame_len));
 }
 
 # The key in a frame. The line is matched as a whole, and its numbers are then held to the profile's limits.
@@ -268,7 +254,7 @@ sub answer {
     return verify(@profile, $seed, $root, @$in{'highest_leaf', 'marks'}, $text, $signature) if $operation eq 'verify';
     return read_sheet(@profile, $sheet, @$in{'signature_len', 'message_len'}) if $operation eq 'read_sheet';
     return write_sheet(@profile, $signature, $text, $in->{sheet_len}) if $operation eq 'write_sheet';
-    return (outcome => 0, root => uc unpack('H*', node(@profile[0, 1], $seed, $secret, $profile[3], 0)));
+    return (outcome => 0, root => hexed(node(@profile[0, 1], $seed, $secret, $profile[3], 0)));
 }
 
 my @operations = qw(root reserve sign verify read_sheet write_sheet write_key);

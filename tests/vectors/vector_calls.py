@@ -12,13 +12,13 @@ from signatures import GATE, Profile
 
 # What stands in lent memory and in answers before a call.
 FILL = 0xA5
-FILL_WORD = 0xA5A5A5A5
 # A table of so many words is written out; of a longer one it is said that it is the table.
 WHOLE_TABLE = 400
 
 # Seeds, R and text of examples/order.c.
 SEED = bytes(range(0x10, 0x20))
 SECRET = bytes(range(0xE0, 0xF0))
+SEEDS = {"public_seed": SEED, "secret_seed": SECRET}
 R = bytes(range(0x71, 0x81))
 ORDER = b"sill level 2.4 m until 18:00"
 OTHER_ORDER = b"sill level 9.4 m until 18:00"
@@ -37,7 +37,7 @@ def number_hex(number):
 
 
 def filled(name, size):
-    return [FILL_WORD] * size if name == "table" else bytes([FILL]) * size
+    return [FILL * 0x01010101] * size if name == "table" else bytes([FILL]) * size
 
 
 def derived(label, size=16):
@@ -51,34 +51,27 @@ def flipped(data, at):
     return data[:at] + bytes([data[at] ^ 1]) + data[at + 1 :]
 
 
-def shown(name, value):
+def shown(name, value, before=None):
+    """What is told of a value; `before` is what a slice that the call may write held."""
+    if before is not None and value == before:
+        return "untouched"
     if isinstance(value, bytes):
         return hexed(value)
+    if isinstance(value, list) and len(value) > WHOLE_TABLE:
+        return "counts"
     return number_hex(value) if name in NUMBERS else value
 
 
-def left_in(before, after):
-    """What is told of a slice that a call may write."""
-    if after == before:
-        return "untouched"
-    if isinstance(after, bytes):
-        return hexed(after)
-    return after if len(after) <= WHOLE_TABLE else "counts"
-
-
 def vector_and_left(operation, note, thing=None, **given):
-    """An operation, words for the reader, what the call is given and what it answers and leaves; and
-    this by name. A profile, a key or a cabinet stands for its fields, and a number for a slice that
-    may be written, of this length."""
+    """An operation, words for the reader, what the call is given and what it answers and leaves;
+    and this by name. A profile, a key or a cabinet stands for its fields, and a number for a slice
+    that may be written, of this length. What an operation does not take is left out."""
     lent = LENT[operation]
     given = arguments(operation, thing, given)
     slices = {name: filled(name, given[name]) for name in lent}
     outcome, left = answer(operation, {**given, **slices})
     told = {f"{n}_len" if n in lent else n: shown(n, value) for n, value in given.items()}
-    after = {
-        name: left_in(slices[name], value) if name in lent else shown(name, value)
-        for name, value in left.items()
-    }
+    after = {name: shown(name, value, slices.get(name)) for name, value in left.items()}
     made = {"operation": operation, "note": note, "in": told, "out": {"outcome": outcome, **after}}
     return made, left
 
@@ -97,10 +90,3 @@ def held(outcome, made):
 def hash_vector(note, data, times=1):
     made = vector("hash", note, data=data * times)
     return {**made, "in": {"data": hexed(data), "times": times}}
-
-
-def seeds(seed, secret):
-    return {"public_seed": seed, "secret_seed": secret}
-
-
-SEEDS = seeds(SEED, SECRET)

@@ -1,22 +1,14 @@
 """Test vectors of keys: Reserve and Sign with every kind of next leaf and mark, stored keys written
 and read, and such as are wrong; and desks that go from fresh through cuts and restarts.
-
-Each call is said to have an outcome, to which what the implementation answers is held.
 """
+
+from types import SimpleNamespace
 
 import stored_keys
 from answers import key_read
 from keys import frame_length
-from signatures import (
-    EDITIONS,
-    GATE,
-    GATE_2,
-    Profile,
-    SigningKey,
-    reserved_key,
-    restarted,
-    signature_length,
-)
+from signatures import EDITIONS, GATE, GATE_2, Profile, SigningKey
+from signatures import reserved_key, restarted, signature_length
 from stored_keys import HEAD, MARK_DIGITS, NEXT, NEXT_LEAVES, READ_KINDS, SEEDS, SLICES
 from vector_calls import ORDER, SECRET, SEED, R, derived, held, vector, vector_and_left
 from vector_orders import Story
@@ -30,68 +22,31 @@ HEIGHTS = {"one leaf": 0, "more leaves": 2}
 ENDS = {end for part in (HEAD, SEEDS, NEXT, MARK_DIGITS) for end in (part[0], part[-1])}
 ENDS |= {*HEAD, SEEDS[31], SEEDS[32], NEXT[3], 86, 87}
 CUT = {0, 1, 2, 12, 43, 44, 84, 85, 86, 87, 88}
-
-
-class Fixed:
-    """In the place of random numbers: always the first."""
-
-    def choice(self, choices):
-        return choices[0]
-
-
-def key_of(kind):
-    """Under the example's seeds, of this kind."""
-    edition, tree, name, mark = kind
-    p = Profile(*SHAPE, HEIGHTS[tree], edition)
-    return SigningKey(p, SEED, SECRET, NEXT_LEAVES[name][0](p.h), mark)
+# In the place of random numbers: always the first.
+FIXED = SimpleNamespace(choice=lambda choices: choices[0])
 
 
 def counter_vector(operation, kind):
-    key, answer = key_of(kind), stored_keys.answer_to(operation, kind)
-    p, note = key.profile, stored_keys.counter_told(kind)
-    if operation == "reserve":
-        return held(answer, vector(operation, f"{answer}: {note}", key))
-    if operation == "sign":
-        lent = {"table": table_length(p.l, p.s), "signature": signature_length(p)}
-        made = vector(operation, f"{answer}: {note}", key, r=R, message=ORDER, **lent)
-        return held(answer, made)
+    """By a key under the example's seeds, of this kind."""
+    edition, tree, name, mark = kind
+    p = Profile(*SHAPE, HEIGHTS[tree], edition)
+    key = SigningKey(p, SEED, SECRET, NEXT_LEAVES[name][0](p.h), mark)
+    given = {"table": table_length(p.l, p.s), "signature": signature_length(p)}
+    given |= {"r": R, "message": ORDER, "frame": frame_length(p) + 3}
+    answer, told = stored_keys.answer_to(operation, kind), stored_keys.counter_told(kind)
+    if operation in ("reserve", "sign"):
+        return held(answer, vector(operation, f"{answer}: {told}", key, **given))
     if operation == "write_key":
-        note = f"mark {answer:02}: {note}"
-        return held(0, vector(operation, note, key, frame=frame_length(p) + 3))
-    made = vector(operation, f"mark {answer}: {note}", frame=stored_keys.marked_frame(key))
+        return held(0, vector(operation, f"mark {answer:02}: {told}", key, **given))
+    made = vector(operation, f"mark {answer}: {told}", frame=stored_keys.marked_frame(key))
     if made["out"]["mark"] != answer:
         raise ValueError(f"mark {answer} is not read: {made}")
     return held(0, made)
 
 
-def slices_written():
-    for edition, longer in stored_keys.SLICED:
-        p = Profile(*SHAPE, 2, edition)
-        key, size = reserved_key(p, SEED, SECRET, 1), frame_length(p) + longer
-        note = f"edition {edition}, a slice of {size} bytes"
-        yield held(SLICES[longer], vector("write_key", note, key, frame=size))
-    yield held(6, vector("write_key", "edition 1, no slice", key._replace(profile=GATE), frame=0))
-
-
-def is_told(kind):
-    """Of the kinds at each place and each length, some."""
-    _, what, detail = kind
-    some = {"no digit at": ENDS, "another digit at": ENDS, "cut to": CUT}
-    return what not in some or detail in some[what]
-
-
-# What is read: in each edition, and with what stands behind the mark.
-READ = [kind for kind in READ_KINDS if is_told(kind)]
-
-
-def frames_read():
-    """The key of the gate profile with the seeds of the example, which has a leaf reserved."""
-    for kind in READ:
-        key = reserved_key(GATE, SEED, SECRET, 0x0102)
-        frame = stored_keys.drawn_frame(Fixed(), key, kind).before
-        made = vector("read_key", stored_keys.told_frame(kind), frame=frame)
-        answer = READ_KINDS[kind]
-        yield made if answer is None else held(answer, made)
+# What is read: of the kinds at each place and each length, some.
+SOME = {"no digit at": ENDS, "another digit at": ENDS, "cut to": CUT}
+READ = [kind for kind in READ_KINDS if kind[1] not in SOME or kind[2] in SOME[kind[1]]]
 
 
 class Desk(Story):
@@ -145,7 +100,15 @@ def cuts_story(p):
     return desk.vectors
 
 
-def gate_keys():
+def keys_family():
+    for wanted in stored_keys.WANTED:
+        yield counter_vector(*wanted)
+    for edition, longer in stored_keys.SLICED:
+        p = Profile(*SHAPE, 2, edition)
+        key, size = reserved_key(p, SEED, SECRET, 1), frame_length(p) + longer
+        note = f"edition {edition}, a slice of {size} bytes"
+        yield held(SLICES[longer], vector("write_key", note, key, frame=size))
+    yield held(6, vector("write_key", "edition 1, no slice", key._replace(profile=GATE), frame=0))
     for p in (GATE, GATE_2):
         for note, key in [
             ("a fresh key of the gate profile", SigningKey(p, SEED, SECRET, 0, 0)),
@@ -155,13 +118,10 @@ def gate_keys():
             made, left = vector_and_left("write_key", note, key, frame=frame_length(p))
             yield held(0, made)
             yield held(0, vector("read_key", note, frame=left["frame"]))
-
-
-def keys_family():
-    for wanted in stored_keys.WANTED:
-        yield counter_vector(*wanted)
-    yield from slices_written()
-    yield from gate_keys()
-    yield from frames_read()
+    for kind in READ:
+        key, answer = reserved_key(GATE, SEED, SECRET, 0x0102), READ_KINDS[kind]
+        frame = stored_keys.drawn_frame(FIXED, key, kind).before
+        made = vector("read_key", stored_keys.told_frame(kind), frame=frame)
+        yield made if answer is None else held(answer, made)
     for edition in EDITIONS:
         yield from cuts_story(Profile(*SHAPE, 2, edition))

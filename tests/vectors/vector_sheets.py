@@ -6,43 +6,40 @@ import itertools
 
 import editions
 from sheets import hex_line, profile_frame, right_sheet, sheet_length
-from signatures import EDITIONS, GATE, GATE_2, Profile, reserved_key, sign, signature_length
-from vector_calls import (
-    LONG_ORDER,
-    ORDER,
-    SECRET,
-    SEED,
-    SMALL,
-    R,
-    derived,
-    flipped,
-    held,
-    vector,
-)
+from signatures import GATE, GATE_2, Profile, reserved_key, sign, signature_length
+from vector_calls import LONG_ORDER, ORDER, SECRET, SEED, SMALL, R, derived, flipped, held, vector
 from written_sheets import LEAVES, SLICES, answer_to
 from zarosnik import table_length
 
+SMALL_2 = SMALL._replace(edition=2)
+SIGNATURE = derived("signature", signature_length(SMALL))
+ANY_BYTES = bytes(range(32)) + b"\xff"
 # What the lines of the small profile's sheet carry.
 LINES = ["first line", "profile", "leaf", "R", "value", "value", "value", "sibling", "text"]
 PROFILE_BYTES = ["l", "w", "h", "high byte of s", "low byte of s"]
 
 
-def sheet_vector(note, p, sheet, signature, message=200):
-    """With slices of these lengths."""
-    return vector("read_sheet", note, p, sheet=sheet, signature=signature, message=message)
+def read(note, p, sheet, more=0, message=200):
+    """With so many bytes more than needed for the signature, and so many in all for the text."""
+    size = signature_length(p) + more
+    return vector("read_sheet", note, p, sheet=sheet, signature=size, message=message)
 
 
-def write_vector(note, p, signature, text, size):
-    return vector("write_sheet", note, p, signature=signature, message=text, sheet=size)
+def wrong_at(line, made):
+    """The vector, which must be refused by 17 with this line, or with any where it is None."""
+    if line not in (None, made["out"]["line"]):
+        raise ValueError(f"not refused with line {line}: {made}")
+    return held(17, made)
 
 
 def with_line(lines, at, changed):
     return b"".join([*lines[:at], changed, *lines[at + 1 :]])
 
 
-def spelt_otherwise(line):
-    frame = bytes.fromhex(line.decode())
-    return {
+def spelt_otherwise(lines, at):
+    """Words, and sheets with a line spelt in another way."""
+    line, name = lines[at], LINES[at]
+    for note, changed in {
         "missing": b"",
         "twice": line + line,
         "empty": b"\n",
@@ -51,27 +48,31 @@ def spelt_otherwise(line):
         "with the digit G": b"G" + line[1:],
         "ended by 0D 0A": line[:-1] + b"\r\n",
         "with a space at its end": line[:-1] + b" \n",
-        "of another kind": hex_line(flipped(frame, 0)),
-    }
+        "of another kind": hex_line(flipped(bytes.fromhex(line.decode()), 0)),
+    }.items():
+        if changed != line:
+            yield f"line {at + 1}, {name}, {note}", with_line(lines, at, changed)
+
+
+def other_profile_bytes(p, lines, names):
+    for at, name in enumerate(names):
+        changed = hex_line(flipped(profile_frame(p), at + 1))
+        yield f"line 2, profile, another {name}", with_line(lines, 1, changed)
 
 
 def wrong_lines(lines):
-    """Sheets with one line changed: words, and the sheet."""
-    for at, (name, line) in enumerate(zip(LINES, lines)):
-        for note, changed in spelt_otherwise(line).items():
-            if changed != line:
-                yield f"line {at + 1}, {name}, {note}", with_line(lines, at, changed)
+    """Words, and sheets with one line changed."""
+    frames = [bytes.fromhex(line.decode()) for line in lines]
+    for at, name in enumerate(LINES):
+        yield from spelt_otherwise(lines, at)
         if name != "text":
-            frame = bytes.fromhex(line.decode())
-            for note, other in [("less", frame[:-1]), ("more", frame + b"\0")]:
+            for note, other in [("less", frames[at][:-1]), ("more", frames[at] + b"\0")]:
                 changed = with_line(lines, at, hex_line(other))
                 yield f"line {at + 1}, {name}, with a byte {note}", changed
-    for at, name in enumerate(PROFILE_BYTES):
-        changed = with_line(lines, 1, hex_line(flipped(profile_frame(SMALL), at + 1)))
-        yield f"line 2, profile, another {name}", changed
+    yield from other_profile_bytes(SMALL, lines, PROFILE_BYTES)
     for at, name in [(4, "chain"), (7, "height")]:
-        other = flipped(bytes.fromhex(lines[at].decode()), 1)
-        yield f"line {at + 1}, another {name}", with_line(lines, at, hex_line(other))
+        changed = with_line(lines, at, hex_line(flipped(frames[at], 1)))
+        yield f"line {at + 1}, another {name}", changed
     for size in (0, 201):
         text = hex_line(b"\x06" + derived("text", size))
         yield f"line 9, text of {size} bytes", with_line(lines, 8, text)
@@ -81,7 +82,7 @@ def wrong_lines(lines):
 
 
 def wrong_ends(lines):
-    """Sheets that end too early or too late."""
+    """Words, and sheets that end too early or too late."""
     sheet = b"".join(lines)
     for kept in range(len(lines)):
         yield f"cut behind {kept} whole lines", b"".join(lines[:kept])
@@ -91,22 +92,21 @@ def wrong_ends(lines):
         yield f"{note} behind the last line", sheet + more
 
 
-def right_sheets(p, signature):
-    size = signature_length(p)
+def right_sheets(p):
     for note, text in [
         ("a right sheet", ORDER),
         ("a text of one byte", b"0"),
         ("a text of 200 bytes", LONG_ORDER),
-        ("a text of any bytes", bytes(range(32)) + b"\xff"),
+        ("a text of any bytes", ANY_BYTES),
     ]:
-        yield sheet_vector(note, p, right_sheet(p, signature, text), size)
-    no_leaf = right_sheet(p, b"\xff" * 4 + signature[4:], ORDER)
-    yield sheet_vector("a leaf that the key does not have", p, no_leaf, size)
-    sheet = right_sheet(p, signature, ORDER)
-    yield sheet_vector("slices just long enough", p, sheet, size, len(ORDER))
-    yield sheet_vector("longer slices", p, sheet, size + 3, len(ORDER) + 2)
-    yield sheet_vector("6: signature slice too short", p, sheet, size - 1)
-    yield sheet_vector("6: text slice too short", p, sheet, size, len(ORDER) - 1)
+        yield read(note, p, right_sheet(p, SIGNATURE, text))
+    no_leaf = right_sheet(p, b"\xff" * 4 + SIGNATURE[4:], ORDER)
+    yield read("a leaf that the key does not have", p, no_leaf)
+    sheet = right_sheet(p, SIGNATURE, ORDER)
+    yield read("slices just long enough", p, sheet, 0, len(ORDER))
+    yield read("longer slices", p, sheet, 3, len(ORDER) + 2)
+    yield read("6: signature slice too short", p, sheet, -1)
+    yield read("6: text slice too short", p, sheet, 0, len(ORDER) - 1)
 
 
 def gate_signature(p):
@@ -116,71 +116,57 @@ def gate_signature(p):
 
 
 def gate_sheet(p):
-    """The first order, and the length of its signature."""
-    return right_sheet(p, gate_signature(p), ORDER), signature_length(p)
+    return right_sheet(p, gate_signature(p), ORDER)
 
 
-def gate_sheets():
-    sheet, size = gate_sheet(GATE)
+def small_sheets():
+    yield from right_sheets(SMALL)
+    sheet = right_sheet(SMALL, SIGNATURE, ORDER)
     lines = sheet.splitlines(keepends=True)
-    yield sheet_vector("the first order of the gate profile", GATE, sheet, size)
-    no_path = b"".join(lines[:38] + lines[48:])
-    yield sheet_vector("without siblings", GATE, no_path, size)
-    yield sheet_vector("a line behind the last", GATE, sheet + lines[-1], size)
+    for note, wrong in [*wrong_lines(lines), *wrong_ends(lines)]:
+        yield wrong_at(None, read(note, SMALL, wrong))
+    yield read("the sheet of another profile", SMALL._replace(h=2), sheet)
+    sheet = gate_sheet(GATE)
+    lines = sheet.splitlines(keepends=True)
+    yield read("the first order of the gate profile", GATE, sheet)
+    yield read("without siblings", GATE, b"".join(lines[:38] + lines[48:]))
+    yield read("a line behind the last", GATE, sheet + lines[-1])
 
 
-def wrong_at(line, made):
-    """The vector, which must be refused by 17 with this line, or with any where it is None."""
-    if made["out"]["outcome"] != 17 or line not in (None, made["out"]["line"]):
-        raise ValueError(f"not refused by 17 with line {line}: {made}")
-    return made
-
-
-def last_bytes(signature):
-    """What frame 01 may end with, for either edition."""
-    sheet = right_sheet(SMALL, signature, ORDER)
-    for edition, last in editions.SHEETS:
-        p, line = SMALL._replace(edition=edition), editions.line_to(edition, last)
-        given = p, editions.with_last(p, sheet, last), len(signature)
-        made = sheet_vector(editions.last_told(edition, last), *given)
-        yield wrong_at(line, made) if line else made
+def second_edition():
+    """Right sheets; line 2 other than it must be; and an end too early or too late."""
+    yield from right_sheets(SMALL_2)
+    lines = right_sheet(SMALL_2, SIGNATURE, ORDER).splitlines(keepends=True)
+    for note, sheet in spelt_otherwise(lines, 1):
+        yield wrong_at(None, read(note, SMALL_2, sheet))
+    for note, sheet in other_profile_bytes(SMALL_2, lines, [*PROFILE_BYTES, "last byte"]):
+        yield wrong_at(2, read(note, SMALL_2, sheet))
+    for note, sheet in wrong_ends(lines):
+        yield wrong_at(None, read(note, SMALL_2, sheet))
+    yield read("the first order of the gate profile", GATE_2, gate_sheet(GATE_2))
 
 
 def crossed_sheets():
-    """A sheet of one edition where the other is expected; with more that is wrong, before and
-    after."""
+    """What frame 01 may end with, for either edition; and a sheet of one edition where the other is
+    expected, also with more that is wrong, before and after."""
+    sheet = right_sheet(SMALL, SIGNATURE, ORDER)
+    for edition, last in editions.SHEETS:
+        p, line = SMALL._replace(edition=edition), editions.line_to(edition, last)
+        made = read(editions.last_told(edition, last), p, editions.with_last(p, sheet, last))
+        yield wrong_at(line, made) if line else made
     for p, other in [(GATE, GATE_2), (GATE_2, GATE)]:
-        sheet, size = gate_sheet(p)
+        sheet = gate_sheet(p)
         told = f"the sheet of edition {p.edition}, edition {other.edition} expected"
-        yield wrong_at(2, sheet_vector(told, other, sheet, size))
-        no_end = sheet_vector(f"{told}, the last line without 0A", other, sheet[:-1], size)
-        yield wrong_at(2, no_end)
-        no_first = sheet_vector(f"{told}, in lower case", other, sheet.lower(), size)
-        yield wrong_at(1, no_first)
-        yield wrong_at(2, sheet_vector(f"{told}, slices too short", other, sheet, 3, 3))
-
-
-def second_edition(signature):
-    """Right sheets; line 2 other than it must be; and an end too early or too late."""
-    p, size = SMALL._replace(edition=2), signature_length(SMALL)
-    yield from right_sheets(p, signature)
-    lines = right_sheet(p, signature, ORDER).splitlines(keepends=True)
-    for note, changed in spelt_otherwise(lines[1]).items():
-        if changed != lines[1]:
-            sheet = with_line(lines, 1, changed)
-            yield wrong_at(None, sheet_vector(f"line 2, profile, {note}", p, sheet, size))
-    for at, name in enumerate([*PROFILE_BYTES, "last byte"]):
-        sheet = with_line(lines, 1, hex_line(flipped(profile_frame(p), at + 1)))
-        yield wrong_at(2, sheet_vector(f"line 2, profile, another {name}", p, sheet, size))
-    for note, sheet in wrong_ends(lines):
-        yield wrong_at(None, sheet_vector(note, p, sheet, size))
-    sheet, size = gate_sheet(GATE_2)
-    yield sheet_vector("the first order of the gate profile", GATE_2, sheet, size)
+        yield wrong_at(2, read(told, other, sheet))
+        yield wrong_at(2, read(f"{told}, the last line without 0A", other, sheet[:-1]))
+        yield wrong_at(1, read(f"{told}, in lower case", other, sheet.lower()))
+        short = 3 - signature_length(other)
+        yield wrong_at(2, read(f"{told}, slices too short", other, sheet, short, 3))
 
 
 # Texts that are written with slices of each length, and those written besides.
 EDGE_TEXTS = [b"", b"0", LONG_ORDER, derived("text", 201)]
-TEXTS = {"the order": ORDER, "a text of any bytes": bytes(range(32)) + b"\xff"}
+TEXTS = {"the order": ORDER, "a text of any bytes": ANY_BYTES}
 TEXTS |= {f"text length {size}": derived("text", size) for size in (2, 15, 16, 100, 199)}
 LENGTHS = {
     "the shortest sheet": (Profile(1, 2, 0, 0, 1), b"0"),
@@ -188,30 +174,24 @@ LENGTHS = {
 }
 
 
-def with_slices(p, signature, text, slices):
-    """The signature and the sheet's slice shorter or longer than they must be, or not."""
-    more, room, _ = SLICES[slices]
-    shown, size = (signature + b"\0")[: len(signature) + more], sheet_length(p, len(text)) + room
-    made = write_vector(f"text length {len(text)}, {slices}", p, shown, text, size)
-    return held(answer_to(len(text), slices), made)
-
-
-def written(note, p, signature, text=ORDER):
-    """Into a slice with a few bytes more."""
-    return write_vector(note, p, signature, text, sheet_length(p, len(text)) + 3)
+def written(note, p, signature, text=ORDER, more=3):
+    """Into a slice with so many bytes more than needed."""
+    size = sheet_length(p, len(text)) + more
+    return vector("write_sheet", note, p, signature=signature, message=text, sheet=size)
 
 
 def sheets_written():
-    signature = derived("signature", signature_length(SMALL))
-    for edition in EDITIONS:
-        p = SMALL._replace(edition=edition)
+    for p in (SMALL, SMALL_2):
         for text, slices in itertools.product(EDGE_TEXTS, SLICES):
-            yield with_slices(p, signature, text, slices)
+            more, room, _ = SLICES[slices]
+            shown, note = (SIGNATURE + b"\0")[: len(SIGNATURE) + more], f"text length {len(text)}"
+            made = written(f"{note}, {slices}", p, shown, text, room)
+            yield held(answer_to(len(text), slices), made)
         for note, text in TEXTS.items():
-            yield written(note, p, signature, text)
+            yield written(note, p, SIGNATURE, text)
         for note, leaf in LEAVES.items():
-            yield written(note, p, leaf(p.h).to_bytes(4, "big") + signature[4:])
-        yield write_vector("13: no signature", p, b"", ORDER, sheet_length(p, len(ORDER)))
+            yield written(note, p, leaf(p.h).to_bytes(4, "big") + SIGNATURE[4:])
+        yield written("13: no signature", p, b"", ORDER, 0)
     for note, (p, text) in LENGTHS.items():
         yield written(note, p, derived("signature", signature_length(p)), text)
     for p in (GATE, GATE_2):
@@ -219,17 +199,5 @@ def sheets_written():
 
 
 def sheets_family():
-    size = signature_length(SMALL)
-    signature = derived("signature", size)
-    yield from right_sheets(SMALL, signature)
-    sheet = right_sheet(SMALL, signature, ORDER)
-    lines = sheet.splitlines(keepends=True)
-    for note, wrong in [*wrong_lines(lines), *wrong_ends(lines)]:
-        yield wrong_at(None, sheet_vector(note, SMALL, wrong, size))
-    other = SMALL._replace(h=2)
-    yield sheet_vector("the sheet of another profile", other, sheet, size + 16)
-    yield from gate_sheets()
-    yield from second_edition(signature)
-    yield from last_bytes(signature)
-    yield from crossed_sheets()
-    yield from sheets_written()
+    for part in (small_sheets, second_edition, crossed_sheets, sheets_written):
+        yield from part()
