@@ -24,7 +24,7 @@ from calls import call as called
 from causes import subsets, wide_numbers
 from damage import Order, flipped
 from inputs import FAR, Inputs, any_shape, cheap_height, signable_shape
-from keys import frame_length, right_frame
+from keys import frame_length
 from memory import Memory
 from operations import CAUSES, EDITED, ORDERS
 from signatures import EDITIONS, GATE, Profile, Verifier, fresh_key, restarted, root_of
@@ -126,18 +126,14 @@ def written(operation, number, size, pick):
 
 
 def read_back(call, pick):
-    """Reads the sheet that a call has written, and writes what was read: this is the signature and
-    the text, and these are the same bytes again."""
-    p, parts = call.profile(), {name: call.given[name] for name in ("signature", "message")}
-    sheet = call.left["sheet"][: call.left["sheet_written"]]
+    """Reads the sheet that a call has written: this is the signature and the text."""
+    parts = {name: call.given[name] for name in ("signature", "message")}
     slices = {name: pick.randbytes(len(part)) for name, part in parts.items()}
-    read = called(pick, "read_sheet", p, sheet=sheet, **slices)
+    sheet = call.left["sheet"][: call.left["sheet_written"]]
+    read = called(pick, "read_sheet", call.profile(), sheet=sheet, **slices)
     demand(read.outcome == 0 and {name: read.left[name] for name in parts} == parts, read)
     read.stated = ("written",)
     yield read
-    again = called(pick, "write_sheet", p, **parts, sheet=pick.randbytes(len(sheet)))
-    demand(again.left["sheet"] == sheet, again)
-    yield again
 
 
 def counter(operation, kind, pick):
@@ -161,22 +157,17 @@ def counter(operation, kind, pick):
         call = inputs.call(key, frame=inputs.lent("frame", frame_length(p)))
         yield caused(operation, [], call)
         frame = call.left["frame"][: frame_length(p)]
-        yield from stored_back(frame, key._replace(mark=answer), frame, pick, "written")
+        yield read_as(key._replace(mark=answer), frame, pick, "written")
     else:
-        frame, found = stored_keys.marked_frame(key), key._replace(mark=answer)
-        # the same bytes are written again unless the mark does not count
-        yield from stored_back(frame, found, frame if mark == answer else right_frame(found), pick)
+        yield read_as(key._replace(mark=answer), stored_keys.marked_frame(key), pick)
 
 
-def stored_back(frame, key, again, pick, *stated):
-    """Reads a stored key, which is this one, and writes what was read: these bytes."""
+def read_as(key, frame, pick, *stated):
+    """Reads a stored key, which is this one."""
     read = called(pick, "read_key", frame=frame)
     demand(read.outcome == 0 and key_read(read.left) == key, read)
     read.stated = stated
-    yield read
-    call = called(pick, "write_key", key, frame=pick.randbytes(len(frame)))
-    demand(call.left["frame"] == again, call)
-    yield call
+    return read
 
 
 def key_slice(operation, number, longer, pick):

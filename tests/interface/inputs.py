@@ -238,8 +238,9 @@ class Inputs:
         return self.call(self.key())
 
     def one_time_sign(self):
+        values, key = self.lent("values", 16 * self.sized.l), self.key()
         given = {"leaf": self.leaf(), "number": self.number(), "table": self.table()}
-        return self.call(self.key(), **given, values=self.lent("values", 16 * self.sized.l))
+        return self.call(key, **given, values=values)
 
     def one_time_recover(self):
         """Values as signed, with a bit flipped, or any."""

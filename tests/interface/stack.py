@@ -34,14 +34,6 @@ PROFILES = [GATE, GATE_2, *(Profile(40, 16, s, 10, 2) for s in SUMS)]
 PAGE = ROOT / "docs" / "INTERFACE.md"
 
 
-def bound():
-    """As the page states it, in bytes."""
-    stated = re.findall(r"less than (\d+) KiB of stack", PAGE.read_text(encoding="utf-8"))
-    if len(stated) != 1:
-        fail("docs/INTERFACE.md must say 'less than N KiB of stack', once")
-    return 1024 * int(stated[0])
-
-
 def built(archive, folder):
     options = ["-std=c11", "-O2", "-fPIC", "-Wall", "-Wextra", "-Wpedantic", "-Werror"]
     library = ctypes.CDLL(shared_object(archive, folder, *options, "tests/interface/stack.c"))
@@ -95,10 +87,8 @@ class Caller:
             given = (ctypes.c_uint64 * ARGUMENTS)(*self.arguments(operation))
             taken = self.library.stack_taken(function, given, paint, ctypes.byref(outcome))
             if taken == 0 or outcome.value != expected:
-                fail(
-                    f"{operation} at {self.p} must answer {expected}:"
-                    f" answered {outcome.value}, took {taken} bytes"
-                )
+                told = f"answered {outcome.value}, took {taken} bytes"
+                fail(f"{operation} at {self.p} must answer {expected}: {told}")
             self.taken[operation] = max(self.taken[operation], taken)
 
     def granted(self):
@@ -129,26 +119,23 @@ class Caller:
             self.call(operation, cause)
 
 
-def measured(library, p):
-    caller = Caller(library, p)
-    caller.granted()
-    caller.refused()
-    return caller.taken
-
-
 def main():
     archive = archive_of(archive_parser("Measures the stack of the C interface.").parse_args())
     with tempfile.TemporaryDirectory() as folder:
         library = built(archive, folder)
-        taken = [measured(library, p) for p in PROFILES]
-    if any(profile.keys() != TABLE.keys() for profile in taken):
-        fail("not every function was called")
-    for operation in TABLE:
-        numbers = ", ".join(f"{profile[operation]}" for profile in taken)
-        say(f"zarosnik_{operation}: {numbers} bytes")
+        callers = [Caller(library, p) for p in PROFILES]
+        for caller in callers:
+            caller.granted()
+            caller.refused()
+    taken = {name: [caller.taken[name] for caller in callers] for name in TABLE}
+    for operation, numbers in taken.items():
+        say(f"zarosnik_{operation}: {', '.join(map(str, numbers))} bytes")
     shown = "; ".join("l {}, w {}, s {}, h {}, edition {}".format(*p) for p in PROFILES)
     say(f"at {shown}")
-    most, limit = max(max(profile.values()) for profile in taken), bound()
+    stated = re.findall(r"less than (\d+) KiB of stack", PAGE.read_text(encoding="utf-8"))
+    if len(stated) != 1:
+        fail("docs/INTERFACE.md must say 'less than N KiB of stack', once")
+    most, limit = max(map(max, taken.values())), 1024 * int(stated[0])
     say(f"at most {most} bytes; docs/INTERFACE.md: less than {limit}")
     sys.exit(0 if most < limit else 1)
 
