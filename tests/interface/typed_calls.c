@@ -62,11 +62,12 @@ int main(void)
     struct zarosnik_cabinet cabinet = zarosnik_fresh_cabinet(p, public_seed, root);
     HOLD(key.next_leaf == 0 && key.mark == 0 && cabinet.highest_leaf == 0 && cabinet.marks == 0);
 
-    HOLD(zarosnik_key_reserve(&key) == 0 && key.next_leaf == 1 && key.mark == 1);
+    key.next_leaf = 2;
+    HOLD(zarosnik_key_reserve(&key) == 0 && key.next_leaf == 3 && key.mark == 1);
     HOLD(zarosnik_key_write_key(&key, frame, sizeof frame, &size) == 0 && size == sizeof frame);
     HOLD(zarosnik_key_read_key(&again, frame, size, &line) == 0 && memcmp(&again, &key, sizeof key) == 0);
     HOLD(zarosnik_key_sign(&key, r, text, sizeof text, TABLE, signature, sizeof signature) == 0);
-    HOLD(key.next_leaf == 1 && key.mark == 0);
+    HOLD(key.next_leaf == 3 && key.mark == 0);
     HOLD(zarosnik_key_restart(&again, frame, size, &line) == 0 && memcmp(&again, &key, sizeof key) == 0);
     HOLD(zarosnik_profile_write_sheet(p, signature, sizeof signature, text, sizeof text, sheet, sizeof sheet, &size)
          == 0);
@@ -75,7 +76,7 @@ int main(void)
     const uint32_t outcomes[] = {ZAROSNIK_GRANTED, ZAROSNIK_REFUSED_LEAF_PASSED};
     for (size_t i = 0; i < 2; i++) {
         HOLD(zarosnik_cabinet_verify(&cabinet, words, size, read, sizeof read, TABLE, &steps) == outcomes[i]);
-        HOLD(cabinet.highest_leaf == 0 && cabinet.marks == 1 && steps == (i == 0 ? ZAROSNIK_GATE_STEPS : 0));
+        HOLD(cabinet.highest_leaf == 2 && cabinet.marks == 1 && steps == (i == 0 ? ZAROSNIK_GATE_STEPS : 0));
     }
     return EXIT_SUCCESS;
 }

@@ -6,8 +6,7 @@ so in either edition, the cabinet's being the key's.
 
 All leaves are reserved and all orders signed and checked through C. The cabinet is the two words
 that the library hands back. Beside it stands the set of the leaves accepted so far; what must be
-answered and left is taken from that by the document's words, and the rule of
-tests/independent/signatures.py must say the same.
+answered and left is taken from that by the document's words.
 
 - Where each order comes before any leaf 32 or more above it, all are accepted, whatever refused
   checks come between. In other arrival orders just those are refused that come too late, by 14.
@@ -28,8 +27,8 @@ from paths import fail, say
 import editions
 from archived import archive_of, archive_parser, shared_object
 from calls import by_name, load
-from signatures import EDITIONS, Profile, SigningKey, Verifier, is_passed, message_number, root_of
-from signatures import signature_length, with_leaf
+from signatures import EDITIONS, Profile, SigningKey, Verifier, message_number, root_of
+from signatures import signature_length
 from zarosnik import table_length
 
 # Marks of a cabinet, by the document. The rule is written here once more, so this is no import.
@@ -114,12 +113,10 @@ class Run:
 
     def arrive(self, what, leaf):
         """An order as it was signed. Whether it is accepted."""
-        words, outcome = self.words(), 14 if self.passes(leaf) else 0
-        hold(is_passed(*words, leaf) == (outcome == 14), f"two rules, {words}, {leaf}")
-        if words[1]:
-            self.met[what, outcome, max(-FAR, min(leaf - words[0], FAR))] += 1
+        outcome = 14 if self.passes(leaf) else 0
+        if self.accepted:
+            self.met[what, outcome, max(-FAR, min(leaf - max(self.accepted), FAR))] += 1
         self.expect(what, outcome, self.key.orders[leaf])
-        hold(outcome or with_leaf(*words, leaf) == self.words(), "two rules left")
         return outcome == 0
 
     def replay(self, what, *leaves):
