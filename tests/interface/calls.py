@@ -101,8 +101,8 @@ def call(pick, operation, thing=None, **given):
 
 
 def by_name(library, operation, thing=None, **given):
-    """Makes one call with no memory guarded: its answer, and what it leaves, by name. A slice that it
-    may write is given as its length; what stands in it and in answers before is STALE."""
+    """Makes one call with no memory guarded: its answer, and what it leaves, by name. A slice that
+    it may write is given as its length; what stands in it and in answers before is STALE."""
     given, values, written = arguments(operation, thing, given), [], {}
     for p in parameters(operation):
         if p.by_value:

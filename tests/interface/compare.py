@@ -4,7 +4,7 @@ three places, of which two lie against pages that end the process where a call t
 
     python3 tests/interface/compare.py                          the share that the gate runs
     python3 tests/interface/compare.py --seed 2 --count 200000  a long run: other and more calls
-    python3 tests/interface/compare.py --seed 1 --case 1234     one case again, as a failure names it
+    python3 tests/interface/compare.py --seed 1 --case 1234     one case again, by a failure's name
 
 Proves the library and writes the archive first, unless --archive names one. Fails at the first call
 that is not as the scope document says, and where a kind of calls has not come up that must: the

@@ -6,8 +6,8 @@ deleted.
 What stands in backquotes is a name, and one of these, looked for in this order:
 
 - A path, which has a slash or the ending of a file, below crates/ or below the repository. A file
-  without its folder is the only one of that name in the crates' specs/; `specs/` and the like, alone,
-  stand for that folder of every crate. A folder must-fail/ must hold edits.
+  without its folder is the only one of that name in the crates' specs/; `specs/` and the like,
+  alone, stand for that folder of every crate. A folder must-fail/ must hold edits.
 - An edit, in a column about edits and behind the word "edit"; with a star, all that match.
 - A crate; a definition or a law, in a crate's specs/ or proofs/, a record or a field of one; a
   function, a type or a constant, in a crate's src/; a word of the contracts' language: WORDS.

@@ -66,7 +66,7 @@ def signable(p, floor, bound):
 
 
 def hold_to_list():
-    """Stops unless the count is that of a plain list, for all pairs of numbers of small profiles."""
+    """Stops unless the count is that of a plain list, for all pairs of numbers, few as they are."""
     for p in (SMALL, Profile(4, 3, 4, 0, 1), Profile(3, 4, 5, 0, 1)):
         count = ways(p.w, p.l, p.s)
         rows = [row_of(p.l, p.w, p.s, n) for n in range(count)]

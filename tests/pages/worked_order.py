@@ -35,8 +35,8 @@ COUNTS = (3, 3, 3)
 # The worked order's digest gives a number at each of these: the largest count that is refused, the
 # least that is not, one with a bit more, one with a bit less than 128, and the gate's.
 BITS = [(5, 5, 7), (7, 3, 5), (6, 4, 9), (34, 16, 204), GATE_SHAPE]
-# The window: a cabinet's highest leaf and marks, where they are not those that the row above left; an
-# order's leaf; and what it shows. The orders are signed at a profile whose tree has leaves enough.
+# The window: a cabinet's highest leaf and marks, where they are not those that the row above left;
+# an order's leaf; and what it shows. The orders are signed at a profile whose tree has leaves enough.
 WINDOW = "The window"
 WINDOW_PROFILE = Profile(7, 3, 5, 7, 1)
 WINDOW_ROWS = [
