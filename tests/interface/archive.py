@@ -1,6 +1,6 @@
 """Holds the archive to what the header says of it: the symbols that it exports are exactly the
-header's functions, it needs nothing from outside but functions that copy, fill and compare memory, and
-it has no writable data.
+header's functions, it needs nothing from outside but functions that copy, fill and compare memory,
+and it has no writable data.
 
     python3 tests/interface/archive.py [--archive FILE]
 
@@ -19,49 +19,37 @@ from header import declared_functions, header_text
 NEEDED = {"memcpy", "memmove", "memset", "memcmp"}
 
 
-def lines_of(*command):
-    done = subprocess.run(command, capture_output=True, text=True)
+def lines_of(*words):
+    done = subprocess.run(words, capture_output=True, text=True)
     if done.returncode:
-        fail(f"{' '.join(command)}\n{done.stderr}")
+        fail(f"{' '.join(words)}\n{done.stderr}")
     return done.stdout.splitlines()
 
 
 def global_symbols(archive):
-    """Those defined and those undefined, weak ones included. A member's own line ends in a colon."""
+    """Those defined and those undefined, also weak. A member's own line ends in a colon."""
     defined, undefined = set(), set()
     for line in lines_of("nm", "-P", "-g", archive):
-        if line.endswith(":"):
-            continue
-        name, kind = re.match(r"(.+?) ([A-Za-z?])(?: |$)", line).groups()
-        (undefined if kind in "Uwv" else defined).add(name)
+        if not line.endswith(":"):
+            name, kind = re.match(r"(.+?) ([A-Za-z?])(?: |$)", line).groups()
+            (undefined if kind in "Uwv" else defined).add(name)
     return defined, undefined
-
-
-def writable_bytes(archive):
-    """The bytes of data and bss over all members."""
-    rows = [line.split() for line in lines_of("size", archive)[1:]]
-    return sum(int(data) + int(bss) for _, data, bss, *_ in rows)
-
-
-def complaints(archive):
-    defined, undefined = global_symbols(archive)
-    declared = set(declared_functions(header_text("zarosnik.h")))
-    writable = writable_bytes(archive)
-    named = {
-        "declared but not exported": declared - defined,
-        "exported but not declared": defined - declared,
-        "needed from outside": undefined - NEEDED,
-    }
-    found = [f"{what}: {', '.join(sorted(names))}" for what, names in named.items() if names]
-    return found + ([f"{writable} bytes of writable data"] if writable else [])
 
 
 def main():
     archive = str(archive_of(archive_parser("Holds the archive to the header.").parse_args()))
-    found = complaints(archive)
+    defined, undefined = global_symbols(archive)
+    declared = set(declared_functions(header_text("zarosnik.h")))
+    rows = [line.split() for line in lines_of("size", archive)[1:]]
+    wrong = {
+        "declared but not exported": declared - defined,
+        "exported but not declared": defined - declared,
+        "needed from outside": undefined - NEEDED,
+        "bytes of writable data": {row[5] for row in rows if int(row[1]) + int(row[2])},
+    }
+    found = [f"{what}: {', '.join(sorted(names))}" for what, names in wrong.items() if names]
     if found:
         fail("\n".join(found))
-    defined, undefined = global_symbols(archive)
     needed = ", ".join(sorted(undefined)) or "nothing"
     print(f"archive: {len(defined)} functions, those of the header; needs {needed}")
 

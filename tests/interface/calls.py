@@ -32,18 +32,15 @@ class Call:
     laid on purpose, in the document's order; what it was drawn for beyond them is stated."""
 
     def __init__(self, operation, given, outcome, left, memory, shift):
-        self.operation, self.given = operation, given
-        self.outcome, self.left = outcome, left
-        self.memory = memory
-        self.shift = shift
-        self.causes = []
-        self.stated = None
+        self.operation, self.given, self.outcome, self.left = operation, given, outcome, left
+        self.memory, self.shift = memory, shift
+        self.causes, self.stated = [], None
 
     def __str__(self):
-        shown = {p.name: self.memory.get(p.name) or self.given[p.name] for p in self.parameters()}
-        lines = [f"zarosnik_{self.operation} must answer {self.outcome}"]
-        lines += [f"  {name} = {argument}" for name, argument in shown.items()]
-        return "\n".join(lines + [f"  (memory shifted by {self.shift})"])
+        names = [p.name for p in self.parameters()]
+        lines = [f"  {name} = {self.memory.get(name) or self.given[name]}" for name in names]
+        head = f"zarosnik_{self.operation} must answer {self.outcome}"
+        return "\n".join([head, *lines, f"  (memory shifted by {self.shift})"])
 
     def parameters(self):
         return parameters(self.operation)
@@ -54,15 +51,13 @@ class Call:
     def place(self, shifts):
         """The arguments as the function takes them, and the memory laid out for them by name."""
         values, placed = [], {}
-        for parameter in self.parameters():
-            name = parameter.name
-            if parameter.by_value:
-                values.append(self.given[name])
+        for p in self.parameters():
+            if p.by_value:
+                values.append(self.given[p.name])
                 continue
-            within = region(len(placed), parameter.read_only)
-            placed[name] = Placed(self.memory[name], within, shifts[len(placed)])
-            values.append(placed[name].address)
-            values += [self.memory[name].length] * parameter.has_length
+            memory, shift = self.memory[p.name], shifts[len(placed)]
+            placed[p.name] = Placed(memory, region(len(placed), p.read_only), shift)
+            values += [placed[p.name].address] + [memory.length] * p.has_length
         return values, placed
 
     def make(self, library):
@@ -106,8 +101,8 @@ def call(pick, operation, thing=None, **given):
 
 
 def by_name(library, operation, thing=None, **given):
-    """Makes one call with no memory guarded: its answer, and what it leaves, by name. A slice that it
-    may write is given as its length; what stands in it and in answers before is STALE."""
+    """Makes one call with no memory guarded: its answer, and what it leaves, by name. A slice that
+    it may write is given as its length; what stands in it and in answers before is STALE."""
     given, values, written = arguments(operation, thing, given), [], {}
     for p in parameters(operation):
         if p.by_value:

@@ -1,17 +1,13 @@
 """The cases of a run. A case is one call or a sequence of calls; the run's seed and the case's
 number give it, so that it can be made again alone.
 
-A run begins with the tallest trees, once for each height, with an order signed and one checked at
-each of the counts on both sides of the powers of two, with sheets written for texts of every
-length, read, and written again, and with keys of every kind, which reserve, sign, are written, read
-and written again, and stored ones that are wrong in every way. Every round of cases has, for each
-operation, granted calls, each cause of refusal alone, each two together, and several; numbers to
-compare of many kinds; numbers of the profile that narrower parameters would cut to right ones, or
-that are the ends of what wide ones hold; both editions and numbers that are none; slices whose
-length passes 32 bits; orders of earlier days, and orders and sheets of the other edition; each way
-in which a leaf can stand to a verifier's highest leaf and marks; and sequences in which a fresh key
-reserves and signs, with cuts and restarts between, and a fresh verifier checks, in the order signed
-and in any other.
+A run begins with what comes once: the tallest trees, orders at the counts on both sides of the
+powers of two, sheets for texts of every length, and stored keys, right and wrong, of every kind.
+Every round of cases has, for each operation, granted calls, each cause of refusal alone, each two
+together, and several; wide numbers, slices whose length passes 32 bits, both editions and numbers
+that are none; orders of earlier days and of the other edition; each way in which a leaf can stand
+to a verifier's highest leaf and marks; and sequences in which a fresh key reserves, is stored and
+signs, and a fresh verifier checks, in the order signed and in any other.
 """
 
 import itertools
@@ -26,25 +22,13 @@ import written_sheets
 from answers import handed_back, key_read
 from calls import call as called
 from causes import subsets, wide_numbers
-from damage import Order, flipped, swapped
+from damage import Order, flipped
 from inputs import FAR, Inputs, any_shape, cheap_height, signable_shape
-from keys import frame_length, right_frame
+from keys import frame_length
 from memory import Memory
 from operations import CAUSES, EDITED, ORDERS
-from sheets import sheet_length
-from signatures import (
-    EDITIONS,
-    GATE,
-    Profile,
-    Verifier,
-    fresh_key,
-    message_number,
-    pieces,
-    restarted,
-    root_of,
-    signature_length,
-    signature_of,
-)
+from signatures import EDITIONS, GATE, Profile, Verifier, fresh_key, restarted, root_of
+from signatures import signature_length
 from zarosnik import MOST_BITS
 
 SEQUENCES = 8
@@ -74,11 +58,16 @@ def caused(operation, causes, call):
     return call
 
 
+def drawn(operation, causes, pick, *given, **how):
+    """A call with just these causes, of which the first must be told."""
+    inputs = Inputs(pick, operation, causes, **how)
+    return caused(operation, causes, getattr(inputs, operation)(*given))
+
+
 def single(operation, causes, pick, far=None, wide=None):
     """One call. A far slice is one whose length passes 32 bits. Where l is the end of what a number
     can be, no s is too large, so just the first cause is sure then."""
-    inputs = Inputs(pick, operation, causes, far, wide)
-    call = caused(operation, causes, getattr(inputs, operation)())
+    call = drawn(operation, causes, pick, far=far, wide=wide)
     if wide:
         call.stated = "wide", tuple(causes), wide
         call.causes = call.causes[:1]
@@ -89,17 +78,14 @@ def edge(operation, shape, pick):
     """An order at a count near a power of two, and nothing but the count may refuse it. The tree is
     low: it has no part in the bits."""
     answer = shapes.answer_at(shape)
-    causes = [answer] if answer else []
     p = Profile(*shape, pick.randrange(2), pick.choice(EDITIONS))
-    inputs = Inputs(pick, operation, causes, profile=p)
-    yield caused(operation, causes, getattr(inputs, operation)())
+    yield drawn(operation, [answer] if answer else [], pick, profile=p)
 
 
 def edition(operation, number, pick):
     """Nothing but the edition may refuse the call."""
     causes = [22] if editions.answer_to(number) else []
-    inputs = Inputs(pick, operation, causes, edition=number)
-    yield caused(operation, causes, getattr(inputs, operation)())
+    yield drawn(operation, causes, pick, edition=number)
 
 
 def crossed(operation, number, pick):
@@ -111,22 +97,21 @@ def crossed(operation, number, pick):
         order.sign_as_other_edition()
         if not order.leads_to_root():
             break
-    yield caused(operation, [15], Inputs(pick, operation, [15], profile=p).verify(order))
+    yield drawn(operation, [15], pick, order, profile=p)
 
 
 def high_leaf(operation, number, pick):
     """Signs, in this edition, with a leaf that one byte does not hold, under a tree of short
     chains; numbers have 16 bits."""
     p = Profile(10, 4, 15, pick.choice([9, 10]), number)
-    next_leaf = pick.randrange((1 << 8) + 1, (1 << p.h) + 1)
-    yield caused(operation, [], Inputs(pick, operation, profile=p).sign((next_leaf, 1)))
+    counter = pick.randrange((1 << 8) + 1, (1 << p.h) + 1), 1
+    yield drawn(operation, [], pick, counter, profile=p)
 
 
 def last(operation, number, digits, pick):
     """Reads, expecting this edition, a sheet with these digits behind s in frame 01."""
     causes = [17] if editions.line_to(number, digits) else []
-    inputs = Inputs(pick, operation, causes, edition=number)
-    yield caused(operation, causes, inputs.read_sheet(digits))
+    yield drawn(operation, causes, pick, digits, edition=number)
 
 
 def written(operation, number, size, pick):
@@ -141,18 +126,14 @@ def written(operation, number, size, pick):
 
 
 def read_back(call, pick):
-    """Reads the sheet that a call has written, and writes what was read: this is the signature and
-    the text, and these are the same bytes again."""
-    p, parts = call.profile(), {name: call.given[name] for name in ("signature", "message")}
-    sheet = call.left["sheet"][: call.left["sheet_written"]]
+    """Reads the sheet that a call has written: this is the signature and the text."""
+    parts = {name: call.given[name] for name in ("signature", "message")}
     slices = {name: pick.randbytes(len(part)) for name, part in parts.items()}
-    read = called(pick, "read_sheet", p, sheet=sheet, **slices)
+    sheet = call.left["sheet"][: call.left["sheet_written"]]
+    read = called(pick, "read_sheet", call.profile(), sheet=sheet, **slices)
     demand(read.outcome == 0 and {name: read.left[name] for name in parts} == parts, read)
     read.stated = ("written",)
     yield read
-    again = called(pick, "write_sheet", p, **parts, sheet=pick.randbytes(len(sheet)))
-    demand(again.left["sheet"] == sheet, again)
-    yield again
 
 
 def counter(operation, kind, pick):
@@ -176,22 +157,17 @@ def counter(operation, kind, pick):
         call = inputs.call(key, frame=inputs.lent("frame", frame_length(p)))
         yield caused(operation, [], call)
         frame = call.left["frame"][: frame_length(p)]
-        yield from stored_back(frame, key._replace(mark=answer), frame, pick, "written")
+        yield read_as(key._replace(mark=answer), frame, pick, "written")
     else:
-        frame, found = stored_keys.marked_frame(key), key._replace(mark=answer)
-        # the same bytes are written again unless the mark does not count
-        yield from stored_back(frame, found, frame if mark == answer else right_frame(found), pick)
+        yield read_as(key._replace(mark=answer), stored_keys.marked_frame(key), pick)
 
 
-def stored_back(frame, key, again, pick, *stated):
-    """Reads a stored key, which is this one, and writes what was read: these bytes."""
+def read_as(key, frame, pick, *stated):
+    """Reads a stored key, which is this one."""
     read = called(pick, "read_key", frame=frame)
     demand(read.outcome == 0 and key_read(read.left) == key, read)
     read.stated = stated
-    yield read
-    call = called(pick, "write_key", key, frame=pick.randbytes(len(frame)))
-    demand(call.left["frame"] == again, call)
-    yield call
+    return read
 
 
 def key_slice(operation, number, longer, pick):
@@ -218,9 +194,9 @@ def earlier(operation, bits, pick):
     """Checks an order of earlier days, when there was one edition. Where its number has fewer bits
     today it is refused, though it was taken then; with 128 bits it is the same order."""
     p = Profile(*pick.choice(shapes.by_bits()[bits]), pick.randrange(11), 1)
-    order, causes = Order(pick, p), [] if bits == MOST_BITS else [15]
+    order = Order(pick, p)
     order.sign_as_earlier()
-    call = caused(operation, causes, Inputs(pick, operation, causes, profile=p).verify(order))
+    call = drawn(operation, [] if bits == MOST_BITS else [15], pick, order, profile=p)
     call.stated = ("earlier",)
     yield call
 
@@ -233,9 +209,7 @@ def window(operation, kind, answer, pick):
         p = Profile(*signable_shape(pick), pick.randrange(11), pick.choice(EDITIONS))
         order = Order(pick, p)
         found = windows.state_of(pick, kind, answer, order.leaf)
-    causes = [answer] if answer else []
-    call = Inputs(pick, operation, causes, profile=p).verify(order, found)
-    yield caused(operation, causes, call)
+    yield drawn(operation, [answer] if answer else [], pick, order, found, profile=p)
 
 
 def several(operation, pick):
@@ -249,13 +223,11 @@ class Sequence:
     before the next."""
 
     def __init__(self, pick, p):
-        self.pick = pick
-        self.p = p
+        self.pick, self.p = pick, p
         self.key = fresh_key(p, pick.randbytes(16), pick.randbytes(16))
         self.root = root_of(p, self.key.seed, self.key.secret)
         self.renew_verifier()
-        self.issued = []
-        self.lost = []
+        self.issued, self.lost = [], []
 
     def renew_verifier(self):
         self.verifier = Verifier(self.p, self.key.seed, self.root, 0, 0)
@@ -270,52 +242,24 @@ class Sequence:
         """The next order, granted or refused."""
         causes = self.pick.choice([[], [], [], [5], [16], [6]])
         inputs = Inputs(self.pick, "sign", causes, profile=self.p)
-        size = signature_length(self.p)
-        message, out = inputs.message(), inputs.lent("signature", size)
+        size, message = signature_length(self.p), inputs.message()
         given = {"r": self.pick.randbytes(16), "message": message, "table": inputs.table()}
-        call = inputs.call(self.key, **given, signature=out)
+        call = inputs.call(self.key, **given, signature=inputs.lent("signature", size))
         self.key = handed_back(self.key, call.left)
         if call.outcome == 0:
             self.issued.append((call.left["signature"][:size], message.before))
         return call
 
-    def store(self):
-        size = frame_length(self.p)
-        frame = self.pick.randbytes(size + self.pick.randrange(3))
+    def stored(self):
+        """The key is stored; and where power fails then, read again with its mark cleared."""
+        frame = self.pick.randbytes(frame_length(self.p) + self.pick.randrange(3))
         call = called(self.pick, "write_key", self.key, frame=frame)
-        self.frame = call.left["frame"][:size]
-        return call
-
-    def restart(self):
-        """After a cut: from the stored frame, with the mark cleared."""
-        call = called(self.pick, "read_key", frame=self.frame)
-        self.key = restarted(key_read(call.left))
-        return call
-
-    def now_and_then(self):
-        return self.pick.random() < 0.15
-
-    def order(self):
-        """One leaf is reserved, stored and signed with, unless power fails: before the store has
-        ended, which leaves the old frame, or behind it, where the leaf is lost. Calls that are
-        refused come between."""
-        if self.now_and_then():
-            yield self.sign()
-        yield self.reserve()
-        if self.now_and_then():
-            yield self.reserve()
-        if self.now_and_then():
-            yield self.restart()
-            return
-        yield self.store()
-        while self.key.mark:
-            if self.issued and self.now_and_then():
-                self.lost.append(self.key.next - 1)
-                yield self.restart()
-            else:
-                yield self.sign()
-        if self.now_and_then():
-            yield self.restart()
+        yield call
+        if self.issued and self.pick.random() < 0.15:
+            self.lost.append(self.key.next - 1)
+            call = called(self.pick, "read_key", frame=call.left["frame"][: frame_length(self.p)])
+            yield call
+            self.key = restarted(key_read(call.left))
 
     def check(self, signature, text, causes=()):
         inputs = Inputs(self.pick, "verify", causes, profile=self.p)
@@ -325,53 +269,28 @@ class Sequence:
         return call
 
     def refused_check(self, taken):
-        """A check that is refused. Where numbers are few, a changed text or R may have the number
-        of the order and is then taken: another check is drawn."""
-        verifier = self.verifier
+        """Damaged, without the work slice, or replayed. Where numbers are few, a changed text or R
+        may have the number of the order and is then taken: another check is drawn."""
+        verifier, pick = self.verifier, self.pick
         while True:
-            call = self.wrong_check(taken)
+            signature, text = pick.choice(self.issued)
+            checks = [(flipped(pick, signature), text), (signature, flipped(pick, text))]
+            checks += [(signature + b"\0", text), (signature, text, [5])]
+            checks += [pick.choice(taken) for _ in range(2) if taken]
+            call = self.check(*pick.choice(checks))
             if call.outcome:
                 return call
             self.verifier = verifier
 
-    def other_edition(self, signature, text):
-        """What the key's other edition would sign with the same leaf, R and text."""
-        p = self.p._replace(edition=editions.other(self.p.edition))
-        leaf, r = int.from_bytes(signature[:4], "big"), signature[4:20]
-        number = message_number(p, r, self.key.seed, self.root, leaf, text)
-        return signature_of(p, self.key.seed, self.key.secret, leaf, r, number)
-
-    def wrong_check(self, taken):
-        """Damaged, another key's or edition's, without the work slice, or replayed."""
-        pick, (signature, text) = self.pick, self.pick.choice(self.issued)
-        head, parts = signature[:20], pieces(signature[20:])
-        values, siblings = parts[: self.p.l], parts[self.p.l :]
-        foreign = Order(pick, self.p)
-        checks = [
-            (flipped(pick, signature), text),
-            (head + b"".join(swapped(pick, values) + siblings), text),
-            (signature[:-1], text),
-            (signature + b"\0", text),
-            (signature, flipped(pick, text)),
-            (signature, b""),
-            (signature, text, [5]),
-            (foreign.signature(), foreign.text),
-            (self.other_edition(signature, text), text),
-        ]
-        if len(siblings) > 1:
-            checks.append((head + b"".join(values + swapped(pick, siblings)), text))
-        checks += [pick.choice(taken) for _ in range(4) if taken]
-        return self.check(*pick.choice(checks))
-
-    def root_call(self):
-        return called(self.pick, "root", self.key)
-
     def run(self):
-        yield self.root_call()
-        yield self.store()
+        yield called(self.pick, "root", self.key)
         while self.key.next < 1 << self.p.h:
-            yield from self.order()
-        for call in (self.reserve, self.sign, self.restart, self.sign, self.reserve):
+            for call in (self.sign, self.reserve, self.reserve):
+                yield call()
+            yield from self.stored()
+            while self.key.mark:
+                yield self.sign()
+        for call in (self.reserve, self.sign):
             yield call()
         leaves = [int.from_bytes(signature[:4], "big") for signature, _ in self.issued]
         if sorted(leaves + self.lost) != list(range(1 << self.p.h)):
@@ -379,7 +298,6 @@ class Sequence:
         yield from self.checks(self.issued)
         self.renew_verifier()
         yield from self.checks(self.pick.sample(self.issued, len(self.issued)))
-        yield from self.sheet()
 
     def checks(self, arriving):
         """Whatever is refused in between, each order issued is taken and reports the same steps:
@@ -392,16 +310,6 @@ class Sequence:
             demand(call.outcome == 0 and call.left["steps"] == steps, call)
             yield call
 
-    def sheet(self):
-        """Of an order issued: written, read, and written again."""
-        signature, text = self.pick.choice(self.issued)
-        sheet = self.pick.randbytes(sheet_length(self.p, len(text)) + 9)
-        given = {"signature": signature, "message": text, "sheet": sheet}
-        call = called(self.pick, "write_sheet", self.p, **given)
-        demand(call.outcome == 0, call)
-        yield call
-        yield from read_back(call, self.pick)
-
 
 def sequence(pick):
     l, w, s = signable_shape(pick)
@@ -412,7 +320,7 @@ def sequence(pick):
 def tall(p, pick):
     """A tree that takes long to hash, once in a run: the first leaf, any between, and the last."""
     orders = Sequence(pick, p)
-    yield orders.root_call()
+    yield called(pick, "root", orders.key)
     last = (1 << p.h) - 1
     for leaf in (0, pick.randrange(1, last), last):
         orders.key = orders.key._replace(next=leaf)

@@ -4,7 +4,7 @@ three places, of which two lie against pages that end the process where a call t
 
     python3 tests/interface/compare.py                          the share that the gate runs
     python3 tests/interface/compare.py --seed 2 --count 200000  a long run: other and more calls
-    python3 tests/interface/compare.py --seed 1 --case 1234     one case again, as a failure names it
+    python3 tests/interface/compare.py --seed 1 --case 1234     one case again, by a failure's name
 
 Proves the library and writes the archive first, unless --archive names one. Fails at the first call
 that is not as the scope document says, and where a kind of calls has not come up that must: the
@@ -15,7 +15,6 @@ import itertools
 import multiprocessing
 import sys
 import tempfile
-import time
 from collections import Counter
 
 from paths import fail, say
@@ -29,46 +28,8 @@ from met import MODULES, Met
 from operations import TABLE, numbers_told
 
 COUNT = 19000
-PROGRESS_SECONDS = 5
 # The implementation keeps what it has hashed. After so many cases it is let go.
 CASES_KEPT = 500
-
-
-class Compared(Met):
-    """What has come up, and the answers of each operation."""
-
-    def __init__(self):
-        super().__init__()
-        self.outcomes = Counter()
-
-    def add(self, call):
-        super().add(call)
-        self.outcomes[call.operation, call.outcome] += 1
-
-    def calls(self):
-        return self.outcomes.total()
-
-    def lines(self):
-        for operation in TABLE:
-            met = {n: self.outcomes[operation, n] for n in [0, *numbers_told(operation)]}
-            answers = ", ".join(f"{number}: {times}" for number, times in met.items())
-            yield f"{operation}, {sum(met.values())} calls; {answers}"
-
-
-class Progress:
-    """A line every few seconds."""
-
-    def __init__(self, count):
-        self.count = count
-        self.start = self.last = time.monotonic()
-
-    def seconds(self):
-        return time.monotonic() - self.start
-
-    def tell(self, calls):
-        if time.monotonic() - self.last >= PROGRESS_SECONDS:
-            self.last = time.monotonic()
-            say(f"{calls} of {self.count} calls, {self.seconds():.0f} s", sys.stderr)
 
 
 def say_failure(seed, number, call, lines):
@@ -78,8 +39,9 @@ def say_failure(seed, number, call, lines):
 
 
 def compare(library, seed, numbers, count, at):
-    """Makes the calls of the cases until there are enough. Notes which call it is at."""
-    met, progress = Compared(), Progress(count)
+    """Makes the calls of the cases until there are enough. Notes which call it is at. What has come
+    up, and the answers of each operation."""
+    met, outcomes = Met(), Counter()
     for number in numbers:
         for place, call in enumerate(case(seed, number)):
             at[:] = number, place
@@ -88,13 +50,13 @@ def compare(library, seed, numbers, count, at):
                 say_failure(seed, number, call, wrong)
                 sys.exit(1)
             met.add(call)
-            progress.tell(met.calls())
+            outcomes[call.operation, call.outcome] += 1
         if number % CASES_KEPT == 0:
             for kept in (signatures.seeded, signatures.key_of_leaf, signatures.node):
                 kept.cache_clear()
-        if met.calls() >= count:
+        if outcomes.total() >= count:
             break
-    return met, progress.seconds()
+    return met, outcomes
 
 
 def run(path, options, at):
@@ -102,13 +64,16 @@ def run(path, options, at):
     for line in unguarded():
         fail(f"the tests would not see that a call did {line}")
     numbers = itertools.count() if options.case is None else [options.case]
-    met, seconds = compare(load(path), options.seed, numbers, options.count, at)
+    met, outcomes = compare(load(path), options.seed, numbers, options.count, at)
+    for operation in TABLE:
+        told = [f"{n}: {outcomes[operation, n]}" for n in [0, *numbers_told(operation)]]
+        say(f"{operation}: {', '.join(told)}")
     wanted = {module: module.wanted() for module in MODULES if options.case is None}
-    missing = [f"has not come up: {line}" for line in met.missing(wanted)]
-    for line in [*met.lines(), *missing]:
-        say(line)
+    missing = list(met.missing(wanted))
+    for line in missing:
+        say(f"has not come up: {line}")
     left = f", but {len(missing)} things have not come up" if missing else ""
-    say(f"seed {options.seed}, {met.calls()} calls, {seconds:.0f} s: no difference{left}")
+    say(f"seed {options.seed}, {outcomes.total()} calls: no difference{left}")
     sys.exit(1 if missing else 0)
 
 
@@ -134,8 +99,7 @@ def main():
     options = parser.parse_args()
     archive = archive_of(options)
     with tempfile.TemporaryDirectory() as folder:
-        path = shared_object(archive, folder)
-        sys.exit(1 if run_apart(path, options) else 0)
+        sys.exit(1 if run_apart(shared_object(archive, folder), options) else 0)
 
 
 if __name__ == "__main__":

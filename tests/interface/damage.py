@@ -3,17 +3,8 @@
 import editions
 from memory import Memory
 from sheets import hex_line, read_frames
-from signatures import (
-    climb,
-    climb_path,
-    count_of,
-    key_of_leaf,
-    message_number,
-    order_digest,
-    pieces,
-    recovered,
-    revealed,
-)
+from signatures import climb, climb_path, count_of, key_of_leaf, message_number, order_digest
+from signatures import pieces, recovered, revealed
 from zarosnik import MOST_BITS, first_bits, row_of
 
 # Digits, endings and their neighbours.
@@ -81,12 +72,14 @@ class Order:
     def damage(self):
         """One thing is other than it was signed. Where numbers are few, another text or R may have
         the same one and do no harm: then one more thing is."""
-        changes = [self.flip_bit, self.other_text, self.other_root]
-        changes += [self.flip_value, self.swap_values, self.step_on, self.sign_as_other_edition]
+        changes = [self.flip_bit, self.other_text, self.other_root, self.step_on]
+        changes += [lambda: self.flip(self.values), self.sign_as_other_edition]
+        if self.p.l >= 2:
+            changes += [lambda: self.swap("values")]
         if self.p.h >= 1:
-            changes += [self.flip_sibling, self.other_leaf]
+            changes += [lambda: self.flip(self.siblings), self.other_leaf]
         if self.p.h >= 2:
-            changes += [self.swap_siblings]
+            changes += [lambda: self.swap("siblings")]
         while self.leads_to_root():
             self.pick.choice(changes)()
 
@@ -94,18 +87,17 @@ class Order:
         name = self.pick.choice(["seed", "root", "r", "text"])
         setattr(self, name, flipped(self.pick, getattr(self, name)))
 
+    def flip(self, parts):
+        at = self.pick.randrange(len(parts))
+        parts[at] = flipped(self.pick, parts[at])
+
+    def swap(self, name):
+        setattr(self, name, swapped(self.pick, getattr(self, name)))
+
     def other_root(self):
         """Signed for a root that is one bit off: just this bit is wrong in the end."""
         self.root = flipped(self.pick, self.root)
         self.sign(self.number())
-
-    def flip_value(self):
-        at = self.pick.randrange(len(self.values))
-        self.values[at] = flipped(self.pick, self.values[at])
-
-    def swap_values(self):
-        if len(self.values) > 1:
-            self.values = swapped(self.pick, self.values)
 
     def step_on(self):
         """Hashes one value onward, as a forger could."""
@@ -116,13 +108,6 @@ class Order:
     def other_text(self):
         longer = self.text + self.pick.randbytes(1)
         self.text = self.text[:-1] if len(longer) > 200 else longer
-
-    def flip_sibling(self):
-        at = self.pick.randrange(len(self.siblings))
-        self.siblings[at] = flipped(self.pick, self.siblings[at])
-
-    def swap_siblings(self):
-        self.siblings = swapped(self.pick, self.siblings)
 
     def other_leaf(self):
         self.leaf ^= 1 << self.pick.randrange(self.p.h)
@@ -135,14 +120,8 @@ def lines_of(sheet):
 def other_byte(pick, sheet):
     """Flipped in one bit, another, one more or one less."""
     at, odd = pick.randrange(len(sheet)), bytes([pick.choice(ODD_BYTES)])
-    return pick.choice(
-        [
-            flipped(pick, sheet),
-            sheet[:at] + odd + sheet[at + 1 :],
-            sheet[:at] + odd + sheet[at:],
-            sheet[:at] + sheet[at + 1 :],
-        ]
-    )
+    parts = pick.choice([(odd, at + 1), (odd, at), (b"", at + 1)])
+    return pick.choice([flipped(pick, sheet)] + [sheet[:at] + parts[0] + sheet[parts[1] :]] * 3)
 
 
 def cut(pick, sheet):
@@ -181,12 +160,9 @@ def other_frame(pick, sheet):
 
 def wrong_sheet(pick, p, sheet):
     """A sheet with a wrong line. Behind one that was cut off stands the rest."""
-
-    def other_last(pick, sheet):
-        return editions.with_last(p, sheet, pick.choice(editions.LAST))
-
+    changes = [other_byte, cut, more, other_lines, other_frame]
+    changes += [lambda pick, sheet: editions.with_last(p, sheet, pick.choice(editions.LAST))]
     while True:
-        change = pick.choice([other_byte, cut, more, other_lines, other_frame, other_last])
-        wrong = change(pick, sheet)
+        wrong = pick.choice(changes)(pick, sheet)
         if read_frames(p, wrong)[0]:
             return Memory(wrong, behind=sheet[len(wrong) :] if sheet.startswith(wrong) else b"")

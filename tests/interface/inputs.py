@@ -2,6 +2,8 @@
 for: none, one, or several at once, of which the first in the document's order must be told.
 """
 
+import hashlib
+
 import comparisons
 import editions
 import shapes
@@ -11,7 +13,7 @@ import written_sheets
 from calls import call
 from causes import CUT, CUTS, PAST_WORD, WIDE
 from damage import Order, flipped, wrong_sheet
-from memory import Filling, Memory
+from memory import Memory
 from operations import LENT, MOST_HASHED, ORDERS, TABLE, parameters
 from keys import frame_length
 from sheets import right_sheet, sheet_length
@@ -50,19 +52,9 @@ def any_shape(pick):
     return l, w, pick.choice([0, most, most // 2, pick.randrange(most + 1)])
 
 
-def scant_shape(pick):
-    """Too few rows for an order; often just too few."""
-    return pick.choice(pick.choice([shapes.scant(), shapes.nearly_signing()]))
-
-
 def cheap_height(pick, l, w):
     """Small enough for all leaves to be hashed."""
     return pick.choice([h for h in range(11) if (l * w) << h <= MOST_HASHES])
-
-
-def cut(p):
-    """The profile that the narrowest parameters would make of one."""
-    return Profile(*(number % (1 << bits) for number, bits in zip(p, CUTS.values())))
 
 
 class Inputs:
@@ -74,15 +66,12 @@ class Inputs:
     def __init__(
         self, pick, operation, causes=(), far=None, wide=None, profile=None, edition=None
     ):
-        self.pick = pick
-        self.edition = edition
-        self.operation = operation
-        self.causes = set(causes)
-        self.far = far
-        self.wide = wide
+        self.pick, self.operation, self.causes = pick, operation, set(causes)
+        self.far, self.wide, self.edition = far, wide, edition
         self.good = profile or self.good_profile()
         self.p = self.given_profile()
-        self.sized = cut(self.p)
+        # what the narrowest parameters would make of it
+        self.sized = Profile(*(n % (1 << bits) for n, bits in zip(self.p, CUTS.values())))
 
     def good_profile(self):
         pick, operation = self.pick, self.operation
@@ -92,7 +81,9 @@ class Inputs:
         elif operation not in ORDERS:
             l, w, s = any_shape(pick)
         else:
-            l, w, s = scant_shape(pick) if 19 in self.causes else signable_shape(pick)
+            # too few rows for an order; often just too few
+            scant = lambda: pick.choice(pick.choice([shapes.scant(), shapes.nearly_signing()]))
+            l, w, s = scant() if 19 in self.causes else signable_shape(pick)
         # a library may hash the tree before it refuses by 19, and before no other refusal
         hashed = operation in ("root", "sign") and self.causes <= {19}
         # under one leaf no mark stands before the last leaf is reserved
@@ -134,7 +125,7 @@ class Inputs:
         return pick.choice(wrong) if wrong else None
 
     def filling(self, size):
-        return Filling(self.pick.getrandbits(32), size)
+        return hashlib.shake_128(b"%d" % self.pick.getrandbits(32)).digest(size)
 
     def seed(self):
         return self.pick.choice([bytes(16), b"\xff" * 16] + [self.pick.randbytes(16)] * 6)
@@ -240,19 +231,16 @@ class Inputs:
         first, second = comparisons.drawn(self.pick)
         return self.call(first=first, second=second)
 
-    def seeds(self):
-        return {"public_seed": self.seed(), "secret_seed": self.seed()}
-
     def leaf_key(self):
-        return self.call(self.p, **self.seeds(), leaf=self.leaf())
+        return self.call(self.key(), leaf=self.leaf())
 
     def root(self):
-        return self.call(self.p, **self.seeds())
+        return self.call(self.key())
 
     def one_time_sign(self):
-        values = self.lent("values", 16 * self.sized.l)
-        given = {**self.seeds(), "leaf": self.leaf(), "number": self.number()}
-        return self.call(self.p, **given, table=self.table(), values=values)
+        values, key = self.lent("values", 16 * self.sized.l), self.key()
+        given = {"leaf": self.leaf(), "number": self.number(), "table": self.table()}
+        return self.call(key, **given, values=values)
 
     def one_time_recover(self):
         """Values as signed, with a bit flipped, or any."""
@@ -266,16 +254,15 @@ class Inputs:
         given = {"public_seed": seed, "leaf": leaf, "number": number, "values": values}
         return self.call(self.p, **given, table=self.table())
 
-    def key(self, counter):
+    def key(self, counter=(0, 0)):
         return SigningKey(self.p, self.seed(), self.seed(), *counter)
 
-    def reserve(self, counter=None):
-        """Here and below, with what is drawn unless it is given: a next leaf and a mark."""
+    def reserve(self):
         counts, spent = 21 in self.causes, 12 in self.causes
-        drawn = stored_keys.drawn(self.pick, self.good.h, counts, spent)
-        return self.call(self.key(drawn if counter is None else counter))
+        return self.call(self.key(stored_keys.drawn(self.pick, self.good.h, counts, spent)))
 
     def sign(self, counter=None):
+        """Here and below, with what is drawn unless it is given: a next leaf and a mark."""
         drawn = stored_keys.drawn(self.pick, self.good.h, 20 not in self.causes)
         key = self.key(drawn if counter is None else counter)
         signature = self.lent("signature", signature_length(self.sized))
@@ -329,10 +316,9 @@ class Inputs:
             return self.call(frame=self.exact("frame", line))
         if 17 not in self.causes:
             return self.call(frame=line)
-        wrong = [kind for kind, answer in stored_keys.READ_KINDS.items() if answer == 17]
-        return self.call(frame=stored_keys.drawn_frame(pick, key, pick.choice(wrong)))
+        wrong = pick.choice([kind for kind, told in stored_keys.READ_KINDS.items() if told == 17])
+        return self.call(frame=stored_keys.drawn_frame(pick, key, wrong))
 
-    def write_key(self, counter=None):
-        drawn = stored_keys.drawn(self.pick, self.good.h)
-        key = self.key(drawn if counter is None else counter)
+    def write_key(self):
+        key = self.key(stored_keys.drawn(self.pick, self.good.h))
         return self.call(key, frame=self.lent("frame", frame_length(self.sized)))

@@ -14,26 +14,15 @@ from array import array
 from functools import cache
 
 GUARD = hashlib.shake_128(b"guard").digest(256)
-# More bytes than this are told by their origin, or in part.
+# So many bytes of a slice are told.
 TOLD = 4096
 # Room for every slice that is not stretched.
 REGION_BYTES = 1 << 20
 UNTOUCHABLE = 0
 
 
-class Filling(bytes):
-    """Arbitrary bytes that come from one number, so that a failing call is told in a few lines."""
-
-    def __new__(cls, number, size):
-        filling = super().__new__(cls, hashlib.shake_128(b"%d" % number).digest(size))
-        filling.origin = f'hashlib.shake_128(b"{number}").digest({size})'
-        return filling
-
-
 def told(data):
-    if len(data) > TOLD and isinstance(data, Filling):
-        return data.origin
-    return data.hex() or "nothing"
+    return (data[:TOLD].hex() or "nothing") + (", .." if len(data) > TOLD else "")
 
 
 class Memory:
@@ -46,16 +35,12 @@ class Memory:
 
     def __init__(self, before, unit=1, behind=b"", spare=0):
         self.before = self.after = before
-        self.unit = unit
-        self.behind = behind
-        self.spare = spare
-        self.length = len(before) // unit
-        self.stretched = False
+        self.unit, self.behind, self.spare = unit, behind, spare
+        self.length, self.stretched = len(before) // unit, False
 
     def stretch(self, length):
         """Answers with the memory itself, as `leave` does."""
-        self.length = length
-        self.stretched = True
+        self.length, self.stretched = length, True
         return self
 
     def value(self):
@@ -149,27 +134,16 @@ class Placed:
         before, after = self.memory.before, self.memory.after
         return -len(front), front + before + behind, front + after + behind
 
-    def found(self, offset, size):
-        return ctypes.string_at(self.address + self.to_ours + offset, size)
-
     def differences(self):
         """Where memory is not as it must be, in lines."""
         for offset, _, expected in self.pieces:
-            found = self.found(offset, len(expected))
+            found = ctypes.string_at(self.address + self.to_ours + offset, len(expected))
             if found != expected:
                 at = next(k for k, byte in enumerate(expected) if found[k] != byte)
                 size = self.memory.length * self.memory.unit
                 yield f"first at byte {offset + at}, counted from 0, of {size}"
-                yield f"expected from there {expected[at : at + 32].hex()}"
-                yield f"got from there      {found[at : at + 32].hex()}"
-                yield from self.whole()
-
-    def whole(self):
-        """The slice, where it is not too long to be told."""
-        if len(self.memory.after) <= TOLD:
-            found = self.found(0, len(self.memory.after))
-            yield f"expected in all {told(self.memory.after)}"
-            yield f"got in all      {told(found)}"
+                yield f"expected from there {told(expected[at:])}"
+                yield f"got from there      {told(found[at:])}"
 
 
 def ends_the_process(touch, address):
@@ -184,18 +158,12 @@ def ends_the_process(touch, address):
 
 def unguarded():
     """What a call could do unseen, though it must not: nothing, else the tests show less."""
-
-    def read(address):
-        ctypes.string_at(address, 1)
-
-    def write(address):
-        ctypes.memset(address, 0, 1)
-
     for read_only in (True, False):
         within = region(0, read_only)
         kind = "only read" if read_only else "written"
         for address, place in ((within.start - 1, "before"), (within.end, "behind")):
-            if not ends_the_process(read, address):
+            if not ends_the_process(lambda at: ctypes.string_at(at, 1), address):
                 yield f"read {place} memory that is {kind}"
-        if read_only and not ends_the_process(write, within.start):
+        writes = lambda at: ctypes.memset(at, 0, 1)
+        if read_only and not ends_the_process(writes, within.start):
             yield f"write memory that is {kind}"

@@ -1,10 +1,10 @@
-"""The operations of the C interface in one table: the parameters of each, how they are lent, and the
-causes of its refusals in the document's order. Every test of the C interface goes by it.
+"""The operations of the C interface in one table: the parameters of each, how they are lent, and
+the causes of its refusals in the document's order. Every test of the C interface goes by it.
 
-A name alone is a number, passed by value. `&name` points to what is only read, `*name` to an answer,
-which every call writes, `~name` to a state, which a call is given and hands back. Behind a slice,
-`name[CAUSE]`, stands its length; this is the cause of refusal where it is wrong: where one to read is
-too long, or not just as long as it must be, and where one to write is too short.
+A name alone is a number, passed by value. `&name` points to what is only read, `*name` to an
+answer, which every call writes, `~name` to a state, which a call is given and hands back. Behind a
+slice, `name[CAUSE]`, stands its length; this is the cause of refusal where it is wrong: where one
+to read is too long, or not just as long as it must be, and where one to write is too short.
 """
 
 from array import array
@@ -58,8 +58,8 @@ TABLE = {
     ),
 }
 
-# What stands where a pointer points to: five words of a number, words, or a size of eight bytes. All
-# else is bytes, of which a slice has its length, a digest 32 and any other 16.
+# What stands where a pointer points to: five words of a number, words, or a size of eight bytes.
+# All else is bytes, of which a slice has its length, a digest 32 and any other 16.
 NUMBERS = ("number", "first", "second")
 SINGLE_WORDS = ("next_leaf", "mark", "highest_leaf", "marks", "order", "looked", "steps", "line")
 LENGTHS = {"digest": 32, "profile": 5} | dict.fromkeys(NUMBERS, WORDS)
@@ -79,7 +79,8 @@ def parameters(operation):
     found = []
     for told in TABLE[operation][0].split():
         name, _, cause = told.strip("&*~]").partition("[")
-        found.append(Parameter(name, told[0] if told[0] in "&*~" else "", int(cause) if cause else None))
+        kind = told[0] if told[0] in "&*~" else ""
+        found.append(Parameter(name, kind, int(cause) if cause else None))
     return found
 
 

@@ -3,11 +3,11 @@ docs/INTERFACE.md states.
 
     python3 tests/interface/stack.py [--archive FILE]
 
-Each function is called at the gate profile in both editions, and at the largest l, w and h with sums
-at which most is to be done, in edition 2: granted and, where a refusal comes late, refused. It runs
-on a stack of its own that was painted before; a byte may come to be as it was painted, so it runs
-with two paints. What is counted begins at the frame of the caller, and has the arguments and the
-return address in it.
+Each function is called at the gate profile in both editions, and at the largest l, w and h with
+sums at which most is to be done, in edition 2: granted and, where a refusal comes late, refused. It
+runs on a stack of its own that was painted before; a byte may come to be as it was painted, so it
+runs with two paints. What is counted begins at the frame of the caller, and has the arguments and
+the return address in it.
 """
 
 import ctypes
@@ -22,15 +22,7 @@ from archived import archive_of, archive_parser, shared_object
 from operations import MOST_HASHED, ORDERS, TABLE, length_of, parameters, unit_of
 from keys import right_frame
 from sheets import right_sheet
-from signatures import (
-    GATE,
-    GATE_2,
-    LEAST_COUNT,
-    Profile,
-    count_of,
-    reserved_key,
-    signature_length,
-)
+from signatures import GATE, GATE_2, LEAST_COUNT, Profile, count_of, reserved_key, signature_length
 from zarosnik import number_words, table_length
 
 PAINTS = (0xA5, 0x5A)
@@ -40,14 +32,6 @@ ARGUMENTS = 16
 SUMS = (0, 2, 133, 300, 598, 600)
 PROFILES = [GATE, GATE_2, *(Profile(40, 16, s, 10, 2) for s in SUMS)]
 PAGE = ROOT / "docs" / "INTERFACE.md"
-
-
-def bound():
-    """As the page states it, in bytes."""
-    stated = re.findall(r"less than (\d+) KiB of stack", PAGE.read_text(encoding="utf-8"))
-    if len(stated) != 1:
-        fail("docs/INTERFACE.md must say 'less than N KiB of stack', once")
-    return 1024 * int(stated[0])
 
 
 def built(archive, folder):
@@ -66,9 +50,7 @@ class Caller:
     """Calls functions at one profile. What a call writes, the next may read."""
 
     def __init__(self, library, p):
-        self.library = library
-        self.p = p
-        self.taken = Counter()
+        self.library, self.p, self.taken = library, p, Counter()
         signature, text = bytes(signature_length(p)), bytes(range(200))
         slices = {
             "data": bytes(MOST_HASHED),
@@ -93,14 +75,10 @@ class Caller:
         state |= {"highest_leaf": 0, "marks": 2}
         for name, number in state.items():
             self.memory[name][0] = number
-        for parameter in parameters(operation):
-            name = parameter.name
-            if parameter.by_value:
-                yield values[name]
-                continue
-            yield ctypes.addressof(self.memory[name])
-            if parameter.has_length:
-                yield len(self.memory[name])
+        for p in parameters(operation):
+            yield values[p.name] if p.by_value else ctypes.addressof(self.memory[p.name])
+            if p.has_length:
+                yield len(self.memory[p.name])
 
     def call(self, operation, expected):
         function = getattr(self.library, f"zarosnik_{operation}")
@@ -109,10 +87,8 @@ class Caller:
             given = (ctypes.c_uint64 * ARGUMENTS)(*self.arguments(operation))
             taken = self.library.stack_taken(function, given, paint, ctypes.byref(outcome))
             if taken == 0 or outcome.value != expected:
-                fail(
-                    f"{operation} at {self.p} must answer {expected}:"
-                    f" answered {outcome.value}, took {taken} bytes"
-                )
+                told = f"answered {outcome.value}, took {taken} bytes"
+                fail(f"{operation} at {self.p} must answer {expected}: {told}")
             self.taken[operation] = max(self.taken[operation], taken)
 
     def granted(self):
@@ -133,40 +109,33 @@ class Caller:
         """By the last cause of each, on what the granted calls left."""
         self.memory["data"] = memory("data", bytes(MOST_HASHED + 1))
         self.memory["number"][:] = [0xFFFFFFFF] * 5
-        self.memory["sheet"][-1] = 0
-        self.memory["frame"][-1] = 0
-        self.call("hash", 18)
-        for operation in ("unrank", "one_time_sign", "one_time_recover"):
-            self.call(operation, 7)
-        for operation in ("read_sheet", "read_key"):
-            self.call(operation, 17)
+        self.memory["sheet"][-1] = self.memory["frame"][-1] = 0
+        late = {"hash": 18, "unrank": 7, "one_time_sign": 7, "one_time_recover": 7}
+        for operation, cause in (late | {"read_sheet": 17, "read_key": 17}).items():
+            self.call(operation, cause)
         self.memory |= {n: memory(n, self.memory[n][:-1]) for n in ("sheet", "frame")}
-        for operation in ("write_sheet", "write_key"):
-            self.call(operation, 6)
         self.memory["row"][0] ^= 1
-        self.call("rank", 10)
-
-
-def measured(library, p):
-    caller = Caller(library, p)
-    caller.granted()
-    caller.refused()
-    return caller.taken
+        for operation, cause in {"write_sheet": 6, "write_key": 6, "rank": 10}.items():
+            self.call(operation, cause)
 
 
 def main():
     archive = archive_of(archive_parser("Measures the stack of the C interface.").parse_args())
     with tempfile.TemporaryDirectory() as folder:
         library = built(archive, folder)
-        taken = [measured(library, p) for p in PROFILES]
-    if any(profile.keys() != TABLE.keys() for profile in taken):
-        fail("not every function was called")
-    for operation in TABLE:
-        numbers = ", ".join(f"{profile[operation]}" for profile in taken)
-        say(f"zarosnik_{operation}: {numbers} bytes")
+        callers = [Caller(library, p) for p in PROFILES]
+        for caller in callers:
+            caller.granted()
+            caller.refused()
+    taken = {name: [caller.taken[name] for caller in callers] for name in TABLE}
+    for operation, numbers in taken.items():
+        say(f"zarosnik_{operation}: {', '.join(map(str, numbers))} bytes")
     shown = "; ".join("l {}, w {}, s {}, h {}, edition {}".format(*p) for p in PROFILES)
     say(f"at {shown}")
-    most, limit = max(max(profile.values()) for profile in taken), bound()
+    stated = re.findall(r"less than (\d+) KiB of stack", PAGE.read_text(encoding="utf-8"))
+    if len(stated) != 1:
+        fail("docs/INTERFACE.md must say 'less than N KiB of stack', once")
+    most, limit = max(map(max, taken.values())), 1024 * int(stated[0])
     say(f"at most {most} bytes; docs/INTERFACE.md: less than {limit}")
     sys.exit(0 if most < limit else 1)
 

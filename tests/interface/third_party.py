@@ -2,40 +2,34 @@
 WOTS+ keys, roots and a signature of an SLH-DSA (FIPS 205) by other makers, and SHA-256 digests that
 NIST publishes.
 
-    python3 tests/interface/third_party.py                   takes target/staticlib/libzarosnik.a
-    python3 tests/interface/third_party.py --archive PATH    takes this archive
-    python3 tests/interface/third_party.py --jar PATH        computes the values anew by this bcprov.jar of
-                                                   Bouncy Castle and compares; javac and java
+    python3 tests/interface/third_party.py [--archive FILE]
+    python3 tests/interface/third_party.py --jar FILE    computes the values anew by this bcprov.jar
 
-At n = 16 and w = 16, SLH-DSA-SHA2-128 has 35 chains, and at layer 0 and tree 0 its addresses and its
-functions F, H, T and PRF are the scope document's. So its WOTS+ public key of a key pair is Leaf key
-at l = 35, w = 16, its XMSS root is Root, and what it signs a message with is what Reveal shows for
-the row of FIPS 205, digits and checksum, whose sum is s.
+At n = 16 and w = 16, SLH-DSA-SHA2-128 has 35 chains, and at layer 0 and tree 0 its addresses and
+its functions F, H, T and PRF are the scope document's. So its WOTS+ public key of a key pair is
+Leaf key at l = 35, w = 16, its XMSS root is Root, and what it signs a message with is what Reveal
+shows for the row of FIPS 205, digits and checksum, whose sum is s.
 
 The values are those of Bouncy Castle 1.80 (Debian 13, package libbcprov-java 1.80-3), package
 org.bouncycastle.pqc.crypto.slhdsa, by its methods WotsPlus.pkGen (leaf keys), HT.xmss_PKgen (roots
 of the heights of SLH-DSA-SHA2-128f and -128s, 3 and 9), HT.treehash (roots of other heights) and
-HT.xmss_sign (the signature); third_party/Values.java calls them. SPHINCS+ before its version 3.1
-starts a chain by another rule. Bouncy Castle 1.72 (Debian 12, libbcprov-java 1.72-2), package
-org.bouncycastle.pqc.crypto.sphincsplus, parameters sha2_128f_simple and sha2_128s_simple, has the
-rule of FIPS 205 and gives the same values.
+HT.xmss_sign (the signature); third_party/Values.java calls them. Bouncy Castle 1.72 gives the same.
 """
 
-import hashlib
 import subprocess
 import tempfile
+from functools import partial
 from pathlib import Path
 
-from paths import ROOT, TESTS, fail, say
+from paths import TESTS, fail, say
 
-import signatures
 import zarosnik
+from answers import answer, arguments
 from archived import archive_of, archive_parser, shared_object
 from calls import by_name, load
+from operations import LENT
 from signatures import Profile, Verifier, signature_length
 from zarosnik import table_length
-
-TRIAL = ROOT / "crates" / "trial" / "stdout"
 
 # Public and secret seed.
 FIRST = ("101112131415161718191a1b1c1d1e1f", "e0e1e2e3e4e5e6e7e8e9eaebecedeeef")
@@ -60,9 +54,7 @@ ROOTS = [
 ]
 # What signs a message of 16 bytes under the first seeds in a tree of height 9: the values of leaf
 # 341 and its siblings.
-MESSAGE = "248d6a61d20638b8e5c026930c3e6039"
-SIGNED_LEAF = 341
-SIGNED_HEIGHT = 9
+MESSAGE, SIGNED_LEAF, SIGNED_HEIGHT = "248d6a61d20638b8e5c026930c3e6039", 341, 9
 VALUES = (
     "691b52cac7fbdffc9bdceea8db2c0e09dc5d9c9301f7c9603720954dcdde2c7bff5aa82ac2a84ddd0252af1a79"
     "9881c2bc7df9a38f071697c7f7534b5357fc8c82be299df221b96a3ef52c581066a6dde2c5e89c898caac94841"
@@ -119,97 +111,58 @@ SIGNING = Profile(CHAINS, WIDTH, sum(ROW), SIGNED_HEIGHT, 1)
 NUMBER = zarosnik.number_of(WIDTH, sum(ROW), ROW)
 
 
-def hold_implementation():
-    """The implementation in this folder, and hashlib, on which it stands."""
-    made = 0
-    for data, digest in DIGESTS:
-        made += equal(f"digest of {data}", hashlib.sha256(data).hexdigest(), digest)
-    for (seed, secret), leaf, key in LEAF_KEYS:
-        p, seeds = Profile(CHAINS, WIDTH, 262, 10, 1), (bytes.fromhex(seed), bytes.fromhex(secret))
-        outcome, found = signatures.leaf_key(p, *seeds, leaf)
-        made += equal(f"key of leaf {leaf}", (outcome, found.hex()), (0, key))
-    for (seed, secret), height, root in ROOTS:
-        p = Profile(CHAINS, WIDTH, 262, height, 1)
-        seeds = bytes.fromhex(seed), bytes.fromhex(secret)
-        outcome, found = signatures.root(p, *seeds)
-        made += equal(f"root of height {height}", (outcome, found.hex()), (0, root))
-    seeds = [bytes.fromhex(seed) for seed in FIRST]
-    shown = signatures.revealed(SIGNING, *seeds, SIGNED_LEAF, NUMBER)
-    made += equal("values", shown.hex(), VALUES)
-    siblings = signatures.path(SIGNING, *seeds, SIGNED_LEAF)
-    made += equal("siblings", b"".join(siblings).hex(), SIBLINGS)
-    return made
-
-
-def hold_trial():
-    """The expected output of the trial program has these digests."""
-    lines, made = TRIAL.read_text(encoding="ascii").splitlines(), 0
-    for data, digest in DIGESTS[:3]:
-        label = f'sha256 "{data.decode("ascii")}":'
-        found = [line for line in lines if line.startswith(label)]
-        made += equal(f"lines of {label}", len(found), 1)
-        made += equal(f"digest in {label}", f"digest {digest}," in found[0], True)
-    return made
+def implemented(operation, thing=None, **given):
+    """As calls.by_name, by the implementation that is independent of the library."""
+    given = arguments(operation, thing, given)
+    for name in LENT[operation]:
+        given[name] = [0] * given[name] if name == "table" else bytes(given[name])
+    return answer(operation, given)
 
 
 def seeds_of(pair):
     return dict(zip(("public_seed", "secret_seed"), map(bytes.fromhex, pair)))
 
 
-def hold_hash(library):
+def hold(call):
+    """All values, by the library or by the implementation. How many."""
     made = 0
+
+    def same(expected, operation, thing=None, **given):
+        """What is expected by name is granted; answers with all that is left."""
+        nonlocal made
+        outcome, left = call(operation, thing, **given)
+        found = {name: left[name] for name in expected}
+        made += equal(f"{operation} of {thing}", (outcome, found), (0, expected))
+        return left
+
     for data, digest in DIGESTS:
-        outcome, left = by_name(library, "hash", data=data)
-        made += equal(f"zarosnik_hash of {data}", (outcome, left["digest"].hex()), (0, digest))
-    return made
-
-
-def hold_keys(library):
-    made = 0
+        same({"digest": bytes.fromhex(digest)}, "hash", data=data)
     for s, edition in SUMS:
+        p = Profile(CHAINS, WIDTH, s, 10, edition)
         for pair, leaf, key in LEAF_KEYS:
-            p = Profile(CHAINS, WIDTH, s, 10, edition)
-            outcome, left = by_name(library, "leaf_key", p, **seeds_of(pair), leaf=leaf)
-            made += equal(f"zarosnik_leaf_key, {leaf}", (outcome, left["key"].hex()), (0, key))
+            same({"key": bytes.fromhex(key)}, "leaf_key", p, **seeds_of(pair), leaf=leaf)
         for pair, height, root in ROOTS:
-            p = Profile(CHAINS, WIDTH, s, height, edition)
-            outcome, left = by_name(library, "root", p, **seeds_of(pair))
-            made += equal(f"zarosnik_root, {height}", (outcome, left["root"].hex()), (0, root))
-    return made
-
-
-def hold_values(library):
-    """Gather gives the row's number, Reveal the values, Recover from these the leaf key."""
-    words, seeds = table_length(CHAINS, SIGNING.s), seeds_of(FIRST)
-    outcome, left = by_name(library, "rank", SIGNING, row=ROW, table=words)
-    made = equal("zarosnik_rank", (outcome, left["number"]), (0, NUMBER))
-    given = {**seeds, "leaf": SIGNED_LEAF, "number": NUMBER, "table": words}
-    outcome, left = by_name(library, "one_time_sign", SIGNING, **given, values=16 * CHAINS)
-    made += equal("zarosnik_one_time_sign", (outcome, left["values"].hex()), (0, VALUES))
-    given["values"] = bytes.fromhex(VALUES)
-    outcome, left = by_name(library, "one_time_recover", SIGNING, **given)
-    expected = (0, LEAF_KEYS[2][2], CHAINS * (WIDTH - 1) - SIGNING.s)
-    found = (outcome, left["key"].hex(), left["steps"])
-    return made + equal("zarosnik_one_time_recover", found, expected)
-
-
-def hold_order(library):
-    """Sign gives the reserved leaf's siblings, and a cabinet with their root takes the order."""
-    p = Profile(CHAINS, WIDTH, 262, SIGNED_HEIGHT, 2)
-    words, text, seeds = table_length(p.l, p.s), b"sill level 2.4 m", seeds_of(FIRST)
-    outcome, left = by_name(library, "reserve", p, next_leaf=SIGNED_LEAF, mark=0)
-    found = outcome, left["next_leaf"], left["mark"]
-    made = equal("zarosnik_reserve", found, (0, SIGNED_LEAF + 1, 1))
-    given = {**seeds, **left, "r": bytes(16), "message": text, "table": words}
-    outcome, left = by_name(library, "sign", p, **given, signature=signature_length(p))
-    made += equal("zarosnik_sign", (outcome, left["mark"]), (0, 0))
-    siblings = left["signature"][-16 * p.h :].hex()
-    made += equal("siblings of zarosnik_sign", siblings, SIBLINGS)
+            same({"root": bytes.fromhex(root)}, "root", p._replace(h=height), **seeds_of(pair))
+    # Gather gives the row's number, Reveal the values, Recover from these the leaf key.
+    words, seeds, values = table_length(CHAINS, SIGNING.s), seeds_of(FIRST), bytes.fromhex(VALUES)
+    same({"number": NUMBER}, "rank", SIGNING, row=ROW, table=words)
+    given = {"leaf": SIGNED_LEAF, "number": NUMBER, "table": words}
+    shown = {"values": len(values)}
+    same({"values": values}, "one_time_sign", SIGNING, **seeds, **given, **shown)
+    recovered = {"key": bytes.fromhex(LEAF_KEYS[2][2]), "steps": CHAINS * (WIDTH - 1) - SIGNING.s}
+    same(recovered, "one_time_recover", SIGNING, **seeds, **given, values=values)
+    # Sign gives the reserved leaf's siblings, and a cabinet with their root takes the order.
+    p, text = Profile(CHAINS, WIDTH, 262, SIGNED_HEIGHT, 2), b"sill level 2.4 m"
+    reserved = {"next_leaf": SIGNED_LEAF + 1, "mark": 1}
+    same(reserved, "reserve", p, next_leaf=SIGNED_LEAF, mark=0)
+    order = {"message": text, "table": table_length(p.l, p.s)}
+    given = {**seeds_of(FIRST), **reserved, **order, "r": bytes(16)}
+    signature = same({"mark": 0}, "sign", p, **given, signature=signature_length(p))["signature"]
+    made += equal("siblings", signature[-16 * p.h :].hex(), SIBLINGS)
     verifier = Verifier(p, seeds["public_seed"], bytes.fromhex(ROOTS[1][2]), 0, 0)
-    given = {"message": text, "signature": left["signature"], "table": words}
-    outcome, left = by_name(library, "verify", verifier, **given)
-    found = outcome, left["highest_leaf"], left["marks"]
-    return made + equal("zarosnik_verify", found, (0, SIGNED_LEAF, 1))
+    after = {"highest_leaf": SIGNED_LEAF, "marks": 1}
+    same(after, "verify", verifier, **order, signature=signature)
+    return made
 
 
 def lines_of_values():
@@ -227,9 +180,8 @@ def compute_anew(jar):
         source = str(TESTS / "interface" / "third_party" / "Values.java")
         subprocess.run(["javac", "-cp", str(jar), "-d", folder, source], check=True)
         name = "org.bouncycastle.pqc.crypto.slhdsa.Values"
-        made = subprocess.run(
-            ["java", "-cp", f"{jar}:{folder}", name], check=True, capture_output=True, text=True
-        )
+        command = ["java", "-cp", f"{jar}:{folder}", name]
+        made = subprocess.run(command, check=True, capture_output=True, text=True)
     return equal("what Bouncy Castle gives", made.stdout.splitlines(), list(lines_of_values()))
 
 
@@ -238,13 +190,11 @@ def main():
     parser.add_argument("--jar", type=Path, help="Bouncy Castle's, to compute the values anew")
     options = parser.parse_args()
     archive = archive_of(options)
-    made = hold_implementation() + hold_trial()
+    made = hold(implemented)
     if options.jar:
         made += compute_anew(options.jar.resolve())
     with tempfile.TemporaryDirectory() as folder:
-        library = load(shared_object(archive, folder))
-        for hold in (hold_hash, hold_keys, hold_values, hold_order):
-            made += hold(library)
+        made += hold(partial(by_name, load(shared_object(archive, folder))))
     say(f"{made} comparisons, no difference")
 
 

@@ -5,56 +5,41 @@
 
 #include <assert.h>
 
+#define HOLDS(what) static_assert(what, #what)
+
 /* The version can be compared by the preprocessor, and its number is made of its parts. */
 #if ZAROSNIK_VERSION < 1000
 #error "the version's number"
 #endif
-static_assert(ZAROSNIK_VERSION / 1000000 == ZAROSNIK_VERSION_MAJOR, "major");
-static_assert(ZAROSNIK_VERSION / 1000 % 1000 == ZAROSNIK_VERSION_MINOR, "minor");
-static_assert(ZAROSNIK_VERSION % 1000 == ZAROSNIK_VERSION_PATCH, "patch");
+HOLDS(ZAROSNIK_VERSION / 1000000 == ZAROSNIK_VERSION_MAJOR);
+HOLDS(ZAROSNIK_VERSION / 1000 % 1000 == ZAROSNIK_VERSION_MINOR);
+HOLDS(ZAROSNIK_VERSION % 1000 == ZAROSNIK_VERSION_PATCH);
 
-static_assert(ZAROSNIK_TABLE_WORDS(ZAROSNIK_GATE_L, ZAROSNIK_GATE_S) == 44800, "work slice");
-static_assert(ZAROSNIK_GATE_TABLE_WORDS == 44800, "work slice");
-static_assert(ZAROSNIK_TABLE_BYTES(ZAROSNIK_GATE_L, ZAROSNIK_GATE_S) == 179200, "work slice in bytes");
-static_assert(ZAROSNIK_GATE_TABLE_BYTES == ZAROSNIK_GATE_TABLE_WORDS * sizeof(uint32_t), "work slice in bytes");
-static_assert(ZAROSNIK_VALUES_BYTES(ZAROSNIK_GATE_L) == ZAROSNIK_GATE_VALUES_BYTES, "values");
-static_assert(ZAROSNIK_SIGNATURE_BYTES(ZAROSNIK_GATE_L, ZAROSNIK_GATE_H) == 724, "signature");
-static_assert(ZAROSNIK_GATE_SIGNATURE_BYTES == 724, "signature");
-static_assert(ZAROSNIK_LEAVES(ZAROSNIK_GATE_H) == ZAROSNIK_GATE_LEAVES, "leaves");
-static_assert(ZAROSNIK_STEPS(ZAROSNIK_GATE_L, ZAROSNIK_GATE_W, ZAROSNIK_GATE_S) == 255, "steps");
-static_assert(ZAROSNIK_GATE_STEPS == 255, "steps");
+/* The gate's numbers, by operators that bind loosely: what a macro takes stands in parentheses. */
+HOLDS(ZAROSNIK_GATE_L == 34 && ZAROSNIK_GATE_W == 16 && ZAROSNIK_GATE_S == 255 && ZAROSNIK_GATE_H == 10);
+HOLDS(ZAROSNIK_S_MAX(34u & 63u, 16u & 63u) == 510);
+HOLDS(ZAROSNIK_TABLE_WORDS(34u & 63u, 255u & 511u) == 44800 && ZAROSNIK_GATE_TABLE_WORDS == 44800);
+HOLDS(ZAROSNIK_TABLE_BYTES(34u & 63u, 255u & 511u) == 179200 && ZAROSNIK_GATE_TABLE_BYTES == 179200);
+HOLDS(ZAROSNIK_VALUES_BYTES(34u & 63u) == 544 && ZAROSNIK_GATE_VALUES_BYTES == 544);
+HOLDS(ZAROSNIK_SIGNATURE_BYTES(34u & 63u, 10u & 15u) == 724 && ZAROSNIK_GATE_SIGNATURE_BYTES == 724);
+HOLDS(ZAROSNIK_SHEET_BYTES(34u & 63u, 10u & 15u, 1u & 3u, 28u & 63u) == 1753);
+HOLDS(ZAROSNIK_SHEET_BYTES(34u & 63u, 10u & 15u, 2u & 3u, 28u & 63u) == 1755);
+HOLDS(ZAROSNIK_KEY_BYTES(1u & 3u) == 87 && ZAROSNIK_KEY_BYTES(2u & 3u) == 89);
+HOLDS(ZAROSNIK_LEAVES(10u & 15u) == 1024 && ZAROSNIK_GATE_LEAVES == 1024);
+HOLDS(ZAROSNIK_STEPS(34u & 63u, 16u & 63u, 300u - 45u) == 255 && ZAROSNIK_GATE_STEPS == 255);
 
-#define S_LARGEST ZAROSNIK_S_MAX(ZAROSNIK_L_MAX, ZAROSNIK_W_MAX)
-static_assert(S_LARGEST == 600, "sum");
-static_assert(ZAROSNIK_TABLE_WORDS(ZAROSNIK_L_MAX, S_LARGEST) == ZAROSNIK_TABLE_WORDS_MAX, "work slice");
-static_assert(ZAROSNIK_TABLE_BYTES(ZAROSNIK_L_MAX, S_LARGEST) == ZAROSNIK_TABLE_BYTES_MAX, "work slice in bytes");
-static_assert(ZAROSNIK_TABLE_BYTES_MAX == ZAROSNIK_TABLE_WORDS_MAX * sizeof(uint32_t), "work slice in bytes");
-static_assert(ZAROSNIK_VALUES_BYTES(ZAROSNIK_L_MAX) == ZAROSNIK_VALUES_BYTES_MAX, "values");
-static_assert(ZAROSNIK_SIGNATURE_BYTES(ZAROSNIK_L_MAX, ZAROSNIK_H_MAX) == ZAROSNIK_SIGNATURE_BYTES_MAX, "signature");
-static_assert(ZAROSNIK_SHEET_BYTES(ZAROSNIK_L_MAX, ZAROSNIK_H_MAX, ZAROSNIK_EDITION_1, ZAROSNIK_MESSAGE_MAX) == 2319,
-              "sheet");
-static_assert(ZAROSNIK_SHEET_BYTES(ZAROSNIK_L_MAX, ZAROSNIK_H_MAX, ZAROSNIK_EDITION_2, ZAROSNIK_MESSAGE_MAX)
-                  == ZAROSNIK_SHEET_BYTES_MAX,
-              "sheet");
-static_assert(ZAROSNIK_KEY_BYTES(ZAROSNIK_EDITION_1) == 87, "stored key");
-static_assert(ZAROSNIK_KEY_BYTES(ZAROSNIK_EDITION_2) == 89, "stored key");
-static_assert(ZAROSNIK_KEY_BYTES(ZAROSNIK_EDITION_2) == ZAROSNIK_KEY_BYTES_MAX, "stored key");
-static_assert(ZAROSNIK_PROFILE_NUMBERS == 5, "l, w, s, h, edition");
-
-static_assert(ZAROSNIK_EDITION_1 == 1 && ZAROSNIK_EDITION_2 == 2, "editions");
-
-/* The gate's numbers by operators that bind loosely: what a macro takes stands in parentheses. */
-static_assert(ZAROSNIK_S_MAX(34u & 63u, 16u & 63u) == 510, "parentheses");
-static_assert(ZAROSNIK_TABLE_WORDS(34u & 63u, 255u & 511u) == 44800, "parentheses");
-static_assert(ZAROSNIK_TABLE_BYTES(34u & 63u, 255u & 511u) == 179200, "parentheses");
-static_assert(ZAROSNIK_VALUES_BYTES(34u & 63u) == 544, "parentheses");
-static_assert(ZAROSNIK_SIGNATURE_BYTES(34u & 63u, 10u & 15u) == 724, "parentheses");
-static_assert(ZAROSNIK_SHEET_BYTES(34u & 63u, 10u & 15u, 1u & 3u, 28u & 63u) == 1753, "parentheses");
-static_assert(ZAROSNIK_SHEET_BYTES(34u & 63u, 10u & 15u, 2u & 3u, 28u & 63u) == 1755, "parentheses");
-static_assert(ZAROSNIK_KEY_BYTES(1u & 3u) == 87, "parentheses");
-static_assert(ZAROSNIK_KEY_BYTES(2u & 3u) == 89, "parentheses");
-static_assert(ZAROSNIK_LEAVES(10u & 15u) == 1024, "parentheses");
-static_assert(ZAROSNIK_STEPS(34u & 63u, 16u & 63u, 300u - 45u) == 255, "parentheses");
+/* The largest. */
+HOLDS(ZAROSNIK_S_MAX(ZAROSNIK_L_MAX, ZAROSNIK_W_MAX) == 600);
+HOLDS(ZAROSNIK_TABLE_WORDS(ZAROSNIK_L_MAX, 600) == ZAROSNIK_TABLE_WORDS_MAX);
+HOLDS(ZAROSNIK_TABLE_BYTES(ZAROSNIK_L_MAX, 600) == ZAROSNIK_TABLE_BYTES_MAX);
+HOLDS(ZAROSNIK_TABLE_BYTES_MAX == ZAROSNIK_TABLE_WORDS_MAX * sizeof(uint32_t));
+HOLDS(ZAROSNIK_VALUES_BYTES(ZAROSNIK_L_MAX) == ZAROSNIK_VALUES_BYTES_MAX);
+HOLDS(ZAROSNIK_SIGNATURE_BYTES(ZAROSNIK_L_MAX, ZAROSNIK_H_MAX) == ZAROSNIK_SIGNATURE_BYTES_MAX);
+HOLDS(ZAROSNIK_SHEET_BYTES(ZAROSNIK_L_MAX, ZAROSNIK_H_MAX, ZAROSNIK_EDITION_1, ZAROSNIK_MESSAGE_MAX) == 2319);
+HOLDS(ZAROSNIK_SHEET_BYTES(ZAROSNIK_L_MAX, ZAROSNIK_H_MAX, ZAROSNIK_EDITION_2, ZAROSNIK_MESSAGE_MAX)
+      == ZAROSNIK_SHEET_BYTES_MAX);
+HOLDS(ZAROSNIK_KEY_BYTES(ZAROSNIK_EDITION_2) == ZAROSNIK_KEY_BYTES_MAX);
+HOLDS(ZAROSNIK_PROFILE_NUMBERS == 5 && ZAROSNIK_EDITION_1 == 1 && ZAROSNIK_EDITION_2 == 2);
 
 /* Sizes of variables are uint32_t, or size_t where the text's length is, and raise no warning. */
 uint32_t header_sizes(uint32_t l, uint32_t w, uint32_t s, uint32_t h, uint32_t edition);

@@ -3,8 +3,8 @@ pkg-config says, as C11 and as C++17, and runs them.
 
     python3 tests/pages/package.py [--archive FILE]
 
-The installed folder is moved before it is used, and neither the repository nor its headers are on the
-compiler's path. Needs pkg-config.
+The installed folder is moved before it is used, and neither the repository nor its headers are on
+the compiler's path. Needs pkg-config.
 """
 
 import os
@@ -20,20 +20,11 @@ from archived import archive_of, archive_parser
 from header import WARNINGS
 
 COMPILERS = [["gcc", "-std=c11"], ["g++", "-std=c++17"]]
-INSTALLED = [
-    "include/zarosnik.h",
-    "include/zarosnik_types.h",
-    "lib/libzarosnik.a",
-    "lib/pkgconfig/zarosnik.pc",
-    "share/doc/zarosnik/INTERFACE.md",
-    "share/doc/zarosnik/examples/desk.c",
-    "share/doc/zarosnik/examples/order.c",
-    "share/doc/zarosnik/examples/order.sheet",
-    "share/doc/zarosnik/examples/sheet.c",
-    "share/doc/zarosnik/examples/store.c",
-]
-# Each is installed where the repository has it.
-OPTIONAL = [("docs/SECURITY.md", "SECURITY.md"), ("vectors", "vectors")]
+EXAMPLES = ["desk.c", "order.c", "order.sheet", "sheet.c", "store.c"]
+INSTALLED = ["lib/libzarosnik.a", "lib/pkgconfig/zarosnik.pc", "share/doc/zarosnik/INTERFACE.md"]
+INSTALLED += ["include/zarosnik.h", "include/zarosnik_types.h", "share/doc/zarosnik/SECURITY.md"]
+INSTALLED += ["share/doc/zarosnik/vectors"]
+INSTALLED += [f"share/doc/zarosnik/examples/{name}" for name in EXAMPLES]
 
 
 def output(*command, folder, **variables):
@@ -44,37 +35,22 @@ def output(*command, folder, **variables):
     return done.stdout
 
 
-def install(archive, folder):
-    """The prefix, installed in one place and moved to another."""
-    made, moved = folder / "made", folder / "moved"
-    output(str(ROOT / "tools" / "package"), str(made), folder=folder, ZAROSNIK_ARCHIVE=str(archive))
-    return made.rename(moved)
-
-
 def check_files(prefix, archive):
-    docs = prefix / "share" / "doc" / "zarosnik"
-    wanted = [prefix / name for name in INSTALLED]
-    wanted += [docs / name for source, name in OPTIONAL if (ROOT / source).exists()]
-    missing = [str(path) for path in wanted if not path.exists()]
+    missing = [name for name in INSTALLED if not (prefix / name).exists()]
     if missing:
         fail(f"not installed: {missing}")
-    copies = {"lib/libzarosnik.a": archive}
-    copies |= {name: ROOT / name for name in INSTALLED if name.startswith("include/")}
-    for name, source in copies.items():
+    copies = {name: ROOT / name for name in INSTALLED if name.startswith("include/")}
+    for name, source in (copies | {"lib/libzarosnik.a": archive}).items():
         if (prefix / name).read_bytes() != source.read_bytes():
             fail(f"{name} is not {source}")
 
 
 def check_links(prefix):
     """Each link of an installed page leads to something installed, or into the web."""
-    found = 0
     for page in (prefix / "share" / "doc" / "zarosnik").glob("*.md"):
         for link in re.findall(r"\]\(([^)#]+)", page.read_text(encoding="utf-8")):
-            found += 1
             if not link.startswith("http") and not (page.parent / link).exists():
                 fail(f"{page.name} links to {link}, which is not there")
-    if not found:
-        fail("no page has a link")
 
 
 def check_version(prefix, folder, search):
@@ -108,7 +84,10 @@ def main():
     archive = archive_of(archive_parser("Builds against the installed library.").parse_args())
     with tempfile.TemporaryDirectory() as name:
         folder = Path(name)
-        prefix = install(archive, folder)
+        made, prefix = folder / "made", folder / "moved"
+        package = str(ROOT / "tools" / "package")
+        output(package, str(made), folder=folder, ZAROSNIK_ARCHIVE=str(archive))
+        made.rename(prefix)
         search = {"PKG_CONFIG_PATH": str(prefix / "lib" / "pkgconfig")}
         check_files(prefix, archive)
         check_links(prefix)

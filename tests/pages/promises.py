@@ -3,31 +3,24 @@ deleted.
 
     python3 tests/pages/promises.py
 
-What stands in backquotes is a name. It must be one of these, and is looked for in this order:
+What stands in backquotes is a name, and one of these, looked for in this order:
 
-- A path, which has a slash or the ending of a file: a file or a folder, below crates/ or below the
-  repository. A file without its folder is the one of that name in the specs/ of the crates, and
-  must be the only one. A folder must-fail/ must hold edits. `specs/` and the like, alone, stand for
-  that folder of every crate.
-- An edit: in a column about edits, and everywhere behind the word "edit" or "edits". It is a file
-  must-fail/NAME.edit; with a star, all that match, at least one.
-- A crate of crates.txt.
-- A definition or a law, declared in a crate's specs/ or proofs/, a record or a field of one.
-- A function, a type or a constant, declared in a crate's src/; `Type::function` is one of its impl.
-- A word of the contracts' language: WORDS.
+- A path, which has a slash or the ending of a file, below crates/ or below the repository. A file
+  without its folder is the only one of that name in the crates' specs/; `specs/` and the like,
+  alone, stand for that folder of every crate. A folder must-fail/ must hold edits.
+- An edit, in a column about edits and behind the word "edit"; with a star, all that match.
+- A crate; a definition or a law, in a crate's specs/ or proofs/, a record or a field of one; a
+  function, a type or a constant, in a crate's src/; a word of the contracts' language: WORDS.
 
-Where the page says in which file, crate or record a name is, it must be there:
-
-- "`FILE`: `a`, `b` and `c`" and "`a`, `b` and `c` in `FILE`" bind all these names. What a source
-  file only uses is found in it too.
-- "`a`, `b` of `RECORD`" and "`a` and `b` of `CRATE`" bind all these names, "`a`, `b` of `CRATE`"
-  the last, since the crate may be said of it alone; "of `X`, of `Y` and of `Z`" means each of them.
-  The head of a column may name the crate.
+Where the page says in which file, crate or record a name is, it must be there: "`FILE`: `a`, `b`
+and `c`" and "`a`, `b` and `c` in `FILE`" bind all these names; so do "`a`, `b` of `RECORD`" and
+"`a` and `b` of `CRATE`", but "`a`, `b` of `CRATE`" the last alone; "of `X`, of `Y` and of `Z`"
+means each. The head of a column may name the crate.
 """
 
 import re
 import sys
-from collections import Counter, defaultdict
+from collections import defaultdict
 from fnmatch import fnmatchcase
 
 from paths import ROOT
@@ -66,26 +59,21 @@ class Repository:
         self.crates = {line.split(":")[0] for line in lines if line and not line.startswith("#")}
         self.definitions, self.items = defaultdict(set), defaultdict(set)
         self.fields, self.edits = defaultdict(set), defaultdict(set)
-        for folder in ("specs", "proofs"):
-            for file in CRATES.glob(f"*/{folder}/**/*.antt"):
-                self.add_definitions(file, file.read_text(encoding="utf-8"))
+        for file in CRATES.glob("*/*/**/*.antt"):
+            text = file.read_text(encoding="utf-8")
+            for _, _, record, body in RECORD.findall(text):
+                self.fields[record] |= set(FIELD.findall(body))
+            for name in DECLARED.findall(RECORD.sub(r"\1\2", text)):
+                self.definitions[name].add(file)
         for file in CRATES.glob("*/src/**/*.rt"):
-            self.add_items(file, file.read_text(encoding="utf-8"))
+            text = file.read_text(encoding="utf-8")
+            names = ITEM.findall(text)
+            for kind, body in IMPL.findall(text):
+                names += [f"{kind}::{method}" for method in METHOD.findall(body)]
+            for name in names:
+                self.items[name].add(file)
         for file in CRATES.glob("*/must-fail/*.edit"):
             self.edits[file.stem].add(crate_of(file))
-
-    def add_definitions(self, file, text):
-        for _, _, record, body in RECORD.findall(text):
-            self.fields[record] |= set(FIELD.findall(body))
-        for name in DECLARED.findall(RECORD.sub(r"\1\2", text)):
-            self.definitions[name].add(file)
-
-    def add_items(self, file, text):
-        for name in ITEM.findall(text):
-            self.items[name].add(file)
-        for kind, body in IMPL.findall(text):
-            for method in METHOD.findall(body):
-                self.items[f"{kind}::{method}"].add(file)
 
     def path(self, name):
         """The file or folder of that name, or None."""
@@ -97,33 +85,22 @@ class Repository:
         places = [CRATES / name, ROOT / name, *CRATES.glob(f"*/{name}")]
         return next((place for place in places if place.exists()), None)
 
-    def kind_of_edit(self, name, crate):
-        """With a star, all that match; in the crate, where one is said."""
+    def has_edit(self, name, crate):
+        """With a star, one that matches; in the crate, where one is said."""
         found = [crates for edit, crates in self.edits.items() if fnmatchcase(edit, name)]
-        return "edits" if any(crate is None or crate in crates for crates in found) else None
+        return any(crate is None or crate in crates for crates in found)
 
-    def kind_in_file(self, name, file):
-        if file in self.definitions[name]:
-            return "definitions and laws"
-        used = rf"\b{re.escape(name)}\b"
-        if file in self.items[name] or file.suffix == ".rt" and re.search(used, file.read_text()):
-            return "functions, types and constants"
-        return None
+    def has_in_file(self, name, file):
+        used = file.suffix == ".rt" and re.search(rf"\b{re.escape(name)}\b", file.read_text())
+        return bool(used) or file in self.definitions[name] | self.items[name]
 
-    def kind(self, name, crate=None):
-        """What a name is, in any crate or in the one said; None where there is no such thing."""
-        declared = {
-            "definitions and laws": self.definitions[name],
-            "functions, types and constants": self.items[name],
-        }
-        if crate is None and name in self.crates:
-            return "crates"
-        for kind, files in declared.items():
-            if any(crate in (None, crate_of(file)) for file in files):
-                return kind
-        if crate is None and any(name in fields for fields in self.fields.values()):
-            return "fields of records"
-        return "words of the language" if name in WORDS else None
+    def has(self, name, crate=None):
+        """In any crate or in the one said."""
+        files = self.definitions[name] | self.items[name]
+        if any(crate in (None, crate_of(file)) for file in files):
+            return True
+        fields = set().union(*self.fields.values())
+        return name in WORDS or crate is None and name in self.crates | fields
 
 
 def is_path(name):
@@ -134,14 +111,11 @@ class Cell:
     """A piece of text with names in it: what each name is, or that it is not found."""
 
     def __init__(self, repository, text, edits=False, crate=None):
-        self.repository = repository
+        self.repository, self.edits, self.crate = repository, edits, crate
         parts = re.split(r"`([^`]+)`", text)
         self.gaps, self.names = parts[::2], parts[1::2]
-        self.edits = edits
-        self.crate = crate
         # the files, crates and records in which a name must be
-        self.within = defaultdict(list)
-        self.owners = set()
+        self.within, self.owners = defaultdict(list), set()
         for at in range(len(self.names)):
             self.bind(at)
 
@@ -155,12 +129,10 @@ class Cell:
     def bind(self, at):
         name, gap = self.names[at], self.gaps[at]
         if is_path(name) and self.gaps[at + 1].startswith(": "):
-            last = at + 1
-            while last < len(self.names) and self.gaps[last] in (": ", *JOINS):
-                if is_path(self.names[last]):
+            for last in range(at + 1, len(self.names)):
+                if self.gaps[last] not in (": ", *JOINS) or is_path(self.names[last]):
                     break
                 self.within[last].append(name)
-                last += 1
         if at and is_path(name) and gap == " in ":
             for bound in self.joined_before(at):
                 self.within[bound].append(name)
@@ -186,35 +158,29 @@ class Cell:
             return False
         return self.edits or re.search(r"\bedits? $", self.gaps[at]) is not None
 
-    def kind_within(self, at, place):
-        """What the name is there; None where it is not there."""
+    def found_within(self, at, place):
         name, repository = self.names[at], self.repository
         if is_path(place):
             file = repository.path(place)
-            return repository.kind_in_file(name, file) if file else None
+            return file is not None and repository.has_in_file(name, file)
         if place in repository.fields:
-            return "fields of records" if name in repository.fields[place] else None
-        if place not in repository.crates:
-            return None
-        if self.is_edit(at):
-            return repository.kind_of_edit(name, place)
-        return repository.kind(name, place)
+            return name in repository.fields[place]
+        has = repository.has_edit if self.is_edit(at) else repository.has
+        return place in repository.crates and has(name, place)
 
-    def kind(self, at):
+    def found(self, at):
         name, repository = self.names[at], self.repository
         if is_path(name):
-            return "files and folders" if repository.path(name) else None
+            return repository.path(name) is not None
         if self.within[at]:
-            kinds = [self.kind_within(at, place) for place in self.within[at]]
-            return kinds[0] if all(kinds) else None
-        if self.is_edit(at):
-            return repository.kind_of_edit(name, self.crate)
-        return repository.kind(name)
+            return all(self.found_within(at, place) for place in self.within[at])
+        return repository.has_edit(name, self.crate) if self.is_edit(at) else repository.has(name)
 
-    def kinds(self):
+    def missing(self):
         for at, name in enumerate(self.names):
-            place = ", ".join(self.within[at]) or (self.crate if self.is_edit(at) else "")
-            yield f"`{name}`" + (f" in {place}" if place else ""), self.kind(at)
+            if not self.found(at):
+                place = ", ".join(self.within[at]) or (self.crate if self.is_edit(at) else "")
+                yield f"`{name}`" + (f" in {place}" if place else "")
 
 
 def cells(repository, text):
@@ -235,20 +201,14 @@ def cells(repository, text):
 
 
 def main():
-    repository, found, missing = Repository(), Counter(), []
+    repository, names, missing = Repository(), 0, 0
     for number, cell in cells(repository, PAGE.read_text(encoding="utf-8")):
-        for name, kind in cell.kinds():
-            found[kind] += 1
-            if kind is None:
-                missing.append(f"docs/PROMISES.md, line {number}: {name} is not found")
-    for line in missing:
-        print(line)
-    del found[None]
-    if not found:
-        sys.exit("docs/PROMISES.md names nothing")
-    kinds = ", ".join(f"{number} {kind}" for kind, number in sorted(found.items()))
-    print(f"promises: {found.total()} names found, {len(missing)} not: {kinds}")
-    sys.exit(1 if missing else 0)
+        names += len(cell.names)
+        for name in cell.missing():
+            missing += 1
+            print(f"docs/PROMISES.md, line {number}: {name} is not found")
+    print(f"promises: {names} names, {missing} not found")
+    sys.exit(1 if missing or not names else 0)
 
 
 if __name__ == "__main__":

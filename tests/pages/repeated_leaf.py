@@ -3,7 +3,7 @@ message numbers the signatures of one leaf let anyone sign, counted exactly, and
 four of them.
 
     python3 tests/pages/repeated_leaf.py                             prints the figures
-    python3 tests/pages/repeated_leaf.py --check docs/SECURITY.md    fails where one is not on the page
+    python3 tests/pages/repeated_leaf.py --check docs/SECURITY.md    each must be on the page
 
 Rows a and b, signed with one leaf, show each chain from the height min(a_i, b_i) up, so every row c
 with c_i >= min(a_i, b_i) at each place can be signed by hashing onward. Message numbers come from
@@ -11,12 +11,13 @@ digests of fixed texts here, so every run prints the same.
 """
 
 import hashlib
+import itertools
 import math
-
-from paths import say
 import statistics
 import sys
 from pathlib import Path
+
+from paths import say
 
 import signatures
 from signatures import GATE, Profile, Verifier, count_of
@@ -65,28 +66,23 @@ def signable(p, floor, bound):
 
 
 def hold_to_list():
-    """Stops unless the count is that of a plain list, for all pairs of numbers of small profiles."""
+    """Stops unless the count is that of a plain list, for all pairs of numbers, few as they are."""
     for p in (SMALL, Profile(4, 3, 4, 0, 1), Profile(3, 4, 5, 0, 1)):
         count = ways(p.w, p.l, p.s)
         rows = [row_of(p.l, p.w, p.s, n) for n in range(count)]
-        for one in rows:
-            for other in rows:
-                floor = floor_of([one, other])
-                above = [all(c >= m for c, m in zip(row, floor)) for row in rows]
-                for bound in range(1, count + 1):
-                    if signable(p, floor, bound) != sum(above[:bound]):
-                        sys.exit(f"the count is wrong for {one}, {other} below {bound}")
-
-
-def message_number(sample, order):
-    digest = hashlib.sha256(b"sample %d, order %d" % (sample, order)).digest()
-    return first_bits(digest, BITS)
+        for pair in itertools.product(rows, repeat=2):
+            floor = floor_of(pair)
+            above = [all(c >= m for c, m in zip(row, floor)) for row in rows]
+            for bound in range(1, count + 1):
+                if signable(p, floor, bound) != sum(above[:bound]):
+                    sys.exit(f"the count is wrong for {pair} below {bound}")
 
 
 def sample_bits(orders):
     """Of each sample, the exponent of the number of digests that a forgery takes in the mean."""
     for sample in range(SAMPLES):
-        numbers = [message_number(sample, order) for order in range(orders)]
+        texts = [b"sample %d, order %d" % (sample, order) for order in range(orders)]
+        numbers = [first_bits(hashlib.sha256(text).digest(), BITS) for text in texts]
         floor = floor_of([row_of(*GATE[:3], number) for number in numbers])
         yield BITS - math.log2(signable(GATE, floor, NUMBERS))
 
@@ -137,12 +133,10 @@ def forgery():
         row = row_of(*p[:3], signatures.message_number(p, r, seed, root, 0, text))
         if all(height >= shown[chain][0] for chain, height in enumerate(row)):
             break
-    values = [
-        signatures.climb(seed, 0, chain, shown[chain][0], height, shown[chain][1])
-        for chain, height in enumerate(row)
-    ]
-    signature = bytes(4) + r + b"".join(values)
-    work = [0] * table_length(p.l, p.s)
+    known = [shown[chain] for chain in range(p.l)]
+    steps = [(chain, low, high) for chain, ((low, _), high) in enumerate(zip(known, row))]
+    values = [signatures.climb(seed, 0, *step, value) for step, (_, value) in zip(steps, known)]
+    signature, work = bytes(4) + r + b"".join(values), [0] * table_length(p.l, p.s)
     if signatures.check(Verifier(p, seed, root, 0, 0), text, signature, work)[0] != 0:
         sys.exit("the forged order is not accepted")
     return tried
@@ -166,8 +160,7 @@ def main(arguments):
     if arguments and (arguments[0] != "--check" or len(arguments) != 2):
         sys.exit("usage: repeated_leaf.py [--check PAGE]")
     hold_to_list()
-    page = Path(arguments[1]).read_text(encoding="utf-8") if arguments else None
-    missing = 0
+    page, missing = Path(arguments[1]).read_text(encoding="utf-8") if arguments else None, 0
     for line in lines():
         print(line)
         if page is not None and line not in page:

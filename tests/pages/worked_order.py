@@ -2,36 +2,23 @@
 counts, the table of the window, a stored key and the worked order in both editions, from the
 implementation in this folder that is independent of the library.
 
-    python3 tests/pages/worked_order.py           compares the page's blocks and that table with these values
+    python3 tests/pages/worked_order.py           compares the page with these values
     python3 tests/pages/worked_order.py --print   prints them, as they must stand in the page
 """
 
 import argparse
 import hashlib
 import itertools
+import re
 import sys
 
 from paths import ROOT, say
 
 from keys import right_frame
 from sheets import right_sheet
-from signatures import (
-    EDITIONS,
-    LEAST_COUNT,
-    Profile,
-    Verifier,
-    address,
-    chain_start,
-    chain_value,
-    check,
-    message_number,
-    node,
-    order_digest,
-    reserved_key,
-    root_of,
-    sign,
-    signature_length,
-)
+from signatures import EDITIONS, LEAST_COUNT, Profile, Verifier, address, chain_start, chain_value
+from signatures import check, message_number, node, order_digest, reserved_key, root_of, sign
+from signatures import signature_length
 from vector_calls import GATE_SHAPE, ORDER, SECRET, SEED, R, hexed, number_hex
 from zarosnik import first_bits, number_bits, row_of, table_length, ways
 
@@ -48,8 +35,8 @@ COUNTS = (3, 3, 3)
 # The worked order's digest gives a number at each of these: the largest count that is refused, the
 # least that is not, one with a bit more, one with a bit less than 128, and the gate's.
 BITS = [(5, 5, 7), (7, 3, 5), (6, 4, 9), (34, 16, 204), GATE_SHAPE]
-# The window: a cabinet's highest leaf and marks, where they are not those that the row above left; an
-# order's leaf; and what it shows. The orders are signed at a profile whose tree has leaves enough.
+# The window: a cabinet's highest leaf and marks, where they are not those that the row above left;
+# an order's leaf; and what it shows. The orders are signed at a profile whose tree has leaves enough.
 WINDOW = "The window"
 WINDOW_PROFILE = Profile(7, 3, 5, 7, 1)
 WINDOW_ROWS = [
@@ -67,10 +54,8 @@ WINDOW_ROWS = [
     ((69, 0), 3, "no mark set: any leaf is taken, and is the highest"),
     ((3, 1 << 31), 2, "mark 31 names no leaf and is a mark; mark 0 is not set"),
 ]
-WINDOW_HEAD = [
-    "| Highest, marks | Leaf | Check | Highest, marks after | Shows |",
-    "|---|--:|--:|---|---|",
-]
+WINDOW_HEAD = ["| Highest, marks | Leaf | Check | Highest, marks after | Shows |"]
+WINDOW_HEAD += ["|---|--:|--:|---|---|"]
 # Bytes of a long value that stand in one line.
 LINE_BYTES = 32
 
@@ -91,10 +76,8 @@ def counts_block():
 
 
 def key_block():
-    p = WORKED
-    yield f"l = {p.l}, w = {p.w}, s = {p.s}, h = {p.h}, edition = {p.edition}"
-    yield f"public seed = {hexed(SEED)}"
-    yield f"secret seed = {hexed(SECRET)}"
+    yield ", ".join(f"{name} = {number}" for name, number in WORKED._asdict().items())
+    yield from [f"public seed = {hexed(SEED)}", f"secret seed = {hexed(SECRET)}"]
     yield f"next leaf = {LEAF}"
 
 
@@ -120,16 +103,25 @@ def state(cabinet):
     return f"{cabinet.highest}, 0x{cabinet.marks:08X}"
 
 
-def window_table():
-    """A row's order is checked by the cabinet as a whole, so that 14 and no other cause refuses it."""
-    p = WINDOW_PROFILE
+def signed(p, leaf=LEAF):
     work, out = [0] * table_length(p.l, p.s), bytes(signature_length(p))
+    return sign(reserved_key(p, SEED, SECRET, leaf), R, ORDER, work, out)[2]
+
+
+def checked(cabinet, signature):
+    """The outcome, the cabinet, the steps."""
+    p = cabinet.profile
+    return check(cabinet, ORDER, signature, [0] * table_length(p.l, p.s))[:3]
+
+
+def window_table():
+    """A row's order is checked by the cabinet as a whole, so that no cause but 14 refuses it."""
+    p = WINDOW_PROFILE
     yield from WINDOW_HEAD
     after = Verifier(p, SEED, root_of(p, SEED, SECRET), 0, 0)
     for words, leaf, shows in WINDOW_ROWS:
         before = after if words is None else after._replace(highest=words[0], marks=words[1])
-        signature = sign(reserved_key(p, SEED, SECRET, leaf), R, ORDER, work, out)[2]
-        outcome, after, _, _ = check(before, ORDER, signature, work)
+        outcome, after, _ = checked(before, signed(p, leaf))
         yield f"| {state(before)} | {leaf} | {outcome} | {state(after)} | {shows} |"
 
 
@@ -187,22 +179,10 @@ def leaf_block():
     yield f"address of the root = {hexed(address(2, 0, 2, 0))}"
 
 
-def signed(p):
-    work, out = [0] * table_length(p.l, p.s), bytes(signature_length(p))
-    return sign(reserved_key(p, SEED, SECRET, LEAF), R, ORDER, work, out)[2]
-
-
-def checked(p, root, signature):
-    work = [0] * table_length(p.l, p.s)
-    return check(Verifier(p, SEED, root, 0, 0), ORDER, signature, work)
-
-
 def verdict_block(root, signature):
-    outcome, after, steps, _ = checked(WORKED, root, signature)
-    yield f"verdict = {outcome}"
-    yield f"chain steps = {steps}"
-    yield f"highest leaf = {after.highest}"
-    yield f"marks = 0x{after.marks:08X}"
+    outcome, after, steps = checked(Verifier(WORKED, SEED, root, 0, 0), signature)
+    yield from [f"verdict = {outcome}", f"chain steps = {steps}"]
+    yield from [f"highest leaf = {after.highest}", f"marks = 0x{after.marks:08X}"]
 
 
 def second_block(root):
@@ -213,7 +193,8 @@ def second_block(root):
     yield f"row = {', '.join(map(str, row_of(p.l, p.w, p.s, worked_number(p, root))))}"
     yield f"line 2 of the sheet = {right_sheet(p, signature, ORDER).decode().splitlines()[1]}"
     for edition in EDITIONS:
-        outcome, _, steps, _ = checked(p._replace(edition=edition), root, signature)
+        cabinet = Verifier(p._replace(edition=edition), SEED, root, 0, 0)
+        outcome, _, steps = checked(cabinet, signature)
         yield f"cabinet of edition {edition}: verdict = {outcome}, chain steps = {steps}"
 
 
@@ -226,9 +207,7 @@ def stored_block():
 def blocks():
     """The page's blocks in order: a section's heading and the lines."""
     root = root_of(WORKED, SEED, SECRET)
-    number = worked_number(WORKED, root)
-    signature = signed(WORKED)
-    sheet = right_sheet(WORKED, signature, ORDER).decode().splitlines()
+    number, signature = worked_number(WORKED, root), signed(WORKED)
     yield "Counts and rows", list(counts_block())
     yield "Digest and message number", list(bits_block(root))
     yield "Stored key", list(stored_block())
@@ -241,7 +220,7 @@ def blocks():
         chain_block(),
         leaf_block(),
         long("signature", signature),
-        sheet,
+        right_sheet(WORKED, signature, ORDER).decode().splitlines(),
         verdict_block(root, signature),
         second_block(root),
     ]:
@@ -251,25 +230,13 @@ def blocks():
 def page_blocks(text):
     """The blocks fenced as `values` under the headings above, and the table of the window."""
     wanted = {heading for heading, _ in blocks()}
-    heading = block = None
-    table = []
-    for line in text.splitlines():
-        if heading == WINDOW and line.startswith("|"):
-            table.append(line)
-            continue
-        if table:
-            yield heading, table
-            table = []
-        if block is not None:
-            if line == "```":
-                yield heading, block
-                block = None
-            else:
-                block.append(line)
-        elif line.startswith("#"):
-            heading = line.lstrip("# ")
-        elif line == "```values" and heading in wanted:
-            block = []
+    for part in re.split(r"^#+ ", text, flags=re.MULTILINE):
+        heading, _, body = part.partition("\n")
+        if heading == WINDOW:
+            yield heading, [line for line in body.splitlines() if line.startswith("|")]
+        elif heading in wanted:
+            for block in re.findall(r"^```values\n(.*?)^```$", body, re.MULTILINE | re.DOTALL):
+                yield heading, block.splitlines()
 
 
 def differences(text):

@@ -22,19 +22,7 @@
 
 /* What is called, in the order in which a desk does it. */
 enum call {
-    READ_KEY,
-    RESERVE,
-    WRITE_KEY,
-    CREATE,
-    WRITE,
-    FSYNC,
-    CLOSE,
-    RENAME,
-    FSYNC_FOLDER,
-    SIGN,
-    WRITE_SHEET,
-    HAND_OUT,
-    CALLS
+    READ_KEY, RESERVE, WRITE_KEY, CREATE, WRITE, FSYNC, CLOSE, RENAME, FSYNC_FOLDER, SIGN, WRITE_SHEET, HAND_OUT
 };
 /* A point is before a call, in the middle of a write, or after a call. */
 enum { BEFORE, WITHIN, AFTER, PARTS };
@@ -60,26 +48,24 @@ static struct {
     unsigned point, turn, met;
 } cut, failure;
 
-static int asked(const char *name, unsigned *point, unsigned *turn)
+static void ask(const char *name, unsigned *point, unsigned *turn)
 {
     const char *text = getenv(name);
-    return text != NULL && sscanf(text, "%u,%u", point, turn) == 2;
+    if (text != NULL && sscanf(text, "%u,%u", point, turn) != 2)
+        exit(99);
 }
 
 __attribute__((constructor)) static void begin(void)
 {
     const char *path = getenv("SEEN");
     int file = path == NULL ? -1 : open(path, O_RDWR);
-    void *memory = mmap(NULL, sizeof *seen, PROT_READ | PROT_WRITE, MAP_SHARED, file, 0);
-    if (memory == MAP_FAILED) {
+    seen = mmap(NULL, sizeof *seen, PROT_READ | PROT_WRITE, MAP_SHARED, file, 0);
+    if (seen == MAP_FAILED) {
         perror("SEEN");
         exit(99);
     }
-    seen = memory;
-    if (!asked("POWER_CUT", &cut.point, &cut.turn))
-        cut.turn = 0;
-    if (!asked("STORE_FAILS", &failure.point, &failure.turn))
-        failure.turn = 0;
+    ask("POWER_CUT", &cut.point, &cut.turn);
+    ask("STORE_FAILS", &failure.point, &failure.turn);
 }
 
 /* Logs a point, and kills the process where that is asked for. */
@@ -104,71 +90,47 @@ static int fails(enum call call)
 #define REAL(name) __real_##name
 #define WRAP(name) __wrap_##name
 
-uint32_t REAL(zarosnik_read_key)(const uint8_t *, size_t, uint32_t *, uint8_t *, uint8_t *, uint32_t *, uint32_t *,
-                                 uint32_t *);
-uint32_t WRAP(zarosnik_read_key)(const uint8_t *frame, size_t len, uint32_t *profile, uint8_t *seed, uint8_t *secret,
-                                 uint32_t *next, uint32_t *mark, uint32_t *line)
-{
-    at(READ_KEY, BEFORE);
-    uint32_t outcome = REAL(zarosnik_read_key)(frame, len, profile, seed, secret, next, mark, line);
-    at(READ_KEY, AFTER);
-    return outcome;
-}
-
-uint32_t REAL(zarosnik_reserve)(uint32_t, uint32_t, uint32_t, uint32_t, uint32_t, uint32_t *, uint32_t *);
-uint32_t WRAP(zarosnik_reserve)(uint32_t l, uint32_t w, uint32_t s, uint32_t h, uint32_t edition, uint32_t *next,
-                                uint32_t *mark)
-{
-    at(RESERVE, BEFORE);
-    uint32_t outcome = REAL(zarosnik_reserve)(l, w, s, h, edition, next, mark);
-    at(RESERVE, AFTER);
-    return outcome;
-}
-
-uint32_t REAL(zarosnik_write_key)(uint32_t, uint32_t, uint32_t, uint32_t, uint32_t, const uint8_t *, const uint8_t *,
-                                  uint32_t, uint32_t, uint8_t *, size_t, size_t *);
-uint32_t WRAP(zarosnik_write_key)(uint32_t l, uint32_t w, uint32_t s, uint32_t h, uint32_t edition, const uint8_t *seed,
-                                  const uint8_t *secret, uint32_t next, uint32_t mark, uint8_t *frame, size_t len,
-                                  size_t *frame_len)
-{
-    at(WRITE_KEY, BEFORE);
-    uint32_t outcome = REAL(zarosnik_write_key)(l, w, s, h, edition, seed, secret, next, mark, frame, len, frame_len);
-    at(WRITE_KEY, AFTER);
-    return outcome;
-}
-
-uint32_t REAL(zarosnik_sign)(uint32_t, uint32_t, uint32_t, uint32_t, uint32_t, const uint8_t *, const uint8_t *,
-                             uint32_t, uint32_t *, const uint8_t *, const uint8_t *, size_t, uint32_t *, size_t,
-                             uint8_t *, size_t);
-uint32_t WRAP(zarosnik_sign)(uint32_t l, uint32_t w, uint32_t s, uint32_t h, uint32_t edition, const uint8_t *seed,
-                             const uint8_t *secret, uint32_t next, uint32_t *mark, const uint8_t *r,
-                             const uint8_t *message, size_t message_len, uint32_t *table, size_t table_len,
-                             uint8_t *signature, size_t signature_len)
-{
-    at(SIGN, BEFORE);
-    uint32_t outcome = REAL(zarosnik_sign)(l, w, s, h, edition, seed, secret, next, mark, r, message, message_len,
-                                           table, table_len, signature, signature_len);
-    if (outcome == ZAROSNIK_GRANTED && seen->signatures < sizeof seen->leaf / sizeof *seen->leaf) {
-        seen->leaf[seen->signatures] = (uint32_t)signature[0] << 24 | (uint32_t)signature[1] << 16
-            | (uint32_t)signature[2] << 8 | signature[3];
-        seen->signatures++;
+/* A call of the library. `ended` is done behind it, where it is granted. */
+#define BETWEEN(call, name, parameters, arguments, ended)    \
+    uint32_t REAL(name) parameters;                          \
+    uint32_t WRAP(name) parameters                           \
+    {                                                        \
+        at(call, BEFORE);                                    \
+        uint32_t outcome = REAL(name) arguments;             \
+        if (outcome == ZAROSNIK_GRANTED)                     \
+            ended;                                           \
+        at(call, AFTER);                                     \
+        return outcome;                                      \
     }
-    at(SIGN, AFTER);
-    return outcome;
+#define PROFILE uint32_t l, uint32_t w, uint32_t s, uint32_t h, uint32_t edition
+#define IN const uint8_t *
+#define NOTHING (void)0
+
+static void log_leaf(IN signature)
+{
+    if (seen->signatures < sizeof seen->leaf / sizeof *seen->leaf)
+        seen->leaf[seen->signatures++] = (uint32_t)signature[0] << 24 | (uint32_t)signature[1] << 16
+            | (uint32_t)signature[2] << 8 | signature[3];
 }
 
-uint32_t REAL(zarosnik_write_sheet)(uint32_t, uint32_t, uint32_t, uint32_t, uint32_t, const uint8_t *, size_t,
-                                    const uint8_t *, size_t, uint8_t *, size_t, size_t *);
-uint32_t WRAP(zarosnik_write_sheet)(uint32_t l, uint32_t w, uint32_t s, uint32_t h, uint32_t edition,
-                                    const uint8_t *signature, size_t signature_len, const uint8_t *message,
-                                    size_t message_len, uint8_t *sheet, size_t len, size_t *sheet_len)
-{
-    at(WRITE_SHEET, BEFORE);
-    uint32_t outcome = REAL(zarosnik_write_sheet)(l, w, s, h, edition, signature, signature_len, message, message_len,
-                                                  sheet, len, sheet_len);
-    at(WRITE_SHEET, AFTER);
-    return outcome;
-}
+BETWEEN(READ_KEY, zarosnik_read_key,
+        (IN frame, size_t len, uint32_t *profile, uint8_t *seed, uint8_t *secret, uint32_t *next, uint32_t *mark,
+         uint32_t *line),
+        (frame, len, profile, seed, secret, next, mark, line), NOTHING)
+BETWEEN(RESERVE, zarosnik_reserve, (PROFILE, uint32_t *next, uint32_t *mark), (l, w, s, h, edition, next, mark), NOTHING)
+BETWEEN(WRITE_KEY, zarosnik_write_key,
+        (PROFILE, IN seed, IN secret, uint32_t next, uint32_t mark, uint8_t *frame, size_t len, size_t *frame_len),
+        (l, w, s, h, edition, seed, secret, next, mark, frame, len, frame_len), NOTHING)
+BETWEEN(SIGN, zarosnik_sign,
+        (PROFILE, IN seed, IN secret, uint32_t next, uint32_t *mark, IN r, IN message, size_t message_len,
+         uint32_t *table, size_t table_len, uint8_t *signature, size_t signature_len),
+        (l, w, s, h, edition, seed, secret, next, mark, r, message, message_len, table, table_len, signature,
+         signature_len),
+        log_leaf(signature))
+BETWEEN(WRITE_SHEET, zarosnik_write_sheet,
+        (PROFILE, IN signature, size_t signature_len, IN message, size_t message_len, uint8_t *sheet, size_t len,
+         size_t *sheet_len),
+        (l, w, s, h, edition, signature, signature_len, message, message_len, sheet, len, sheet_len), NOTHING)
 
 int REAL(openat)(int, const char *, int, ...);
 int WRAP(openat)(int folder, const char *name, int flags, ...)
@@ -195,15 +157,14 @@ ssize_t WRAP(write)(int file, const void *bytes, size_t len)
     at(call, BEFORE);
     if (fails(call))
         return -1;
-    size_t half = len / 2;
+    size_t half = 0;
     if (cut.turn != 0 && cut.point == call * PARTS + WITHIN) {
+        half = len / 2;
         if (REAL(write)(file, bytes, half) != (ssize_t)half)
             exit(99);
         at(call, WITHIN);
         bytes = (const uint8_t *)bytes + half;
         len -= half;
-    } else {
-        half = 0;
     }
     ssize_t count = REAL(write)(file, bytes, len);
     if (call == WRITE && count > 0 && half + (size_t)count <= sizeof written) {

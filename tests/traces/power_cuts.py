@@ -4,14 +4,14 @@ stored, and finds that no leaf signs twice and that a cabinet accepts every orde
     python3 tests/traces/power_cuts.py [--archive FILE]
     python3 tests/traces/power_cuts.py --seed N          draws other keys, times and cuts
 
-The desk is built as it stands; power_cuts.c goes between it and what it calls, and tells after a
-kill how far it had come. It is killed by SIGKILL before and after each call and in the middle of
-each write, and at times that are drawn. A kill leaves all that was written, a power cut only what
-the desk has waited for: so where the two differ, the stored file is, by a draw, put back to the one
-that the disk is sure to have. The file must be a whole frame, the old or the new; the desk starts
-again; its leaves rise; its orders are accepted in the order of signing, with the right steps, by
-the independent implementation and by zarosnik_verify. Where the system refuses a step of storing,
-nothing is signed. The seed fixes what is drawn, not what a kill at a drawn time hits.
+power_cuts.c goes between the desk and what it calls, and tells after a kill how far it had come.
+The desk is killed by SIGKILL before and after each call and in the middle of each write, and at
+times that are drawn. A kill leaves all that was written, a power cut only what the desk has waited
+for: so where the two differ, the stored file is, by a draw, put back to the one that the disk is
+sure to have. The file must be a whole frame, the old or the new; the desk starts again; its leaves
+rise; its orders are accepted in the order of signing, with the right steps, by the independent
+implementation. Where the system refuses a step of storing, nothing is signed. The seed fixes what
+is drawn, not what a kill at a drawn time hits.
 
 A disk that loses what fsync has waited for is not tried. Desks that are wrong in one place must be
 caught: WRONG.
@@ -31,8 +31,7 @@ from paths import ROOT, TESTS, fail, say
 
 import sheets
 import signatures
-from archived import archive_of, archive_parser, shared_object
-from calls import by_name, load
+from archived import archive_of, archive_parser
 from header import INCLUDE, WARNINGS
 from keys import read_key, right_frame
 from signatures import EDITIONS, Profile, SigningKey, Verifier
@@ -44,33 +43,18 @@ SEED = 5
 # Small, so that signing takes milliseconds; the count is 266.
 SHAPE = (7, 3, 5)
 # Kills at drawn times: how many, by the height. With the lower tree most of a desk's time is
-# storing, with the higher one signing. A time is at most that in which it signs so many orders.
+# storing, with the higher one signing. A time is at most that in which it signs so many orders; the
+# texts of such a run are more than that.
 DRAWN = {6: 220, 10: 80}
-ORDERS = 6
-# Texts for such a run: more than a desk comes to sign before it is killed.
-TEXTS = 40
-# Kills at each point, in which order of a run.
-TURNS = (1, 2, 3)
-FAILED = 100
+ORDERS, TEXTS = 6, 40
+# Kills at each point, in which order of a run; and a desk's status where it fails.
+TURNS, FAILED = (1, 2, 3), 100
 
 # As in power_cuts.c: the calls of a desk in order, and the points of each.
-CALLS = [
-    "read key",
-    "reserve",
-    "write key",
-    "create",
-    "write",
-    "fsync",
-    "close",
-    "rename",
-    "fsync of the folder",
-    "sign",
-    "write sheet",
-    "hand out",
-]
+CALLS = "read key,reserve,write key,create,write,fsync,close,rename,fsync of the folder,sign"
+CALLS = f"{CALLS},write sheet,hand out".split(",")
 PARTS = ["before", "within", "after"]
 BEFORE, WITHIN, AFTER = range(3)
-WRITES = ["write", "hand out"]
 STORING = CALLS[CALLS.index("create") : CALLS.index("sign")]
 WRAPPED = "openat write fsync close renameat zarosnik_read_key zarosnik_reserve zarosnik_write_key"
 WRAPPED += " zarosnik_sign zarosnik_write_sheet"
@@ -85,8 +69,13 @@ def told(at):
     return f"{PARTS[at % len(PARTS)]} {CALLS[at // len(PARTS)]}"
 
 
-POINTS = [point(call, part) for call in CALLS for part in (BEFORE, AFTER)]
-POINTS = sorted(POINTS + [point(call, WITHIN) for call in WRITES])
+# A kill in the middle is for writes alone.
+POINTS = [
+    point(call, part)
+    for call in CALLS
+    for part in (BEFORE, WITHIN, AFTER)
+    if part != WITHIN or call in ("write", "hand out")
+]
 # Those of an order, and those that a signature comes of.
 ORDER = [point(call, part) for call in CALLS[1:] for part in (BEFORE, AFTER)]
 ISSUING = [point(call, BEFORE) for call in ("sign", "hand out")]
@@ -118,10 +107,7 @@ WRONG = {
         [(STORE_LINES, ""), (SIGNED_LINE, STORE_LINES + SIGNED_LINE)],
         TWICE,
     ),
-    "signs before it stores": (
-        [(STORE_LINES, ""), (SHEET_LINE, STORE_LINES + SHEET_LINE)],
-        TWICE,
-    ),
+    "signs before it stores": ([(STORE_LINES, ""), (SHEET_LINE, STORE_LINES + SHEET_LINE)], TWICE),
     "restarts with the mark": ([READS], f"{STATUS}: with 21"),
     "restarts with the mark and signs by it": (
         [READS, ("= zarosnik_key_reserve(key)", "= key->mark ? 0 : zarosnik_key_reserve(key)")],
@@ -138,11 +124,10 @@ WRONG = {
 
 
 class Caught(Exception):
-    """What is wrong, one of those above, a colon and more words."""
+    """What is wrong, one of those above, and more words."""
 
-
-def caught(what, more):
-    return Caught(f"{what}: {more}")
+    def __init__(self, what, more):
+        super().__init__(f"{what}: {more}")
 
 
 def build(archive, folder, name, replacements=()):
@@ -177,40 +162,31 @@ def run_desk(program, folder, texts, delay=None, **asked):
     seen.write_bytes(bytes(SEEN.size))
     environment = {**os.environ, "SEEN": str(seen)}
     environment |= {name: f"{at},{turn}" for name, (at, turn) in asked.items()}
-    desk = subprocess.Popen(
-        [str(program), "sign", str(folder)],
-        env=environment,
-        stdin=subprocess.PIPE,
-        stdout=subprocess.PIPE,
-        stderr=subprocess.DEVNULL,
-    )
-    with desk:
+    pipes = {"stdin": subprocess.PIPE, "stdout": subprocess.PIPE, "stderr": subprocess.DEVNULL}
+    given = b"".join(text + b"\n" for text in texts)
+    with subprocess.Popen([str(program), "sign", str(folder)], env=environment, **pipes) as desk:
         if delay is not None:
-            desk.stdin.write(b"".join(text + b"\n" for text in texts))
+            desk.stdin.write(given)
             desk.stdin.flush()
             time.sleep(delay)
             desk.send_signal(signal.SIGKILL)
             out = desk.stdout.read()
         else:
-            out, _ = desk.communicate(b"".join(text + b"\n" for text in texts))
+            out, _ = desk.communicate(given)
     return Run(desk.returncode, out, *seen_of(seen))
 
 
 class Life:
     """A key from its first frame on: what its desks have signed, and the cabinet that takes it."""
 
-    def __init__(self, library, pick, folder, p, next_leaf=0):
-        self.library, self.pick, self.folder = library, pick, folder
+    def __init__(self, pick, folder, p, next_leaf=0):
+        self.pick, self.folder = pick, folder
         self.key = SigningKey(p, pick.randbytes(16), pick.randbytes(16), next_leaf, 0)
         root = signatures.root_of(p, self.key.seed, self.key.secret)
         self.cabinet = Verifier(p, self.key.seed, root, 0, 0)
-        self.words = 0, 0
         self.last, self.orders, self.lost, self.put_back = next_leaf - 1, 0, 0, 0
         folder.mkdir(exist_ok=True)
         self.put(right_frame(self.key))
-
-    def left(self):
-        return 2**self.key.profile.h - self.key.next
 
     def put(self, frame):
         """As if it had been there when the power came back."""
@@ -227,40 +203,31 @@ class Life:
         given = [f"order {self.last + 1}.{i}".encode() for i in range(texts)]
         run = run_desk(program, self.folder, given, **how)
         if failed_at is not None and set(run.points[failed_at + 1 :]) & set(ISSUING):
-            raise caught(UNSTORED, f"behind {told(run.points[failed_at])}")
-        self.judge_leaves(run)
+            raise Caught(UNSTORED, f"behind {told(run.points[failed_at])}")
+        for leaf in run.leaves:
+            if leaf <= self.last:
+                raise Caught(TWICE, f"leaf {leaf}, after {self.last}")
+            self.last = leaf
         if run.status not in status:
-            raise caught(STATUS, f"with {run.status} instead of {status}")
+            raise Caught(STATUS, f"with {run.status} instead of {status}")
         self.judge_stored(run)
         self.judge_orders(run, given)
         return run
 
-    def judge_leaves(self, run):
-        for leaf in run.leaves:
-            if leaf <= self.last:
-                raise caught(TWICE, f"leaf {leaf}, after {self.last}")
-            self.last = leaf
-
-    def stored(self, run):
-        """The frames that the file may be: the one before the last rename and the one behind it, by
-        the leaves that were reserved until then."""
+    def judge_stored(self, run):
+        """The file is the frame before the last rename or the one behind it, by the leaves that
+        were reserved until then; then the power comes back."""
         reserved = old = new = 0
         for at in run.points:
             reserved += at == point("reserve", AFTER)
             new = reserved if at == point("rename", BEFORE) else new
             old = new if at == point("rename", AFTER) else old
-        return self.frame(old), self.frame(new)
-
-    def judge_stored(self, run):
-        """The file is the old frame or the new; then the power comes back."""
-        frames = self.stored(run)
         on_disk = self.frame(0) if run.on_disk is None else run.on_disk
         visible = (self.folder / "key").read_bytes()
-        for content in (visible, on_disk):
-            if read_key(content)[0]:
-                raise caught(FRAME, f"{content}, which is no frame")
-        if visible not in frames:
-            raise caught(FRAME, f"{visible}, not one of {frames}")
+        if read_key(visible)[0] or read_key(on_disk)[0]:
+            raise Caught(FRAME, f"{visible}, {on_disk}, of which one is no frame")
+        if visible not in (self.frame(old), self.frame(new)):
+            raise Caught(FRAME, f"{visible}, not of {old} or {new} leaves")
         if on_disk != visible and self.pick.random() < 0.5:
             self.put(on_disk)
             self.put_back += 1
@@ -271,8 +238,7 @@ class Life:
 
     def judge_orders(self, run, given):
         """What was handed out as a whole; a sheet that was cut off in the middle is none."""
-        p = self.key.profile
-        lines = run.out.splitlines(keepends=True)
+        p, lines = self.key.profile, run.out.splitlines(keepends=True)
         height = p.l + p.h + 5
         whole = [lines[at : at + height] for at in range(0, len(lines), height)]
         if whole and not (len(whole[-1]) == height and whole[-1][-1].endswith(b"\n")):
@@ -280,56 +246,42 @@ class Life:
         for text, sheet, leaf in zip(given, whole, run.leaves):
             self.judge_order(text, b"".join(sheet), leaf)
         if len(whole) > len(run.leaves):
-            raise caught(REFUSED, "more sheets than signatures")
+            raise Caught(REFUSED, "more sheets than signatures")
 
     def judge_order(self, text, sheet, leaf):
         p = self.key.profile
         out = bytes(signatures.signature_length(p)), bytes(200)
         outcome, _, size, signature, message = sheets.read_sheet(p, sheet, *out)
         if outcome or message[:size] != text or int.from_bytes(signature[:4], "big") != leaf:
-            raise caught(REFUSED, f"{sheet}")
-        steps = p.l * (p.w - 1) - p.s
+            raise Caught(REFUSED, f"{sheet}")
         work = [0] * table_length(p.l, p.s)
         outcome, self.cabinet, made, _ = signatures.check(self.cabinet, text, signature, work)
-        if (outcome, made) != (0, steps):
-            raise caught(REFUSED, f"by {outcome} with {made} steps")
-        found = self.verify(text, signature)
-        if found != (0, steps, self.cabinet.highest, self.cabinet.marks):
-            raise caught(REFUSED, f"by zarosnik_verify: {found}")
+        if (outcome, made) != (0, p.l * (p.w - 1) - p.s):
+            raise Caught(REFUSED, f"by {outcome} with {made} steps")
         self.orders += 1
-
-    def verify(self, text, signature):
-        given = {"message": text, "signature": signature, "table": table_length(*SHAPE[::2])}
-        verifier = self.cabinet._replace(highest=self.words[0], marks=self.words[1])
-        outcome, left = by_name(self.library, "verify", verifier, **given)
-        self.words = left["highest_leaf"], left["marks"]
-        return outcome, left["steps"], *self.words
 
 
 class Trial:
     """All runs of one desk."""
 
-    def __init__(self, library, program, folder, pick, right=True):
-        self.library, self.program, self.folder, self.pick = library, program, folder, pick
-        self.lives, self.hits, self.drawn = [], Counter(), Counter()
+    def __init__(self, program, folder, pick, right=True):
+        self.program, self.folder, self.pick = program, folder, pick
+        self.lives, self.drawn = [], Counter()
         # A desk that is wrong may leave out a step, and so end where it was to be killed.
         self.right, self.killed = right, [-signal.SIGKILL] + [0] * (not right)
 
     def life(self, edition, h=10, next_leaf=0):
         folder = self.folder / f"keys{len(self.lives)}"
         p = Profile(*SHAPE, h, edition)
-        self.lives.append(Life(self.library, self.pick, folder, p, next_leaf))
+        self.lives.append(Life(self.pick, folder, p, next_leaf))
         return self.lives[-1]
-
-    def sum_of(self, what):
-        return sum(getattr(life, what) for life in self.lives)
 
     def uncut(self, edition):
         """A desk that nothing happens to takes the steps in their order."""
         life = self.life(edition)
         for orders in (3, 0, 2):
             if life.run(self.program, [0], orders).points != whole_run(orders):
-                raise caught(STEPS, "in a run that was not cut")
+                raise Caught(STEPS, "in a run that was not cut")
 
     def cut_at_points(self, edition):
         """A kill at each point, in the first order of a run and in later ones."""
@@ -340,8 +292,7 @@ class Trial:
                 met = 1 if at < ORDER[0] else turn
                 run = life.run(self.program, self.killed, 4, POWER_CUT=(at, met))
                 if self.right and run.points[-1] != at:
-                    raise caught(STEPS, f"killed {told(run.points[-1])} instead of {told(at)}")
-                self.hits[at] += 1
+                    raise Caught(STEPS, f"killed {told(run.points[-1])} instead of {told(at)}")
 
     def failing_stores(self, edition):
         """The system refuses a step of storing, or the order's handing out: the desk ends."""
@@ -352,7 +303,7 @@ class Trial:
                 failed_at = len(whole_run(turn - 1)) + ORDER.index(at)
                 how = {"failed_at": failed_at, "STORE_FAILS": (at, turn)}
                 if life.run(self.program, [FAILED], 5, **how).points[failed_at] != at:
-                    raise caught(STEPS, f"{told(at)} did not fail")
+                    raise Caught(STEPS, f"{told(at)} did not fail")
 
     def spent(self, edition):
         """A desk near its end signs with the leaves left, then 12; a cut costs the last one too."""
@@ -360,7 +311,7 @@ class Trial:
         life = self.life(edition, 6, end - 3)
         for orders in (3, 0):
             if len(life.run(self.program, [12], 5).leaves) != orders:
-                raise caught(STEPS, "other orders before 12")
+                raise Caught(STEPS, "other orders before 12")
         life = self.life(edition, 6, end - 1)
         life.run(self.program, self.killed, 5, POWER_CUT=(point("sign", BEFORE), 1))
         life.run(self.program, [12], 5)
@@ -377,7 +328,7 @@ class Trial:
             second = subprocess.run(command, stdin=subprocess.DEVNULL, **quiet)
             first.stdin.close()
         if (first.returncode, second.returncode) != (0, FAILED):
-            raise caught(STATUS, f"of two, with {first.returncode} and {second.returncode}")
+            raise Caught(STATUS, f"of two, with {first.returncode} and {second.returncode}")
 
     def cut_at_times(self, h, kills):
         life, texts = self.life(EDITIONS[0], h), [b"order"] * ORDERS
@@ -387,7 +338,7 @@ class Trial:
         lives = {}
         for kill in range(kills):
             edition = EDITIONS[kill % len(EDITIONS)]
-            if edition not in lives or lives[edition].left() <= TEXTS:
+            if edition not in lives or lives[edition].key.next + TEXTS >= 2**h:
                 lives[edition] = self.life(edition, h)
             delay = self.pick.uniform(0, longest)
             run = lives[edition].run(self.program, self.killed, TEXTS, delay=delay)
@@ -399,37 +350,31 @@ class Trial:
             self.cut_at_points(edition)
             self.failing_stores(edition)
 
-    def all(self):
-        for edition in EDITIONS:
-            self.uncut(edition)
-            self.spent(edition)
-        self.alone(EDITIONS[-1])
-        self.at_points()
-        for h, kills in DRAWN.items():
-            self.cut_at_times(h, kills)
 
-
-def try_right(library, archive, folder, pick):
+def try_right(archive, folder, pick):
     """Fails where something is wrong, or where what is to be seen has not come up."""
-    trial = Trial(library, build(archive, folder, "desk"), folder, pick)
-    trial.all()
-    hit = [f"{told(at)} {trial.hits[at]}" for at in POINTS]
-    say(f"killed at each point: {', '.join(hit)}")
+    trial = Trial(build(archive, folder, "desk"), folder, pick)
+    for edition in EDITIONS:
+        trial.uncut(edition)
+        trial.spent(edition)
+    trial.alone(EDITIONS[-1])
+    trial.at_points()
+    for h, kills in DRAWN.items():
+        trial.cut_at_times(h, kills)
     drawn = [f"{where} {count}" for where, count in sorted(trial.drawn.items())]
-    say(f"killed at drawn times: {', '.join(drawn)}")
-    orders, lost, put_back = map(trial.sum_of, ("orders", "lost", "put_back"))
+    say(f"killed at each point, and at drawn times: {', '.join(drawn)}")
+    lives = [(life.orders, life.lost, life.put_back) for life in trial.lives]
+    orders, lost, put_back = map(sum, zip(*lives))
     say(f"{orders} orders accepted, {lost} leaves lost, {put_back} times the older frame was left")
-    if min(trial.hits[at] for at in POINTS) < len(TURNS) * len(EDITIONS):
-        raise caught(STEPS, "a point was not met")
     if len(trial.drawn) < 3 or not (orders and lost and put_back):
-        raise caught(STEPS, "kills must meet several points, cost leaves and leave older frames")
+        raise Caught(STEPS, "kills must meet several points, cost leaves and leave older frames")
 
 
-def try_wrong(library, archive, folder, pick):
+def try_wrong(archive, folder, pick):
     for name, (replacements, expected) in WRONG.items():
         inside = folder / name.replace(" ", "_")
         inside.mkdir()
-        trial = Trial(library, build(archive, inside, "desk", replacements), inside, pick, False)
+        trial = Trial(build(archive, inside, "desk", replacements), inside, pick, False)
         try:
             trial.at_points()
         except Caught as how:
@@ -445,16 +390,14 @@ def main():
     parser.add_argument("--seed", type=int, default=SEED)
     options = parser.parse_args()
     archive = archive_of(options)
-    say(f"seed {options.seed}")
     pick = random.Random(options.seed)
     with tempfile.TemporaryDirectory() as name:
         folder = Path(name)
-        library = load(shared_object(archive, folder))
         try:
-            try_right(library, archive, folder, pick)
+            try_right(archive, folder, pick)
         except Caught as how:
-            fail(how)
-        try_wrong(library, archive, folder, pick)
+            fail(f"seed {options.seed}: {how}")
+        try_wrong(archive, folder, pick)
 
 
 if __name__ == "__main__":
