@@ -1,7 +1,6 @@
-"""Numbers to compare: the kinds of two numbers that must come up, and a draw in which all do.
-
-The highest word that differs decides. The words below it may be alike or have an order of their
-own, which must count for nothing.
+"""Numbers to compare: the kinds of two numbers that must come up, and a draw in which all do. The
+words below the highest that differs may be alike or have an order of their own, which counts for
+nothing.
 """
 
 import itertools

@@ -138,19 +138,14 @@ WITHIN = {"l": [1, 40], "w": [2, 16], "s": ["0", "most"], "h": [0, 10]}
 OUTSIDE = {"l": [0, 41, 255], "w": [0, 1, 17, 255], "s": ["most + 1", "65535"], "h": [11, 255]}
 
 
-def answer_at(place):
-    """To a frame with another digit there; of a mark's last, with one above 1."""
-    if place in SEEDS or place in NEXT:
-        return 0
-    return None if place in HEAD[2:] else 17
-
-
 def read_kinds():
     for edition in EDITIONS:
         end = 84 + 2 * edition
         for place in range(end):
             yield (edition, "no digit at", place), 17
-            yield (edition, "another digit at", place), answer_at(place)
+            # a mark's last digit becomes one above 1
+            answer = 0 if place in (*SEEDS, *NEXT) else None if place in HEAD[2:] else 17
+            yield (edition, "another digit at", place), answer
         yield from (((edition, "cut to", length), 17) for length in range(end + 1))
     for edition in EDITIONS:
         for table, answer in (WRONG, 17), (WITHIN, 0), (OUTSIDE, 17):

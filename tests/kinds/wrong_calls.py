@@ -121,23 +121,17 @@ def wrong_in(operation):
         yield f"{name} changed past its length", leaving(changed_past(name), 0)
 
 
-def refused_wrongly(operation):
-    """The same, with the causes that are laid where it must be seen."""
-    for first, *later in subsets(CAUSES[operation], 2):
-        number = abs(later[0]) if later else first % MOST_NUMBER + 1
-        if number != abs(first):
-            what = f"{number} {'before' if later else 'for'} {first}"
-            yield what, another_number(abs(first), number), (first, *later)
-
-
 def wrong():
     for name, what, rule in RULES:
         yield f"{name} {what}", "compare", leaving(answer_by(name, rule), 0), in_plan
     for operation in TABLE:
         for what, function in wrong_in(operation):
             yield what, operation, function, in_plan
-        for what, function, causes in refused_wrongly(operation):
-            yield what, operation, function, laid(*causes)
+        for first, *later in subsets(CAUSES[operation], 2):
+            number = abs(later[0]) if later else first % MOST_NUMBER + 1
+            what = f"{number} {'before' if later else 'for'} {first}"
+            if number != abs(first):
+                yield what, operation, another_number(abs(first), number), laid(first, *later)
     for operation in EDITED:
         yield "edition 0 taken", operation, edition_by(lambda e: max(e, 1)), named("edition")
         yield "every edition taken", operation, edition_by(lambda e: min(e, 2)), named("edition")

@@ -3,8 +3,6 @@ is reserved or signed with or for what is left. Write key and Read key: with oth
 another rule for a slice, a line, the numbers of a profile or the mark, or with another key given.
 """
 
-import itertools
-
 from keys import NO_KEY, frame_bytes, read_key, right_frame
 from operations import CAUSES
 from sheets import FIRST, hex_line, line_bytes
@@ -20,14 +18,17 @@ def right_counts(h, next_leaf, mark):
     return mark == 1 and 1 <= next_leaf <= 2 ** min(h, 31)
 
 
-# Other marks that count, by the height, the next leaf n and the mark m.
-COUNTING = {
-    "the next leaf is not looked at": lambda h, n, m: m == 1,
-    "no mark counts": lambda h, n, m: False,
+# What else counts: another mark, and a mark with another next leaf; by the height, the next leaf n
+# and the mark m.
+COUNTING_MARKS = {
     "the mark cut to 8 bits": lambda h, n, m: m % 2**8 == 1 and 1 <= n <= 2**h,
     "the mark cut to 16 bits": lambda h, n, m: m % 2**16 == 1 and 1 <= n <= 2**h,
     "the number 2 is a mark": lambda h, n, m: m in (1, 2) and 1 <= n <= 2**h,
     "all ones are a mark": lambda h, n, m: m in (1, MOST_WORD) and 1 <= n <= 2**h,
+}
+COUNTING_LEAVES = {
+    "the next leaf is not looked at": lambda h, n, m: m == 1,
+    "no mark counts": lambda h, n, m: False,
     "a mark counts with next leaf 0": lambda h, n, m: m == 1 and n <= 2**h,
     "a mark counts with next leaf 2^h + 1": lambda h, n, m: m == 1 and 1 <= n <= 2**h + 1,
     "a mark does not count with next leaf 2^h": lambda h, n, m: m == 1 and 1 <= n < 2**h,
@@ -35,6 +36,7 @@ COUNTING = {
     "the next leaf cut to 8 bits": lambda h, n, m: m == 1 and 1 <= n % 2**8 <= 2**h,
     "the next leaf cut to 16 bits": lambda h, n, m: m == 1 and 1 <= n % 2**16 <= 2**h,
 }
+COUNTING = COUNTING_MARKS | COUNTING_LEAVES
 
 
 @way
@@ -210,14 +212,14 @@ def read_by(line_of, right, given, key_of=lambda key, frame: key):
     return 17 if key is None else 0
 
 
-def bytes_of(frame):
-    """Of a whole line of upper-case digits, or None."""
-    return line_bytes(frame[:-1]) if frame.endswith(b"\n") else None
-
-
 def by_bytes(change):
-    """Other bytes are taken, as these are."""
-    return read_by(lambda f: hex_line(change(data)) if (data := bytes_of(f)) else f)
+    """Of a whole line of upper-case digits other bytes are taken, as these are."""
+
+    def line_of(frame):
+        data = line_bytes(frame[:-1]) if frame.endswith(b"\n") else None
+        return hex_line(change(data)) if data else frame
+
+    return read_by(line_of)
 
 
 def also(place, taken):
@@ -254,14 +256,8 @@ def marked(rule):
     return given_by(lambda k, f: k._replace(mark=int(rule(k.profile.h, k.next, mark_in(f)))))
 
 
-def differs(counts):
-    """With a mark that a frame may have, 00 or 01."""
-    leaves = itertools.product((0, 1, 2, 3, 2**16 + 1), (0, 1))
-    return any(counts(1, *leaf) != right_counts(1, *leaf) for leaf in leaves)
-
-
 READS = {NOTHING: read_by(as_it_is)}
-READS |= {what: marked(counts) for what, counts in COUNTING.items() if differs(counts)}
+READS |= {what: marked(counts) for what, counts in COUNTING_LEAVES.items()}
 READS |= {
     "something behind it taken": read_by(lambda f: b"".join(f.partition(b"\n")[:2])),
     "no 0A taken": read_by(lambda f: f if f.endswith(b"\n") else f + b"\n"),

@@ -54,18 +54,6 @@ def sign_by(judged, right, given):
     return refused
 
 
-def judge(given, judged):
-    """The refusal of a signature by a rule, or 0, and the steps."""
-    p, signature, leaf = given.profile(), given.content("signature"), given.leaf()
-    seed, root, text = map(given.content, ("public_seed", "root", "message"))
-    refused, number = judged(given, p, signature[4:20], seed, root, leaf, text)
-    if refused:
-        return refused, 0
-    end = 20 + 16 * p.l
-    key, steps = recovered(p, seed, leaf, number, signature[20:end])
-    return 0 if climb_path(seed, leaf, key, pieces(signature[end:])) == root else 15, steps
-
-
 @way
 def verify_by(*rules_and_call):
     """By several rules, what the first says that takes the order, else the last."""
@@ -75,11 +63,17 @@ def verify_by(*rules_and_call):
     if outcome not in JUDGED:
         return outcome
     put_window(given, window)
+    p, signature, leaf = given.profile(), given.content("signature"), given.leaf()
+    seed, root, text = map(given.content, ("public_seed", "root", "message"))
     for judged in rules:
-        refused, steps = judge(given, judged)
+        steps, end = 0, 20 + 16 * p.l
+        refused, number = judged(given, p, signature[4:20], seed, root, leaf, text)
+        if not refused:
+            key, steps = recovered(p, seed, leaf, number, signature[20:end])
+            refused = 0 if climb_path(seed, leaf, key, pieces(signature[end:])) == root else 15
         given.put_state(steps=steps)
         if not refused:
-            put_window(given, with_leaf(*window, given.leaf()))
+            put_window(given, with_leaf(*window, leaf))
             break
     return refused
 
@@ -157,14 +151,9 @@ DIGESTS = {what: taken_of(parts_of) for what, parts_of in PARTS.items()} | {
 }
 
 
-def bits_seen(case):
-    """At each number of bits, and at counts far above 2^128."""
-    return granted(case) or named("edge", "earlier")(case)
-
-
-def digests_seen(case):
-    """Where orders are granted, or were signed in the other edition."""
-    return granted(case) or named("crossed", "high_leaf")(case)
+def seen_by(case):
+    """At each number of bits, at counts far above 2^128, and of the other edition."""
+    return granted(case) or named("edge", "earlier", "crossed", "high_leaf")(case)
 
 
 def wrong():
@@ -176,17 +165,17 @@ def wrong():
         made = BY_RULE[operation]
         yield NOTHING, operation, made(rule()), anywhere
         for what, number_of in NUMBERS.items():
-            yield what, operation, made(rule(number_of=number_of)), bits_seen
+            yield what, operation, made(rule(number_of=number_of)), seen_by
         for what, least in limits.items():
             yield what, operation, made(rule(least=least)), given_just("edge", *low)
         for what, digest_of in DIGESTS.items():
-            yield f"digest: {what}", operation, made(rule(digest_of=digest_of)), digests_seen
+            yield f"digest: {what}", operation, made(rule(digest_of=digest_of)), seen_by
         yield "no table after 19", operation, restored("table", [19]), laid(19)
     steps_told = leaving(lambda given: given.put_state(steps=given["l"]), 19)
     yield "steps told after 19", "verify", steps_told, laid(19)
     either = verify_by(rule(), rule(number_of=earlier_number))
     yield "either rule", "verify", either, named("earlier")
     either = verify_by(rule(), rule(digest_of=as_edition(other)))
-    yield "digest: either edition's", "verify", either, digests_seen
+    yield "digest: either edition's", "verify", either, seen_by
     highest = verify_by(rule(digest_of=of_highest_leaf))
-    yield "digest: the cabinet's highest leaf", "verify", highest, digests_seen
+    yield "digest: the cabinet's highest leaf", "verify", highest, seen_by

@@ -28,10 +28,6 @@ def siblings_first(lines):
     return lines[:4] + falling + lines[-1:]
 
 
-def text_refused(size):
-    return refused("sheet", 16, lambda given: given.size("message") == size)
-
-
 MADE = WRITER.wrong() | {
     "no first line": by_lines(lambda lines: lines[1:]),
     "l and w exchanged": each(1, lambda f: f[:1] + f[2:0:-1] + f[3:]),
@@ -48,8 +44,6 @@ MADE = WRITER.wrong() | {
     "siblings before values": by_lines(siblings_first),
     "04 before siblings": each(5, lambda f: b"\4" + f[1:]),
     "the text's last byte missing": each(6, lambda f: f[:-1]),
-    "a text of 1 byte refused": text_refused(1),
-    "a text of 200 bytes refused": text_refused(200),
     "11 for a leaf that the tree has not": refused("sheet", 11, lambda g: g.leaf() >= 1 << g["h"]),
 }
 
