@@ -191,13 +191,6 @@ WRITES |= {
 # Read key.
 
 
-def put_key(given, key, line):
-    given.words("profile")[:] = list(key.profile)
-    given.put("public_seed", key.seed)
-    given.put("secret_seed", key.secret)
-    given.put_state(next_leaf=key.next, mark=key.mark, line=line)
-
-
 @way
 def read_by(line_of, right, given, key_of=lambda key, frame: key):
     """Another line is taken: a rule gives the right one from it, or what it is given. And another
@@ -206,10 +199,14 @@ def read_by(line_of, right, given, key_of=lambda key, frame: key):
     if given.size("frame") > MOST["frame"]:
         return outcome
     frame = given.content("frame")
-    wrong, _, key = read_key(line_of(frame))
-    key = None if wrong else key_of(key, frame)
-    put_key(given, *((NO_KEY, 1) if key is None else (key, 0)))
-    return 17 if key is None else 0
+    refusal, _, key = read_key(line_of(frame))
+    key = None if refusal else key_of(key, frame)
+    p, seed, secret, next_leaf, mark = key or NO_KEY
+    given.words("profile")[:] = list(p)
+    given.put("public_seed", seed)
+    given.put("secret_seed", secret)
+    given.put_state(next_leaf=next_leaf, mark=mark, line=key is None)
+    return 0 if key else 17
 
 
 def by_bytes(change):
@@ -229,34 +226,26 @@ def also(place, taken):
     )
 
 
-def as_it_is(frame):
-    return frame
-
-
-def given_by(change):
+def giving(change):
     """Another key is given, or none, by the key and the frame."""
-    return read_by(as_it_is, key_of=change)
+    return read_by(lambda frame: frame, key_of=change)
 
 
 def strictly(holds):
     """Keys that are right, refused unless this holds."""
-    return given_by(lambda key, frame: key if holds(key.profile, key.next, key.mark) else None)
-
-
-def given_as(change):
-    return given_by(lambda key, frame: change(key))
+    return giving(lambda key, frame: key if holds(key.profile, key.next, key.mark) else None)
 
 
 def by_profile(change):
-    return given_as(lambda key: key._replace(profile=change(key.profile)))
+    return giving(lambda key, frame: key._replace(profile=change(key.profile)))
 
 
 def marked(rule):
     """Another mark, by the height, the next leaf and the mark that stands there."""
-    return given_by(lambda k, f: k._replace(mark=int(rule(k.profile.h, k.next, mark_in(f)))))
+    return giving(lambda k, f: k._replace(mark=int(rule(k.profile.h, k.next, mark_in(f)))))
 
 
-READS = {NOTHING: read_by(as_it_is)}
+READS = {NOTHING: giving(lambda key, frame: key)}
 READS |= {what: marked(counts) for what, counts in COUNTING_LEAVES.items()}
 READS |= {
     "something behind it taken": read_by(lambda f: b"".join(f.partition(b"\n")[:2])),
@@ -291,12 +280,12 @@ READS |= {
     "s read least byte first": by_bytes(lambda d: exchanged(d, 4, 5, 6)),
     "edition 1 for 2": by_profile(lambda p: p._replace(edition=1)),
     "edition 2 for 1": by_profile(lambda p: p._replace(edition=2)),
-    "the seeds exchanged": given_as(lambda k: k._replace(seed=k.secret, secret=k.seed)),
+    "the seeds exchanged": giving(lambda k, f: k._replace(seed=k.secret, secret=k.seed)),
     "the next leaf's least byte first": by_bytes(lambda d: d[:38] + d[41:37:-1] + d[42:]),
-    "two bytes of the next leaf": given_as(lambda k: k._replace(next=k.next % 2**16)),
-    "the leaf reserved for the next leaf": given_as(lambda k: k._replace(next=k.next - k.mark)),
-    "the next leaf cut to 2^h": given_as(lambda k: k._replace(next=min(k.next, 2**k.profile.h))),
-    "always a mark": given_as(lambda k: k._replace(mark=1)),
+    "two bytes of the next leaf": giving(lambda k, f: k._replace(next=k.next % 2**16)),
+    "the leaf reserved for the next leaf": giving(lambda k, f: k._replace(next=k.next - k.mark)),
+    "the next leaf cut to 2^h": giving(lambda k, f: k._replace(next=min(k.next, 2**k.profile.h))),
+    "always a mark": giving(lambda k, f: k._replace(mark=1)),
 }
 
 
