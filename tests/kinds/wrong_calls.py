@@ -133,7 +133,8 @@ def wrong():
             if number != abs(first):
                 yield what, operation, another_number(abs(first), number), laid(first, *later)
     for operation in EDITED:
-        yield "edition 0 taken", operation, edition_by(lambda e: max(e, 1)), named("edition")
-        yield "every edition taken", operation, edition_by(lambda e: min(e, 2)), named("edition")
+        zero, above = edition_by(lambda e: max(e, 1)), edition_by(lambda e: min(e, 2))
+        yield "edition 0 taken as 1", operation, zero, named("edition")
+        yield "every edition above 2 taken", operation, above, named("edition")
     for operation, name, _ in FAR:
         yield f"length of {name} cut to 32 bits", operation, cut(f"{name}_len", 32), in_plan
