@@ -1,7 +1,7 @@
-"""What every operation must come to: granted; refused for each cause and for each two; with numbers of
-the profile that narrower parameters would cut to right ones or that are 2^31 or 2^32 - 1; and, with
-each answer, with something past the named length of each slice and in each state, where alone it is
-seen to stay.
+"""What every operation must come to: granted; refused for each cause and for each two; with numbers
+of the profile that narrower parameters would cut to right ones or that are 2^31 or 2^32 - 1; and,
+with each answer, with something past the named length of each slice and in each state, where alone
+it is seen to stay.
 """
 
 import itertools

@@ -1,7 +1,6 @@
-"""Numbers to compare: the kinds of two numbers that must come up, and a draw in which all do.
-
-The highest word that differs decides. The words below it may be alike or have an order of their
-own, which must count for nothing.
+"""Numbers to compare: the kinds of two numbers that must come up, and a draw in which all do. The
+words below the highest that differs may be alike or have an order of their own, which counts for
+nothing.
 """
 
 import itertools
@@ -10,32 +9,24 @@ from zarosnik import EQUAL, GREATER, LESS, WORDS, compare
 
 HIGHEST = 0xFFFFFFFF
 EDGES = [0, 1, 0x7FFFFFFF, 0x80000000, HIGHEST - 1, HIGHEST]
-
-
 OPERATIONS = ["compare"]
 
 
-def kind(first, second):
+def kinds_of(call):
     """The order, the pairs looked at, and the order that the words below these have."""
+    first, second = call.given["first"], call.given["second"]
     _, order, looked = compare(first, second)
     below = (1 << 32 * (WORDS - looked)) - 1
-    return order, looked, compare(first & below, second & below)[1]
-
-
-KINDS = [(order, WORDS, EQUAL) for order in (LESS, EQUAL, GREATER)]
-KINDS += itertools.product((LESS, GREATER), range(1, WORDS), (LESS, EQUAL, GREATER))
-
-
-def kinds_of(call):
-    yield kind(call.given["first"], call.given["second"])
+    yield order, looked, compare(first & below, second & below)[1]
 
 
 def wanted():
-    return KINDS
+    yield from ((order, WORDS, EQUAL) for order in (LESS, EQUAL, GREATER))
+    yield from itertools.product((LESS, GREATER), range(1, WORDS), (LESS, EQUAL, GREATER))
 
 
 def told(kind):
-    return "compare comes to order {} after {} pairs, with order {} in the words below".format(*kind)
+    return "compare comes to {} after {} pairs, with order {} in the words below".format(*kind)
 
 
 def number_of_words(words):

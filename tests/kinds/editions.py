@@ -1,6 +1,6 @@
 """Editions of a profile: the numbers that must come up as one, each with its answer where nothing
-else may refuse the call; orders that were signed in the other edition; and what may stand behind s in
-frame 01 of a sheet.
+else may refuse the call; orders that were signed in the other edition; and what may stand behind s
+in frame 01 of a sheet.
 """
 
 import itertools
@@ -59,7 +59,8 @@ def last_told(edition, last):
 def taken_by_other(call):
     """Whether a fresh verifier of the other edition takes the order of a check."""
     p, given = call.profile(), call.given
-    verifier = Verifier(p._replace(edition=other(p.edition)), given["public_seed"], given["root"], 0, 0)
+    p = p._replace(edition=other(p.edition))
+    verifier = Verifier(p, given["public_seed"], given["root"], 0, 0)
     work = [0] * table_length(p.l, p.s)
     return check(verifier, given["message"], given["signature"], work)[0] == 0
 

@@ -3,9 +3,8 @@ order's number, and the shapes at which orders must be signed and checked. Besid
 reserved, sign and are taken under trees of each height, and orders of earlier days are taken where
 numbers have 128 bits as then, and refused where they have fewer.
 
-From 2^8 on no count is a power of two, and none but 255 is next to one. So what must come up on
-both sides of each power is the nearest count there is: the nearest above 2^b gives b bits, the
-nearest below one bit less, and 255, the nearest below 2^8, is refused by 19.
+From 2^8 on no count is a power of two. So what must come up on both sides of each power is the
+nearest count there is: the one above 2^b gives b bits, the one below a bit less, 255 is refused.
 """
 
 import itertools
@@ -37,16 +36,13 @@ def by_bits():
     """The shapes that sign, by the bits of an order's number."""
     found = defaultdict(list)
     for count, shapes in by_count().items():
-        if count >= LEAST_COUNT:
-            found[number_bits(count)] += shapes
+        found[number_bits(count) if count >= LEAST_COUNT else None] += shapes
     return dict(found)
 
 
-@cache
 def scant():
     """The shapes that sign nothing."""
-    counted = by_count().items()
-    return [shape for count, shapes in counted if count < LEAST_COUNT for shape in shapes]
+    return by_bits()[None]
 
 
 def nearly_signing():

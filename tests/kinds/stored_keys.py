@@ -7,17 +7,16 @@ them, spelt in another way, and with a number outside each limit.
 
 import itertools
 
-import editions
-from memory import Memory
+from editions import LAST, MOST_WORD, RIGHT_LAST
 from keys import frame_bytes, frame_length, right_frame
+from memory import Memory
 from sheets import FIRST, hex_line
 from signatures import EDITIONS, Profile, SigningKey
 
-MOST_WORD = 2**32 - 1
 # A mark, and numbers that are none. One of them would be a mark if it were cut.
 MARK, MARKS = 1, [0, 1, 2, 7, 2**16 + 1, MOST_WORD]
-# The next leaf by the height of the tree; whether a mark counts with it; and whether no leaf is left
-# to reserve.
+# The next leaf by the height of the tree; whether a mark counts with it; and whether no leaf is
+# left to reserve.
 NEXT_LEAVES = {
     "0": (lambda h: 0, False, False),
     "1": (lambda h: 1, True, False),
@@ -32,6 +31,10 @@ TREES = {"more leaves": list(NEXT_LEAVES)}
 TREES["one leaf"] = [name for name in NEXT_LEAVES if name not in ("1", "2^h - 1")]
 PLACES = [(tree, name) for tree, names in TREES.items() for name in names]
 COUNTERS = [(e, *place, mark) for e, place, mark in itertools.product(EDITIONS, PLACES, MARKS)]
+OPERATIONS = ["reserve", "sign", "write_key", "read_key"]
+# A stored key has 00 or 01 for the mark.
+READ_COUNTERS = [("read_key", kind) for kind in COUNTERS if kind[3] in (0, 1)]
+WANTED = [*itertools.product(OPERATIONS[:-1], COUNTERS), *READ_COUNTERS]
 
 
 def counter_kinds(p, next_leaf, mark):
@@ -40,33 +43,19 @@ def counter_kinds(p, next_leaf, mark):
     return {(p.edition, tree, name, mark) for name in named}
 
 
-def counts_with(name, mark):
-    return mark == MARK and NEXT_LEAVES[name][1]
-
-
 def answer_to(operation, kind):
     """Of Write key and Read key the mark that is written, or read."""
     _, _, name, mark = kind
-    counts, spent = counts_with(name, mark), NEXT_LEAVES[name][2]
+    _, counts, spent = NEXT_LEAVES[name]
+    counts = counts and mark == MARK
     if operation == "reserve":
         return 21 if counts else 12 if spent else 0
-    if operation == "sign":
-        return 0 if counts else 20
-    return int(counts)
-
-
-def counters_of(operation):
-    """A stored key has 00 or 01 for the mark."""
-    return [kind for kind in COUNTERS if operation != "read_key" or kind[3] in (0, 1)]
+    return int(counts) if operation != "sign" else 0 if counts else 20
 
 
 def counter_told(kind):
     edition, tree, name, mark = kind
     return f"next leaf {name}, mark {mark} in edition {edition}, {tree}"
-
-
-OPERATIONS = ["reserve", "sign", "write_key", "read_key"]
-WANTED = [(name, kind) for name in OPERATIONS for kind in counters_of(name)]
 
 
 def drawn_height(pick, tree, most=10):
@@ -116,44 +105,9 @@ SLICED = list(itertools.product(EDITIONS, SLICES))
 # The digits of a frame, two a byte: kind, l, w, h and s; the seeds; the next leaf; the mark; the
 # last byte of edition 2.
 HEAD, SEEDS, NEXT, MARK_DIGITS = range(12), range(12, 76), range(76, 84), range(84, 86)
-
-
-def digits(edition):
-    return range(86 if edition == 1 else 88)
-
-
-def answer_at(place):
-    """To a frame with another digit there; of a mark's last, with one above 1."""
-    if place in SEEDS or place in NEXT:
-        return 0
-    return None if place in HEAD[2:] else 17
-
-
-def placed_kinds():
-    for edition in EDITIONS:
-        for place in digits(edition):
-            yield (edition, "no digit at", place), 17
-            yield (edition, "another digit at", place), answer_at(place)
-        for length in range(len(digits(edition)) + 1):
-            yield (edition, "cut to", length), 17
-
-
-BEHIND = {
-    "a zero byte": b"\0",
-    "0A": b"\n",
-    "0D": b"\r",
-    "0D 0A": b"\r\n",
-    "a space": b" ",
-    "a digit": b"0",
-    "two digits": b"02",
-    "FF": b"\xff",
-    "a sheet's first line": hex_line(FIRST),
-    "a frame that is right": None,
-}
-# Bytes for the kind, for the mark, and digits behind it. Of the last two are right.
-KINDS = ["00", "01", "06", "08", "17", "70", "87", "FF"]
-WRONG_MARKS = ["02", "03", "10", "11", "80", "81", "FF"]
-LASTS = {last: 0 if last in editions.RIGHT_LAST.values() else 17 for last in editions.LAST}
+BEHIND = {"a zero byte": b"\0", "0A": b"\n", "0D": b"\r", "0D 0A": b"\r\n", "a space": b" "}
+BEHIND |= {"a digit": b"0", "two digits": b"02", "FF": b"\xff"}
+BEHIND |= {"a sheet's first line": hex_line(FIRST), "a frame that is right": None}
 # The whole line in another way.
 SPELT = {
     "in lower case": lambda line: line.lower(),
@@ -169,39 +123,44 @@ SPELT = {
     "with a digit less": lambda line: line[:-2] + b"\n",
     "with a digit more": lambda line: line[:-1] + b"0\n",
     "without its kind": lambda line: line[2:],
-    "without the mark": lambda line: line[: MARK_DIGITS[0]] + line[MARK_DIGITS[-1] + 1 :],
-    "without the next leaf": lambda line: line[: NEXT[0]] + line[NEXT[-1] + 1 :],
+    "without the mark": lambda line: line[:84] + line[86:],
+    "without the next leaf": lambda line: line[:76] + line[84:],
     "with s in one byte": lambda line: line[:8] + line[10:],
     "with the secret seed left out": lambda line: line[:44] + line[76:],
     "with 0A in the middle": lambda line: line[:44] + b"\n" + line[44:],
 }
+# With bytes for the kind and for the mark.
+WRONG = {"behind it": BEHIND, "spelt": SPELT}
+WRONG["kind"] = ["00", "01", "06", "08", "17", "70", "87", "FF"]
+WRONG["mark"] = ["02", "03", "10", "11", "80", "81", "FF"]
 # Numbers of a profile at their limits, and outside: with what stands in the frame.
 WITHIN = {"l": [1, 40], "w": [2, 16], "s": ["0", "most"], "h": [0, 10]}
 OUTSIDE = {"l": [0, 41, 255], "w": [0, 1, 17, 255], "s": ["most + 1", "65535"], "h": [11, 255]}
 
 
-def other_kinds():
+def read_kinds():
     for edition in EDITIONS:
-        for what in BEHIND:
-            yield (edition, "behind it", what), 17
-        for what in SPELT:
-            yield (edition, "spelt", what), 17
-        for what in KINDS:
-            yield (edition, "kind", what), 17
-        for what in WRONG_MARKS:
-            yield (edition, "mark", what), 17
-        for limits, answer in ((WITHIN, 0), (OUTSIDE, 17)):
-            for name, numbers in limits.items():
-                yield from (((edition, name, number), answer) for number in numbers)
-    yield from (((None, "behind the mark", last), answer) for last, answer in LASTS.items())
+        end = 84 + 2 * edition
+        for place in range(end):
+            yield (edition, "no digit at", place), 17
+            # a mark's last digit becomes one above 1
+            answer = 0 if place in (*SEEDS, *NEXT) else None if place in HEAD[2:] else 17
+            yield (edition, "another digit at", place), answer
+        yield from (((edition, "cut to", length), 17) for length in range(end + 1))
+    for edition in EDITIONS:
+        for table, answer in (WRONG, 17), (WITHIN, 0), (OUTSIDE, 17):
+            for what, details in table.items():
+                yield from (((edition, what, detail), answer) for detail in details)
+    for last in LAST:
+        yield (None, "behind the mark", last), 0 if last in RIGHT_LAST.values() else 17
 
 
-READ_KINDS = dict([*placed_kinds(), *other_kinds()])
+READ_KINDS = dict(read_kinds())
 
 
 def mark_in(frame):
     """The mark that stands in a frame that is right."""
-    return int(frame[MARK_DIGITS[0] : MARK_DIGITS[-1] + 1])
+    return int(frame[84:86])
 
 
 # The outcomes with which the next leaf and the mark have been looked at.
@@ -209,13 +168,12 @@ LOOKED_AT = {"reserve": (0, 21, 12), "sign": (0, 20), "write_key": (0,), "read_k
 
 
 def counter_in(call):
-    """The profile, the next leaf and the mark of a call, and its answer: of Write key and Read key
-    the mark that is written, or read."""
-    operation, given, left = call.operation, call.given, call.left
-    if operation == "read_key":
+    """The profile, the next leaf and the mark of a call, and its answer, as above."""
+    given, left = call.given, call.left
+    if call.operation == "read_key":
         counter = left["next_leaf"], mark_in(given["frame"])
         return Profile(*left["profile"]), *counter, left["mark"]
-    answer = mark_in(left["frame"]) if operation == "write_key" else call.outcome
+    answer = mark_in(left["frame"]) if call.operation == "write_key" else call.outcome
     return call.profile(), given["next_leaf"], given["mark"], answer
 
 
@@ -249,9 +207,9 @@ def wanted_but_read():
 
 def wanted():
     yield from wanted_but_read()
-    for kind in counters_of("read_key"):
+    for operation, kind in READ_COUNTERS:
         # a written key has a mark that counts, or none
-        if answer_to("read_key", kind) == kind[3]:
+        if answer_to(operation, kind) == kind[3]:
             yield "a written key is read", counter_told(kind), 0
     yield from read_wanted(READ_KINDS)
 
@@ -267,10 +225,6 @@ def told_frame(kind):
     return f"{what}{equal} {shown}" + (f", edition {edition}" if edition else "")
 
 
-def with_digits(line, place, shown):
-    return line[:place] + shown + line[place + len(shown) :]
-
-
 def not_digits(pick, digit):
     """Neighbours of the digits, lower case, line ends, the digit with a bit more, and others."""
     odd = [bytes([byte]) for byte in b"/:@G`ag \x00\n\r\x8a\xff\x10"]
@@ -283,8 +237,7 @@ def with_limit(pick, p, name, number):
     """The profile with a number at a limit, or outside it, and all others within theirs."""
     if name == "s":
         most = p.l * (p.w - 1)
-        numbers = {"0": 0, "most": most, "most + 1": most + 1, "65535": 65535}
-        return p._replace(s=numbers[number])
+        return p._replace(s={"0": 0, "most": most, "most + 1": most + 1, "65535": 65535}[number])
     p = p._replace(**{name: number})
     return p._replace(s=pick.choice([0, max(0, p.l * (p.w - 1))]))
 
@@ -293,28 +246,25 @@ def drawn_frame(pick, key, kind):
     """A stored key of this kind, as memory. Behind one that was cut stands the rest."""
     edition, what, detail = kind
     p = key.profile._replace(edition=edition or 1)
-    key = key._replace(profile=p)
-    line = right_frame(key)
-    if what == "cut to":
-        return Memory(line[:detail], behind=line[detail:])
-    if what == "no digit at":
-        return Memory(with_digits(line, detail, not_digits(pick, line[detail : detail + 1])))
-    if what == "another digit at":
-        above = 2 if detail == MARK_DIGITS[-1] else 0
-        digit = pick.choice([d for d in b"0123456789ABCDEF"[above:] if d != line[detail]])
-        return Memory(with_digits(line, detail, bytes([digit])))
+    line = right_frame(key._replace(profile=p))
+    if what in WITHIN:
+        return Memory(hex_line(frame_bytes(with_limit(pick, p, what, detail), *key[1:4], b"\0")))
+    if what in ("cut to", "spelt"):
+        changed = line[:detail] if what == "cut to" else SPELT[detail](line)
+        return Memory(changed, behind=line[len(changed) :] if line.startswith(changed) else b"")
     if what == "behind it":
         return Memory(line + (BEHIND[detail] or line))
-    if what == "spelt":
-        changed = SPELT[detail](line)
-        return Memory(changed, behind=line[len(changed) :] if line.startswith(changed) else b"")
-    if what == "kind":
-        return Memory(with_digits(line, 0, detail.encode()))
-    if what == "mark":
-        return Memory(with_digits(line, MARK_DIGITS[0], detail.encode()))
     if what == "behind the mark":
         return Memory(line[:-1] + detail.encode() + b"\n")
-    return Memory(hex_line(frame_bytes(with_limit(pick, p, what, detail), *key[1:4], b"\0")))
+    place = {"kind": 0, "mark": MARK_DIGITS[0]}.get(what, detail)
+    if what == "no digit at":
+        shown = not_digits(pick, line[place : place + 1])
+    elif what == "another digit at":
+        digits = b"0123456789ABCDEF"[2 if place == MARK_DIGITS[-1] else 0 :]
+        shown = bytes([pick.choice([digit for digit in digits if digit != line[place]])])
+    else:
+        shown = detail.encode()
+    return Memory(line[:place] + shown + line[place + len(shown) :])
 
 
 def marked_frame(key):

@@ -30,21 +30,23 @@ STANDS = {
     "not above, marked": (14, each(0, WINDOW)),
     "too far below": (14, each(WINDOW, FAR) + [FAR_OFF]),
 }
+# With their answers, by the highest leaf and the marks. Those up to the highest leaf's number name
+# a leaf.
 ODD = {
-    "fresh": [0],
-    "all marks": [0, 14],
-    "mark 31 alone": [0, 14],
-    "mark 0 not set, another set": [0, 14],
-    "a mark that names no leaf": [0, 14],
-    "no mark but such that name no leaf": [0],
-    "the highest is 2^32 - 1, no mark set": [0],
-    "the highest is 2^32 - 1, a mark set": [14],
+    "fresh": ([0], lambda h, m: (h, m) == (0, 0)),
+    "all marks": ([0, 14], lambda h, m: m == ALL_MARKS),
+    "mark 31 alone": ([0, 14], lambda h, m: m == LAST_MARK),
+    "mark 0 not set, another set": ([0, 14], lambda h, m: m and m % 2 == 0),
+    "a mark that names no leaf": ([0, 14], lambda h, m: m >> h + 1),
+    "no mark but such that name no leaf": ([0], lambda h, m: m and not m % 2 ** min(h + 1, WINDOW)),
+    "the highest is 2^32 - 1, no mark set": ([0], lambda h, m: h == MOST_WORD and not m),
+    "the highest is 2^32 - 1, a mark set": ([14], lambda h, m: h == MOST_WORD and m),
 }
 CUTS = {f"the highest would take it if cut to {bits} bits": bits for bits in (8, 16, 31)}
 OPERATIONS = ["verify"]
 # Pairs: a kind and an answer.
 KINDS = [((name, span), answer) for name, (answer, spans) in STANDS.items() for span in spans]
-KINDS += [((name, None), answer) for name, answers in ODD.items() for answer in answers]
+KINDS += [((name, None), answer) for name, (answers, _) in ODD.items() for answer in answers]
 KINDS += [((name, None), 14) for name in CUTS]
 
 
@@ -62,25 +64,13 @@ def stand(highest, marks, leaf):
 
 
 def odd(highest, marks):
-    """Marks 0 up to the highest leaf's number name a leaf."""
-    naming = marks % 2 ** min(highest + 1, WINDOW)
-    found = {
-        "fresh": (highest, marks) == (0, 0),
-        "all marks": marks == ALL_MARKS,
-        "mark 31 alone": marks == LAST_MARK,
-        "mark 0 not set, another set": marks and marks % 2 == 0,
-        "a mark that names no leaf": marks != naming,
-        "no mark but such that name no leaf": marks and not naming,
-        "the highest is 2^32 - 1, no mark set": highest == MOST_WORD and not marks,
-        "the highest is 2^32 - 1, a mark set": highest == MOST_WORD and marks,
-    }
-    return [name for name, holds in found.items() if holds]
+    return [name for name, (_, holds) in ODD.items() if holds(highest, marks)]
 
 
 def cut(highest, marks, leaf):
-    passed = is_passed(highest, marks, leaf)
-    takes = {name: not is_passed(highest % 2**bits, marks, leaf) for name, bits in CUTS.items()}
-    return [name for name in CUTS if passed and takes[name]]
+    if not is_passed(highest, marks, leaf):
+        return []
+    return [name for name, bits in CUTS.items() if not is_passed(highest % 2**bits, marks, leaf)]
 
 
 def kinds(highest, marks, leaf):
@@ -103,10 +93,6 @@ def told(kind):
     (name, span), answer = kind
     distance = f", distance {span[0]} to {span[-1]}" if span else ""
     return f"verify answers {answer} to a leaf and a cabinet: {name}{distance}"
-
-
-def answer_to(highest, marks, leaf):
-    return 14 if is_passed(highest, marks, leaf) else 0
 
 
 def any_marks(pick):
@@ -152,16 +138,13 @@ def odd_state(pick, name, leaf):
     return (0, 0) if name == "fresh" else (highest, whole.get(name, marks))
 
 
-TRIES = 50
-
-
 def state_of(pick, kind, answer, leaf):
     """A state that is of this kind for the leaf and has this answer, or None if none is found:
     there may be none for this leaf."""
     name, span = kind
-    for _ in range(TRIES):
+    for _ in range(50):
         state = standing(pick, name, span, leaf) if span else odd_state(pick, name, leaf)
-        if state and kind in kinds(*state, leaf) and answer_to(*state, leaf) == answer:
+        if state and kind in kinds(*state, leaf) and is_passed(*state, leaf) == bool(answer):
             return state
     return None
 
@@ -171,5 +154,5 @@ def drawn(pick, leaf, answer):
     while True:
         kind = pick.choice([kind for kind, told in KINDS if told == answer])
         state = state_of(pick, kind, answer, leaf) if pick.random() < 0.7 else any_state(pick, leaf)
-        if state and answer_to(*state, leaf) == answer:
+        if state and is_passed(*state, leaf) == bool(answer):
             return state

@@ -41,29 +41,18 @@ def answer_to(size, slices):
     return next(iter(causes_of(size, slices)), 0)
 
 
-def kind(p, signature_size, text_size, sheet_size):
-    """The edition, the text's length and how long the slices are, or None where this is no kind."""
-    longer = signature_size - signature_length(p), sheet_size - sheet_length(p, text_size)
-    for slices, (*wanted, _) in SLICES.items():
-        if longer == tuple(wanted):
-            return p.edition, text_size, slices
-    return None
-
-
-def leaf_kinds(p, leaf):
-    return {(p.edition, name) for name, number in LEAVES.items() if number(p.h) == leaf}
-
-
 def kinds_of(call):
     p, given = call.profile(), call.given
     if call.stated == ("written",):
         yield "a written sheet is read", (p.edition, len(given["message"])), 0
     if call.operation == "write_sheet" and call.outcome in (0, 16, 13, 6):
-        sizes = (call.memory[name].length for name in ("signature", "message", "sheet"))
-        yield "write_sheet", kind(p, *sizes), call.outcome
-        if call.outcome == 0:
-            leaf = int.from_bytes(given["signature"][:4], "big")
-            yield from (("write_sheet", found, 0) for found in leaf_kinds(p, leaf))
+        signature, text, sheet = (call.memory[n].length for n in ("signature", "message", "sheet"))
+        longer = signature - signature_length(p), sheet - sheet_length(p, text)
+        for slices in (name for name, (*by, _) in SLICES.items() if longer == tuple(by)):
+            yield "write_sheet", (p.edition, text, slices), call.outcome
+        leaf = int.from_bytes(given["signature"][:4], "big")
+        for name in (name for name, number in LEAVES.items() if number(p.h) == leaf):
+            yield "write_sheet", (p.edition, name), call.outcome
 
 
 def wanted_with(texts):

@@ -1,60 +1,62 @@
-"""Every operation made wrong in how it is called: it cuts a number or a length; reads just before or
-behind memory that it is lent; writes what it is to read only; changes a slice or a state where it
-refuses, for each cause, or a slice past its named length where it grants; or leaves an old answer
-where it refuses. And Compare by another rule.
+"""Every operation made wrong in how it is called: it cuts a number or a length; reads just before
+or behind memory that it is lent; writes what it is to read only; changes a slice or a state where
+it refuses, for each cause, or a slice past its named length where it grants; leaves an old answer
+where it refuses; names another line; tells another number for a cause, or a later cause before an
+earlier one; or takes an edition that is none. And Compare by another rule.
 """
 
 import ctypes
 
+from causes import subsets
 from inputs import FAR
-from operations import LENT, STATES, TABLE, numbers_told, parameters
-from wrong import in_plan, leaving
+from operations import CAUSES, EDITED, LENT, STATES, TABLE, numbers_told, parameters
+from wrong import another_number, in_plan, laid, leaving, named, restored, way
 from zarosnik import EQUAL, GREATER, LESS, WORDS
 
-
-def cut(name, bits):
-    return lambda right, given: right(**{name: given[name] % (1 << bits)})
+MOST_NUMBER = 22
 
 
-def read(name, behind):
-    def wrong(right, given):
-        ctypes.string_at(given[name] + (given.size(name) if behind else -1), 1)
-        return right()
-
-    return wrong
+@way
+def cut(name, bits, right, given):
+    return right(**{name: given[name] % (1 << bits)})
 
 
-def write_the_same(name):
-    def wrong(right, given):
-        if given.size(name):
-            byte = ctypes.c_uint8.from_address(given[name])
-            byte.value = byte.value
-        return right()
-
-    return wrong
+@way
+def read(name, behind, right, given):
+    ctypes.string_at(given[name] + (given.size(name) if behind else -1), 1)
+    return right()
 
 
-def last_changed(name):
-    return lambda given: given.size(name) and given.flip(name, given.size(name) - 1)
+def flip(given, name, at, by=1):
+    """A byte of a slice, if it is there."""
+    if 0 <= at < given.size(name):
+        ctypes.c_uint8.from_address(given[name] + at).value ^= by
 
 
-def changed_past(name):
-    def change(given):
-        if given.named(name) < given.size(name):
-            given.flip(name, given.named(name))
-
-    return change
+@way
+def write_the_same(name, right, given):
+    flip(given, name, 0, by=0)
+    return right()
 
 
-def leave_answer(name):
-    def wrong(right, given):
-        before = given.content(name)
-        outcome = right()
-        if outcome:
-            given.put(name, before)
-        return outcome
+@way
+def last_changed(name, given):
+    flip(given, name, given.size(name) - 1)
 
-    return wrong
+
+@way
+def changed_past(name, given):
+    flip(given, name, given.named(name))
+
+
+@way
+def another_line(by, given):
+    given.put_state(line=given.state("line")[0] + by)
+
+
+@way
+def edition_by(rule, right, given):
+    return right(edition=rule(given["edition"]))
 
 
 # Compare. What becomes of an answer by the words of both numbers, least first, the right order and
@@ -89,13 +91,10 @@ RULES = [
 ]
 
 
-def answer_by(name, rule):
-    def change(given):
-        numbers = (list(given.words(number)) for number in ("first", "second"))
-        answers = (given.words(answer)[0] for answer in ("order", "looked"))
-        given.words(name)[0] = rule(*numbers, *answers)
-
-    return leaving(change, 0)
+@way
+def answer_by(name, rule, given):
+    numbers = (list(given.words(number)) for number in ("first", "second"))
+    given.put_state(**{name: rule(*numbers, *given.state("order", "looked"))})
 
 
 def wrong_in(operation):
@@ -111,7 +110,10 @@ def wrong_in(operation):
         if p.read_only:
             yield f"{name} written", write_the_same(name)
         elif causes and name not in kept:
-            yield f"{name} left where refused", leave_answer(name)
+            yield f"{name} left where refused", restored(name, causes)
+        if name == "line":
+            for outcome, by in [(0, 1), (17, -1), (17, 1)]:
+                yield f"line {by:+} by {outcome}", leaving(another_line(by), outcome)
     for name in kept:
         for cause in causes:
             yield f"{name} changed by {cause}", leaving(last_changed(name), cause)
@@ -119,16 +121,20 @@ def wrong_in(operation):
         yield f"{name} changed past its length", leaving(changed_past(name), 0)
 
 
-def right():
-    """That nothing is seen of the operations as they are is what the comparison itself shows."""
-    return []
-
-
 def wrong():
     for name, what, rule in RULES:
-        yield f"{name} {what}", "compare", answer_by(name, rule), in_plan
+        yield f"{name} {what}", "compare", leaving(answer_by(name, rule), 0), in_plan
     for operation in TABLE:
         for what, function in wrong_in(operation):
             yield what, operation, function, in_plan
+        for first, *later in subsets(CAUSES[operation], 2):
+            number = abs(later[0]) if later else first % MOST_NUMBER + 1
+            what = f"{number} {'before' if later else 'for'} {first}"
+            if number != abs(first):
+                yield what, operation, another_number(abs(first), number), laid(first, *later)
+    for operation in EDITED:
+        zero, above = edition_by(lambda e: max(e, 1)), edition_by(lambda e: min(e, 2))
+        yield "edition 0 taken as 1", operation, zero, named("edition")
+        yield "every edition above 2 taken", operation, above, named("edition")
     for operation, name, _ in FAR:
         yield f"length of {name} cut to 32 bits", operation, cut(f"{name}_len", 32), in_plan
