@@ -20,7 +20,7 @@ NOTHING = "nothing"
 # Cases with each kind of calls that a run begins with; all others are those of the plan.
 BEGINNING = ("edge", "written", "counter", "key_slice", "stored")
 # No signature, no right sheet, no right frame and no table is longer.
-MOST = {"signature": 820, "sheet": 4096, "frame": 256, "table": 4 * 123205}
+MOST = {"values": 640, "signature": 820, "sheet": 4096, "frame": 256, "table": 4 * 123205}
 
 
 def anywhere(case):
