@@ -8,12 +8,8 @@ use Rattle.sha256_block.proofs.compression.add_words.Tie as tie
 returns : tie.Need-returns
 unfolding _⊞_
 returns c =
-    let g = c .before in
-    let f = g .before in
-    let e = f .before in
-    let d = e .before in
-    let cs = d .before in
-    let b = cs .before in
+    let g = c .before in let f = g .before in let e = f .before in
+    let d = e .before in let cs = d .before in let b = cs .before in
     let a = b .before in
     let given = a .before .args in
     words-added (given .x) (given .y) (a .wrapping-add-u32 .ensures) (b .wrapping-add-u322 .ensures) (cs .wrapping-add-u323 .ensures)

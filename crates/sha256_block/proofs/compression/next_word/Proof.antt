@@ -10,11 +10,8 @@ use Rattle.sha256_block.proofs.compression.next_word.Tie as tie
 returns : tie.Need-returns
 unfolding _⊞_
 returns c =
-    let y = c .before in
-    let s₀ = y .before in
-    let x = s₀ .before in
-    let s₁ = x .before in
-    let start = s₁ .before in
+    let y = c .before in let s₀ = y .before in let x = s₀ .before in
+    let s₁ = x .before in let start = s₁ .before in
     let sixteen : length (start .args .t1) ≡ 16 = search needs in
     next-made (start .args .t1) sixteen (start .pre) (s₁ .small-sigma1 .ensures) (x .wrapping-add-u32 .ensures) (s₀ .small-sigma0 .ensures)
     (y .wrapping-add-u322 .ensures) (c .wrapping-add-u323 .ensures)

@@ -8,15 +8,9 @@ use Rattle.sha256_block.proofs.compression.round.Tie as tie
 returns : tie.Need-returns
 unfolding _⊞_
 returns c =
-    let sum = c .before in
-    let second = sum .before in
-    let votes = second .before in
-    let third = votes .before in
-    let first = third .before in
-    let keyed = first .before in
-    let chosen = keyed .before in
-    let choice = chosen .before in
-    let started = choice .before in
+    let sum = c .before in let second = sum .before in let votes = second .before in
+    let third = votes .before in let first = third .before in let keyed = first .before in
+    let chosen = keyed .before in let choice = chosen .before in let started = choice .before in
     let sigma = started .before in
     let a = sigma .before .args in
     round-made (a .v) (a .k) (a .w) (sigma .big-sigma1 .ensures) (started .wrapping-add-u32 .ensures) (choice .ch .ensures)

@@ -6,12 +6,8 @@ use Rattle.sha256.proofs.running.Hash.digest.Tie as tie
 
 returns : tie.Need-returns
 returns c =
-    let g = c .before in
-    let f = g .before in
-    let e = f .before in
-    let d = e .before in
-    let third = d .before in
-    let b = third .before in
+    let g = c .before in let f = g .before in let e = f .before in
+    let d = e .before in let third = d .before in let b = third .before in
     let a = b .before in
     words-put (a .before .before .args .self .words) (a .put-word .ensures) (b .put-word2 .ensures) (third .put-word3 .ensures) (d .put-word4 .ensures)
     (e .put-word5 .ensures) (f .put-word6 .ensures) (g .put-word7 .ensures) (c .put-word8 .ensures)
