@@ -5,12 +5,12 @@ use mathlib.Core.List.{List}
 use Prim.Native.Nat.{ℕ, ◌-◌, ◌*◌, ◌<◌}
 use lib.ListN.{get_or, take, drop}
 use lib.Seq.{get_or-take}
-use Rattle.lists.proofs.Joins.{joinTo-cong}
+use Rattle.lists.proofs.Joins.{join_to_cong}
 use Rattle.tweak.specs.declared.Domain.{Domain}
-use Rattle.chains.specs.Chains.{walked, chainValue}
-use Rattle.chains.specs.Leaves.{revealed, keyOfTops, recovered, stepsLeft}
+use Rattle.chains.specs.Chains.{walked, chain_value}
+use Rattle.chains.specs.Leaves.{revealed, key_of_tops, recovered, steps_left}
 use Rattle.chains.specs.declared.Chains.{Chains}
-use Rattle.chains.proofs.StepLaws.{steps-cong}
+use Rattle.chains.proofs.StepLaws.{steps_cong}
 
 module _ (chains : Chains) (row : List ℕ) {front : List ℕ} (placed : take chains.count row ≡ front) where
   -- a length of the row
@@ -19,13 +19,13 @@ module _ (chains : Chains) (row : List ℕ) {front : List ℕ} (placed : take ch
 
   pub revealed-front : (d : Domain) (secret : List ℕ) (leaf : ℕ) → revealed d chains secret leaf row ≡ revealed d chains secret leaf front
   unfolding revealed
-  revealed-front d secret leaf = joinTo-cong _ _ chains.count (λ c h. ap (chainValue d secret leaf c) (at c h))
+  revealed-front d secret leaf = join_to_cong _ _ chains.count (λ c h. ap (chain_value d secret leaf c) (at c h))
 
   pub recovered-front : (d : Domain) (values : List ℕ) (leaf : ℕ) → recovered d chains leaf row values ≡ recovered d chains leaf front values
   unfolding recovered
   recovered-front d values leaf =
       let up : ℕ → ℕ → List ℕ = λ c k. walked d leaf c k (chains.width - 1 - k) (take 16 (drop (16 * c) values)) in
-      ap (keyOfTops d leaf) (joinTo-cong _ _ chains.count (λ c h. ap (up c) (at c h)))
+      ap (key_of_tops d leaf) (join_to_cong _ _ chains.count (λ c h. ap (up c) (at c h)))
 
-  pub steps-left-front : stepsLeft chains row ≡ stepsLeft chains front
-  steps-left-front = steps-cong chains.width row front chains.count at
+  pub steps-left-front : steps_left chains row ≡ steps_left chains front
+  steps-left-front = steps_cong chains.width row front chains.count at

@@ -1,7 +1,7 @@
 // The chains of one leaf: its key, the values that a signature shows, and the key from these.
 ghost use Rattle.std.specs.Prelude.{◌≡◌, ◌++◌, ◌+◌, ◌*◌, ◌≤◌, length, take, drop};
 ghost use Rattle.tweak.specs.Tweak.{Seeded};
-ghost use Rattle.chains.specs.Leaves.{ChainsFit, revealed, leafKey, recovered, stepsLeft};
+ghost use Rattle.chains.specs.Leaves.{ChainsFit, revealed, leaf_key, recovered, steps_left};
 
 use super::Chains;
 use super::steps::{chain_value, walk};
@@ -12,7 +12,7 @@ use tweak::{Chain, Hasher, Leaf, absorb, begin, end, leaf_key_address};
 pub fn key_of_leaf(hasher: Hasher, chains: Chains, secret: &[u8; 16], leaf: Leaf) -> [u8; 16]
     requires seeded { Seeded hasher }
     requires chains_fit { ChainsFit chains }
-    ensures { result ≡ leafKey hasher.domain chains secret.now leaf.0 }
+    ensures { result ≡ leaf_key hasher.domain chains secret.now leaf.0 }
 {
     let d = hasher.domain;
     let address = leaf_key_address(d, leaf);
@@ -63,7 +63,7 @@ pub fn recover_key(hasher: Hasher, chains: Chains, leaf: Leaf, row: [u8; 40], va
     requires seeded { Seeded hasher }
     requires chains_fit { ChainsFit chains × (16 * chains.count ≤ length values.now) }
     ensures key { result.key ≡ recovered hasher.domain chains leaf.0 row values.now }
-    ensures steps { result.steps ≡ stepsLeft chains row }
+    ensures steps { result.steps ≡ steps_left chains row }
 {
     let d = hasher.domain;
     let address = leaf_key_address(d, leaf);

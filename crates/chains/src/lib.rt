@@ -1,6 +1,7 @@
 // Hash chains, and the chains of one leaf.
+#![tactic(auto)]
 ghost use Rattle.std.specs.Prelude.{◌≡◌};
-ghost use Rattle.chains.specs.Leaves.{chainsOf};
+ghost use Rattle.chains.specs.Leaves.{chains_of};
 
 use profile::Shape;
 
@@ -16,7 +17,7 @@ pub struct Chains {
 
 // The chains of a shape.
 pub fn chains_of(shape: Shape) -> Chains
-    ensures { result ≡ chainsOf shape }
+    ensures { result ≡ chains_of shape }
 {
     Chains {
         count: shape.chains,

@@ -1,14 +1,14 @@
 // The values of a chain: its start, a step, the walk from one height to another, and the value at a height.
 ghost use Rattle.std.specs.Prelude.{◌≡◌, ◌-◌};
-ghost use Rattle.tweak.specs.Tweak.{chainStepAddress, tweakedHash, Seeded};
-ghost use Rattle.chains.specs.Chains.{chainHead, walked, chainValue};
+ghost use Rattle.tweak.specs.Tweak.{chain_step_address, tweaked_hash, Seeded};
+ghost use Rattle.chains.specs.Chains.{chain_head, walked, chain_value};
 
 use tweak::{Chain, Hasher, Height, Leaf, chain_start_address, chain_step_address, tweaked_hash};
 
 // The value at height 0, from the secret seed.
 fn chain_start(hasher: Hasher, leaf: Leaf, chain: Chain, secret: &[u8; 16]) -> [u8; 16]
     requires { Seeded hasher }
-    ensures { result ≡ chainHead hasher.domain leaf.0 chain.0 secret.now }
+    ensures { result ≡ chain_head hasher.domain leaf.0 chain.0 secret.now }
 {
     let d = hasher.domain;
     let address = chain_start_address(d, leaf, chain);
@@ -18,7 +18,7 @@ fn chain_start(hasher: Hasher, leaf: Leaf, chain: Chain, secret: &[u8; 16]) -> [
 // One step, by the height before it.
 fn chain_step(hasher: Hasher, leaf: Leaf, chain: Chain, height: Height, value: [u8; 16]) -> [u8; 16]
     requires { Seeded hasher }
-    ensures { result ≡ tweakedHash hasher.domain (chainStepAddress hasher.domain leaf.0 chain.0 height.0) value }
+    ensures { result ≡ tweaked_hash hasher.domain (chain_step_address hasher.domain leaf.0 chain.0 height.0) value }
 {
     let d = hasher.domain;
     let address = chain_step_address(d, leaf, chain, height);
@@ -70,7 +70,7 @@ pub fn chain_value(
     height: u32,
 ) -> [u8; 16]
     requires { Seeded hasher }
-    ensures { result ≡ chainValue hasher.domain secret.now leaf.0 chain.0 height }
+    ensures { result ≡ chain_value hasher.domain secret.now leaf.0 chain.0 height }
 {
     let start = chain_start(hasher, leaf, chain, secret);
     let walked = walk(hasher, leaf, chain, 0, height, start);

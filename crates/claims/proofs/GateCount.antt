@@ -7,18 +7,18 @@ use Rattle.profile.specs.declared.Profile.{Profile}
 use Rattle.counts.specs.Counts.{count}
 use Rattle.counts.proofs.RowByRow.{gate-count}
 use Rattle.message.proofs.NumberLaws.{bits-few, bits-largest}
-use Rattle.claims.specs.Gate.{gateShape, gate, GateCount}
+use Rattle.claims.specs.Gate.{gate_shape, gate, GateCount}
 use Rattle.claims.proofs.Bits.{small-counts}
 
-counted : count gateShape ≡ 1287155674008337910149577743336952677632
+counted : count gate_shape ≡ 1287155674008337910149577743336952677632
 unfolding count
 counted = gate-count
 
-large : 2 ^ 128 ≤ count gateShape
+large : 2 ^ 128 ≤ count gate_shape
 large = rw counted (lit≤ tt)
 
-not-small : (p : Profile) (edition : ℕ) → p ≡ gate edition → count p.shape < 256 → ⊥
-not-small p edition e small = lt_irrefl _ (lt_of_lt_of_le (rw e at small) (le_trans (lit≤ tt) large))
+not_small : (p : Profile) (edition : ℕ) → p ≡ gate edition → count p.shape < 256 → ⊥
+not_small p edition e small = lt_irrefl _ (lt_of_lt_of_le (rw e at small) (le_trans (lit≤ tt) large))
 
 pub gate-counted : GateCount
 gate-counted =
@@ -26,7 +26,7 @@ gate-counted =
       middle = refl;
       counted = counted;
       large = large;
-      bits = le_antisymm (bits-few (count gateShape)) (bits-largest (count gateShape) 128 (le_refl _) large);
-      sign-never-nineteen = λ key call edition e nineteen. not-small key.profile edition e ((small-counts.sign-nineteen key call).0 nineteen).1;
-      verify-never-nineteen = λ v call edition e nineteen. not-small v.profile edition e ((small-counts.verify-nineteen v call).0 nineteen).1;
+      bits = le_antisymm (bits-few (count gate_shape)) (bits-largest (count gate_shape) 128 (le_refl _) large);
+      sign-never-nineteen = λ key call edition e nineteen. not_small key.profile edition e ((small-counts.sign-nineteen key call).0 nineteen).1;
+      verify_never-nineteen = λ v call edition e nineteen. not_small v.profile edition e ((small-counts.verify_nineteen v call).0 nineteen).1;
     }

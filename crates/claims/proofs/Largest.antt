@@ -14,9 +14,9 @@ use Rattle.counts.specs.Counts.{count}
 use Rattle.codewords.specs.Codeword.{rank, AtMost}
 use Rattle.codewords.specs.Operations.{row_of}
 use Rattle.codewords.proofs.CodewordLaws.{rank_lt}
-use Rattle.codewords.proofs.OrderLaws.{rank-injective, incomparable}
-use Rattle.codewords.proofs.RowLaws.{row-valid}
-use Rattle.claims.specs.Largest.{Antichain, rowsBelow, LargestCode}
+use Rattle.codewords.proofs.OrderLaws.{rank_injective, incomparable}
+use Rattle.codewords.proofs.RowLaws.{row_valid}
+use Rattle.claims.specs.Largest.{Antichain, rows_below, LargestCode}
 use Rattle.claims.proofs.SymmetricChains.{middle, middle-codeword, same-middle}
 
 module _ (p : Shape) (rows : List (List ℕ)) (half : p.sum ≡ p.chains * (p.width - 1) / 2) (code : Antichain p.width p.chains rows) where
@@ -49,7 +49,7 @@ module _ (p : Shape) (rows : List (List ℕ)) (half : p.sum ≡ p.chains * (p.wi
       let ys = get_or rows j [] in
       let is_x = code.lengths i h-i in
       let is_y = code.lengths j h-j in
-      let one = rank-injective w l s (middle w s xs) (middle w s ys) (middle-codeword w l s half xs is_x) (middle-codeword w l s half ys is_y) same in
+      let one = rank_injective w l s (middle w s xs) (middle w s ys) (middle-codeword w l s half xs is_x) (middle-codeword w l s half ys is_y) same in
       let other = apart i j less h-j in
       ⊎_elim (λ most. code.incomparable i j h-i h-j other most) (λ most. code.incomparable j i h-j h-i (λ e. other (sym e)) most)
       (same-middle w l s half xs ys is_x is_y one)
@@ -60,30 +60,30 @@ module _ (p : Shape) (rows : List (List ℕ)) (half : p.sum ≡ p.chains * (p.wi
       rw long at (pigeonhole (count p) (number []) (map number rows) (distinct-map number [] rows number-apart)
       (λ i h. rw (get_or-map number rows i []) (number-below i (rw long at h))))
 
-length-rows : (p : Shape) (n : ℕ) → length (rowsBelow p n) ≡ n
-unfolding rowsBelow
+length-rows : (p : Shape) (n : ℕ) → length (rows_below p n) ≡ n
+unfolding rows_below
 length-rows p zero = refl
-length-rows p (suc n) = length-append (rowsBelow p n) (row_of p n ∷ []) ∙ omega (arith, length-rows p n)
+length-rows p (suc n) = length-append (rows_below p n) (row_of p n ∷ []) ∙ omega (arith, length-rows p n)
 
 -- each place has the row of its number
-row-there : (p : Shape) (n i : ℕ) → i < n → get_or (rowsBelow p n) i [] ≡ row_of p i
-unfolding rowsBelow
-row-there p zero i h = absurd (omega arith)
-row-there p (suc n) i h =
-    ⊎_elim (λ e. get_or_at (rowsBelow p n) (row_of p n) [] [] i (length-rows p n ∙ sym e) ∙ ap (row_of p) (sym e))
-    (λ less. get_or-append (rowsBelow p n) (row_of p n ∷ []) [] i (omega (arith, length-rows p n)) ∙ row-there p n i less)
+row_there : (p : Shape) (n i : ℕ) → i < n → get_or (rows_below p n) i [] ≡ row_of p i
+unfolding rows_below
+row_there p zero i h = absurd (omega arith)
+row_there p (suc n) i h =
+    ⊎_elim (λ e. get_or_at (rows_below p n) (row_of p n) [] [] i (length-rows p n ∙ sym e) ∙ ap (row_of p) (sym e))
+    (λ less. get_or-append (rows_below p n) (row_of p n ∷ []) [] i (omega (arith, length-rows p n)) ∙ row_there p n i less)
     (eq-or-lt_of_le (le_of_suc-le-suc h))
 
 -- the rows of a shape are a code, by demand 3's first sentence
 module _ (p : Shape) where
   abbrev all : List (List ℕ)
-  all = rowsBelow p (count p)
+  all = rows_below p (count p)
 
   below : (i : ℕ) → i < length all → i < count p
   below i h = omega (arith, length-rows p (count p))
 
   there : (i : ℕ) → i < length all → get_or all i [] ≡ row_of p i
-  there i h = row-there p (count p) i (below i h)
+  there i h = row_there p (count p) i (below i h)
 
   one_place : (i j : ℕ) → i < length all → j < length all → AtMost p.chains (get_or all i []) (get_or all j []) → i ≡ j
   unfolding count
@@ -92,7 +92,7 @@ module _ (p : Shape) where
   rows_code : Antichain p.width p.chains all
   rows_code =
       record {
-        lengths = λ i h. rw (there i h) (row-valid p i (below i h)).lengths;
+        lengths = λ i h. rw (there i h) (row_valid p i (below i h)).lengths;
         distinct = λ i j less h same. absurd (omega (arith, one_place i j (lt_trans less h) h (rw same (λ c within. le_refl _))));
         incomparable = λ i j h-i h-j other most. other (ap (λ n. get_or all n []) (one_place i j h-i h-j most));
       }

@@ -10,37 +10,37 @@ use borrow.Author.Tests.{eqb-true}
 use lib.Dec.{eqb}
 use lib.ListN.{length, take, drop}
 use lib.Seq.{take_at}
-use Rattle.refusal.specs.Code.{firstCause}
-use Rattle.profile.specs.Checks.{profileCauses}
+use Rattle.refusal.specs.Code.{first_cause}
+use Rattle.profile.specs.Checks.{profile_causes}
 use Rattle.profile.specs.declared.Profile.{Profile}
 use Rattle.profile.proofs.Limits.{profile-passed, leaves-few}
-use Rattle.signing_key.specs.Counter.{reserved, cleared, counterAfter}
-use Rattle.signing_key.specs.Operations.{reserveCode}
-use Rattle.signing_key.specs.Key.{freshKey, reservedKey}
+use Rattle.signing_key.specs.Counter.{reserved, cleared, counter_after}
+use Rattle.signing_key.specs.Operations.{reserve_code}
+use Rattle.signing_key.specs.Key.{fresh_key, reserved_key}
 use Rattle.signing_key.specs.declared.Counter.{Counter}
 use Rattle.signing_key.specs.declared.SigningKey.{SigningKey}
-use Rattle.signing_key.proofs.CounterLaws.{cleared-unmarked, can-reserve}
-use Rattle.stored_key.specs.KeyFrame.{withoutIdleMark, storedKey, stored, readStored}
-use Rattle.stored_key.specs.Operations.{writeKeyCode, bytesWritten, frameAfter, key_of}
+use Rattle.signing_key.proofs.CounterLaws.{cleared-unmarked, can_reserve}
+use Rattle.stored_key.specs.KeyFrame.{without_idle_mark, stored_key, stored, read_stored}
+use Rattle.stored_key.specs.Operations.{write_key_code, bytes_written, frame_after, key_of}
 use Rattle.stored_key.specs.RoundTrip.{Held}
 use Rattle.stored_key.proofs.StoredLaws.{stored-read}
-use Rattle.signer.specs.Operations.{keyAfter}
-use Rattle.claims.specs.Orders.{OrderCall, issuedBy, leafOf}
-use Rattle.claims.specs.PowerCuts.{Storing, Progress, Desk, Step, frameLeft, onceBegun, onceEnded, afterReserve, afterBegin, after_end, afterSign}
-use Rattle.claims.specs.PowerCuts.{afterCut, deskAfter, issuedAt, issuedAlong, InTurn, freshDesk, SeedBytes, PowerCuts}
+use Rattle.signer.specs.Operations.{key_after}
+use Rattle.claims.specs.Orders.{OrderCall, issued_by, leaf_of}
+use Rattle.claims.specs.PowerCuts.{Storing, Progress, Desk, Step, frame_left, once_begun, once_ended, after_reserve, after_begin, after_end, after_sign}
+use Rattle.claims.specs.PowerCuts.{after_cut, desk_after, issued_at, issued_along, InTurn, fresh_desk, SeedBytes, PowerCuts}
 use Rattle.claims.specs.PowerCuts.Storing.{nothing, new}
 use Rattle.claims.specs.PowerCuts.Progress.{unstored, begun, ended}
-use Rattle.claims.specs.PowerCuts.Step.{reserve, storeBegins, storeEnds, sign, cut}
+use Rattle.claims.specs.PowerCuts.Step.{reserve, store_begins, store_ends, sign, cut}
 use Rattle.claims.proofs.LeafLaws.{KeyOf, KeyFrom, fresh-of, recounted-of, fresh-from, reserved-from, cleared-from}
-use Rattle.claims.proofs.Source.{Rises, issued-rises}
+use Rattle.claims.proofs.Source.{Rises, issued_rises}
 use Rattle.claims.proofs.Made.{MadeOwn, granted, sign-granted}
-use Rattle.claims.proofs.OrdersProved.{risen-once, risen-accepted, risen-arrivals}
+use Rattle.claims.proofs.OrdersProved.{risen_once, risen_accepted, risen_arrivals}
 
-module _ (p : Profile) (seed secret : List ℕ) (seed-bytes : SeedBytes seed) (secret-bytes : SeedBytes secret) (passed : firstCause (profileCauses p) ≡ 0) where
+module _ (p : Profile) (seed secret : List ℕ) (seed_bytes : SeedBytes seed) (secret_bytes : SeedBytes secret) (passed : first_cause (profile_causes p) ≡ 0) where
   -- a frame that is read as a key with this profile and these seeds, and with the next leaf n
   pub record FrameAt (frame : List ℕ) (n : ℕ) : Type 0 where
     pub key : SigningKey
-    pub read : readStored frame ≡ stored key
+    pub read : read_stored frame ≡ stored key
     pub of : KeyOf p seed secret key
     pub at : key.counter.next ≡ n
 
@@ -49,20 +49,20 @@ module _ (p : Profile) (seed secret : List ℕ) (seed-bytes : SeedBytes seed) (s
     pub held : Held key
     held =
         record {
-          seed-long = rw of.same-seed seed-bytes.0;
-          seed-bytes = rw of.same-seed seed-bytes.1;
-          secret-long = rw of.same-secret secret-bytes.0;
-          secret-bytes = rw of.same-secret secret-bytes.1;
+          seed_long = rw of.same_seed seed_bytes.0;
+          seed_bytes = rw of.same_seed seed_bytes.1;
+          secret_long = rw of.same_secret secret_bytes.0;
+          secret_bytes = rw of.same_secret secret_bytes.1;
           next_fits = omega (arith, leaves-few p.height (profile-passed p passed).low);
         }
 
-    stored_at : FrameAt (storedKey key) key.counter.next
-    unfolding withoutIdleMark
+    stored_at : FrameAt (stored_key key) key.counter.next
+    unfolding without_idle_mark
     stored_at =
         record {
-          key = withoutIdleMark key;
+          key = without_idle_mark key;
           read = stored-read key held (rw of.same-profile passed);
-          of = record { same-profile = of.same-profile; same-seed = of.same-seed; same-secret = of.same-secret };
+          of = record { same-profile = of.same-profile; same_seed = of.same_seed; same_secret = of.same_secret };
           at = refl;
         }
 
@@ -91,13 +91,13 @@ module _ (p : Profile) (seed secret : List ℕ) (seed-bytes : SeedBytes seed) (s
     -- once the store of the leaf reserved last has ended, the stored frame is past that leaf
     pub past : d.progress ≡ ended → d.key.counter.next ≤ old
 
-  pub fresh-desk-from : DeskFrom (freshDesk p seed secret) 0
-  fresh-desk-from =
+  pub fresh_desk_from : DeskFrom (fresh_desk p seed secret) 0
+  fresh_desk_from =
       record {
         from = fresh-from p seed secret;
         in_tree = omega arith;
         old = 0;
-        is = stored_at (freshKey p seed secret) (fresh-of p seed secret) (omega arith);
+        is = stored_at (fresh_key p seed secret) (fresh-of p seed secret) (omega arith);
         reached = le_refl 0;
         below = le_refl 0;
         storing = tt;
@@ -106,7 +106,7 @@ module _ (p : Profile) (seed secret : List ℕ) (seed-bytes : SeedBytes seed) (s
 
   -- what a step leaves, and what it issues
   abbrev pub Goes : Desk → (n : ℕ) → Step → Type 0
-  Goes d n step = (m : ℕ) × Rises leafOf (MadeOwn p seed secret) n (issuedAt d step) m × DeskFrom (deskAfter d step) m
+  Goes d n step = (m : ℕ) × Rises leaf_of (MadeOwn p seed secret) n (issued_at d step) m × DeskFrom (desk_after d step) m
 
   module _ (d : Desk) (n : ℕ) (at : DeskFrom d n) where
     abbrev counter : Counter
@@ -125,16 +125,16 @@ module _ (p : Profile) (seed secret : List ℕ) (seed-bytes : SeedBytes seed) (s
               omega arith;
         }
 
-    reserved-desk : DeskFrom (afterReserve d) n
-    unfolding afterReserve counterAfter
-    reserved-desk = by (eqb (reserveCode d.key.profile counter) 0) refl
+    reserved_desk : DeskFrom (after_reserve d) n
+    unfolding after_reserve counter_after
+    reserved_desk = by (eqb (reserve_code d.key.profile counter) 0) refl
       where
-        from : KeyFrom p seed secret (reservedKey d.key) n
+        from : KeyFrom p seed secret (reserved_key d.key) n
         from = reserved-from p seed secret d.key n at.from
 
-        by : (granted : Bool) → eqb (reserveCode d.key.profile counter) 0 ≡ granted → DeskFrom (afterReserve d) n
+        by : (granted : Bool) → eqb (reserve_code d.key.profile counter) 0 ≡ granted → DeskFrom (after_reserve d) n
         by true e =
-            let left : counter.next < 2 ^ p.height = rw at.from.of.same-profile at (can-reserve d.key.profile counter (eqb-true _ 0 e)).1.left in
+            let left : counter.next < 2 ^ p.height = rw at.from.of.same-profile at (can_reserve d.key.profile counter (eqb-true _ 0 e)).1.left in
             rw e
             (record {
               from = rw e at from;
@@ -160,23 +160,23 @@ module _ (p : Profile) (seed secret : List ℕ) (seed-bytes : SeedBytes seed) (s
             })
 
     -- a store begins: it is of the frame of the key in memory
-    written-frame : (slice : List ℕ) → eqb (writeKeyCode d.key slice) 0 ≡ true
-        → take (bytesWritten d.key slice) (frameAfter d.key slice) ≡ storedKey d.key
-    unfolding bytesWritten frameAfter
-    written-frame slice e = rw e (take_at (storedKey d.key) (drop (length (storedKey d.key)) slice) (length (storedKey d.key)) refl)
+    written_frame : (slice : List ℕ) → eqb (write_key_code d.key slice) 0 ≡ true
+        → take (bytes_written d.key slice) (frame_after d.key slice) ≡ stored_key d.key
+    unfolding bytes_written frame_after
+    written_frame slice e = rw e (take_at (stored_key d.key) (drop (length (stored_key d.key)) slice) (length (stored_key d.key)) refl)
 
-    begun-ended : (x : Progress) → onceBegun x ≡ ended → x ≡ ended
-    unfolding onceBegun
+    begun-ended : (x : Progress) → once_begun x ≡ ended → x ≡ ended
+    unfolding once_begun
     begun-ended unstored e = cc
     begun-ended begun e = e
     begun-ended ended e = e
 
-    begun-desk : (slice : List ℕ) (s : Storing) → DeskFrom (afterBegin d slice s) n
-    unfolding afterBegin
-    begun-desk slice (new frame) = at
-    begun-desk slice nothing = by (eqb (writeKeyCode d.key slice) 0) refl
+    begun_desk : (slice : List ℕ) (s : Storing) → DeskFrom (after_begin d slice s) n
+    unfolding after_begin
+    begun_desk slice (new frame) = at
+    begun_desk slice nothing = by (eqb (write_key_code d.key slice) 0) refl
       where
-        by : (granted : Bool) → eqb (writeKeyCode d.key slice) 0 ≡ granted → DeskFrom (afterBegin d slice nothing) n
+        by : (granted : Bool) → eqb (write_key_code d.key slice) 0 ≡ granted → DeskFrom (after_begin d slice nothing) n
         by true e =
             rw e
             (record {
@@ -188,7 +188,7 @@ module _ (p : Profile) (seed secret : List ℕ) (seed-bytes : SeedBytes seed) (s
               below = at.below;
               storing = record {
                 new = counter.next;
-                is = rw (written-frame slice e) (stored_at d.key at.from.of at.in_tree);
+                is = rw (written_frame slice e) (stored_at d.key at.from.of at.in_tree);
                 above = at.below;
                 below = le_refl counter.next;
                 own = λ q. le_refl counter.next;
@@ -198,10 +198,10 @@ module _ (p : Profile) (seed secret : List ℕ) (seed-bytes : SeedBytes seed) (s
         by false e = rw e at
 
     -- a store ends: what was new is stored
-    ended-desk : (s : Storing) → d.storing ≡ s → DeskFrom (after_end d s) n
-    unfolding after_end onceEnded
-    ended-desk nothing q = at
-    ended-desk (new frame) q =
+    ended_desk : (s : Storing) → d.storing ≡ s → DeskFrom (after_end d s) n
+    unfolding after_end once_ended
+    ended_desk nothing q = at
+    ended_desk (new frame) q =
         record {
           from = at.from;
           in_tree = at.in_tree;
@@ -216,18 +216,18 @@ module _ (p : Profile) (seed secret : List ℕ) (seed-bytes : SeedBytes seed) (s
         store : StoreAt frame d.progress at.old counter.next
         store = rw q at at.storing
 
-        past : (x : Progress) → d.progress ≡ x → onceEnded x ≡ ended → counter.next ≤ store.new
+        past : (x : Progress) → d.progress ≡ x → once_ended x ≡ ended → counter.next ≤ store.new
         past unstored r e = let no : ◌≡◌ {A = ℕ} 0 1 = cc in omega arith
         past begun r e = store.own r
         past ended r e = omega (arith, at.past r, store.above)
 
     -- Sign, granted: its store has ended, so the stored frame is past the leaf that signs
-    signed-desk : (c : OrderCall) → InTurn d (sign c) → (m : ℕ) × Rises leafOf (MadeOwn p seed secret) n (issuedBy d.key c.call) m
-        × DeskFrom (afterSign d c) m
-    unfolding afterSign InTurn issuedBy keyAfter
-    signed-desk c turn = by (granted d.key c) refl
+    signed_desk : (c : OrderCall) → InTurn d (sign c) → (m : ℕ) × Rises leaf_of (MadeOwn p seed secret) n (issued_by d.key c.call) m
+        × DeskFrom (after_sign d c) m
+    unfolding after_sign InTurn issued_by key_after
+    signed_desk c turn = by (granted d.key c) refl
       where
-        by : (g : Bool) → granted d.key c ≡ g → (m : ℕ) × Rises leafOf (MadeOwn p seed secret) n (issuedBy d.key c.call) m × DeskFrom (afterSign d c) m
+        by : (g : Bool) → granted d.key c ≡ g → (m : ℕ) × Rises leaf_of (MadeOwn p seed secret) n (issued_by d.key c.call) m × DeskFrom (after_sign d c) m
         by true e =
             let Stored-past = at.past (turn (eqb-true _ 0 e)) in
             rw e (
@@ -247,8 +247,8 @@ module _ (p : Profile) (seed secret : List ℕ) (seed-bytes : SeedBytes seed) (s
         by false e = rw e (n, le_refl n, at)
 
     -- a restart goes on at the next leaf of the frame that is left
-    restarted : (frame : List ℕ) (m : ℕ) → FrameAt frame m → n ≤ m → m ≤ 2 ^ p.height → DeskFrom (afterCut frame) n
-    unfolding afterCut key_of
+    restarted : (frame : List ℕ) (m : ℕ) → FrameAt frame m → n ≤ m → m ≤ 2 ^ p.height → DeskFrom (after_cut frame) n
+    unfolding after_cut key_of
     restarted frame m left above low =
         rw left.read
         (record {
@@ -266,32 +266,32 @@ module _ (p : Profile) (seed secret : List ℕ) (seed-bytes : SeedBytes seed) (s
           past = λ q. let no : ◌≡◌ {A = ℕ} 0 1 = cc in omega arith;
         })
 
-    cut-desk : (s : Storing) → d.storing ≡ s → (whole : Bool) → DeskFrom (afterCut (frameLeft d.stored s whole)) n
-    unfolding frameLeft
-    cut-desk nothing q whole = restarted d.stored at.old at.is at.reached (omega (arith, at.below, at.in_tree))
-    cut-desk (new frame) q true =
+    cut_desk : (s : Storing) → d.storing ≡ s → (whole : Bool) → DeskFrom (after_cut (frame_left d.stored s whole)) n
+    unfolding frame_left
+    cut_desk nothing q whole = restarted d.stored at.old at.is at.reached (omega (arith, at.below, at.in_tree))
+    cut_desk (new frame) q true =
         let store : StoreAt frame d.progress at.old counter.next = rw q at at.storing in
         restarted frame store.new store.is (omega (arith, at.reached, store.above)) (omega (arith, store.below, at.in_tree))
-    cut-desk (new frame) q false = restarted d.stored at.old at.is at.reached (omega (arith, at.below, at.in_tree))
+    cut_desk (new frame) q false = restarted d.stored at.old at.is at.reached (omega (arith, at.below, at.in_tree))
 
-    pub desk-step : (step : Step) → InTurn d step → Goes d n step
-    unfolding deskAfter issuedAt
-    desk-step reserve turn = (n, le_refl n, reserved-desk)
-    desk-step (storeBegins slice) turn = (n, le_refl n, begun-desk slice d.storing)
-    desk-step storeEnds turn = (n, le_refl n, ended-desk d.storing refl)
-    desk-step (sign c) turn = signed-desk c turn
-    desk-step (cut whole) turn = (n, le_refl n, cut-desk d.storing refl whole)
+    pub desk_step : (step : Step) → InTurn d step → Goes d n step
+    unfolding desk_after issued_at
+    desk_step reserve turn = (n, le_refl n, reserved_desk)
+    desk_step (store_begins slice) turn = (n, le_refl n, begun_desk slice d.storing)
+    desk_step store_ends turn = (n, le_refl n, ended_desk d.storing refl)
+    desk_step (sign c) turn = signed_desk c turn
+    desk_step (cut whole) turn = (n, le_refl n, cut_desk d.storing refl whole)
 
-pub power-cuts : PowerCuts
-power-cuts p seed secret seed-bytes secret-bytes passed steps turns =
-    let d = freshDesk p seed secret in
-    let all = issuedAlong d steps in
+pub power_cuts : PowerCuts
+power_cuts p seed secret seed_bytes secret_bytes passed steps turns =
+    let d = fresh_desk p seed secret in
+    let all = issued_along d steps in
     let rising =
-    issued-rises leafOf (MadeOwn p seed secret) deskAfter issuedAt InTurn (DeskFrom p seed secret seed-bytes secret-bytes passed)
-    (λ d n at step turn. desk-step p seed secret seed-bytes secret-bytes passed d n at step turn) d 0
-    (fresh-desk-from p seed secret seed-bytes secret-bytes passed) steps turns in
+    issued_rises leaf_of (MadeOwn p seed secret) desk_after issued_at InTurn (DeskFrom p seed secret seed_bytes secret_bytes passed)
+    (λ d n at step turn. desk_step p seed secret seed_bytes secret_bytes passed d n at step turn) d 0
+    (fresh_desk_from p seed secret seed_bytes secret_bytes passed) steps turns in
     record {
-      once = risen-once p seed secret all rising.0 rising.1;
-      accepted = risen-accepted p seed secret all rising.0 rising.1;
-      arrivals = risen-arrivals p seed secret all rising.0 rising.1;
+      once = risen_once p seed secret all rising.0 rising.1;
+      accepted = risen_accepted p seed secret all rising.0 rising.1;
+      arrivals = risen_arrivals p seed secret all rising.0 rising.1;
     }

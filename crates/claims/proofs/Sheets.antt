@@ -1,4 +1,4 @@
--- What is written is read as it was, and what is read is written as it was: both by `exact`, since each operation looks at its sheet through `sheetOf` alone.
+-- What is written is read as it was, and what is read is written as it was: both by `exact`, since each operation looks at its sheet through `sheet_of` alone.
 use mathlib.Core.Path.{◌≡◌, refl, sym, ap, ◌∙◌}
 use mathlib.Core.List.{List, [], ◌∷◌}
 use Prim.Native.Nat.{ℕ, ◌≤◌}
@@ -7,32 +7,32 @@ use borrow.Author.Tests.{le-ltb}
 use lib.Dec.{ltb}
 use lib.ListN.{length, take, drop}
 use lib.Seq.{take_at}
-use Rattle.refusal.specs.Code.{firstCause}
+use Rattle.refusal.specs.Code.{first_cause}
 use Rattle.refusal.proofs.Causes.{none_then, none-of-append}
-use Rattle.profile.specs.Checks.{profileCauses}
+use Rattle.profile.specs.Checks.{profile_causes}
 use Rattle.profile.specs.declared.Profile.{Profile}
 use Rattle.profile.proofs.Limits.{profile-numbered, profile-limits}
-use Rattle.signature.specs.Signature.{signatureLength}
-use Rattle.frames.specs.Lines.{sheetOf}
-use Rattle.sheet_reader.specs.Sheet.{Reading, wrongLine, read, readSheet, Carried}
-use Rattle.sheet_reader.specs.Operations.{lineIn, signature_in, textIn, isWrong, sheetCauses, sheetCode, ReadsSheet}
+use Rattle.signature.specs.Signature.{signature_length}
+use Rattle.frames.specs.Lines.{sheet_of}
+use Rattle.sheet_reader.specs.Sheet.{Reading, wrong_line, read, read_sheet, Carried}
+use Rattle.sheet_reader.specs.Operations.{line_in, signature_in, text_in, is_wrong, sheet_causes, sheet_code, ReadsSheet}
 use Rattle.sheet_reader.proofs.Exactness.{exact}
-use Rattle.sheet_writer.specs.Operations.{carriedCauses, writeSheetCode, WritesSheet}
-use Rattle.sheet_writer.proofs.WriteAnswer.{carried-numbered, carried-fit, fit-carried, room-granted}
+use Rattle.sheet_writer.specs.Operations.{carried_causes, write_sheet_code, WritesSheet}
+use Rattle.sheet_writer.proofs.WriteAnswer.{carried-numbered, carried_fit, fit_carried, room-granted}
 use Rattle.claims.specs.Sheets.{SheetWriting, SheetReading, Yields, WrittenSheetIsRead, Gives, ReadSheetIsWritten}
 
 -- a right sheet is read into slices that are long enough
-right-read : (p : Profile) (signature text : List ℕ) (r : SheetReading p) → r.sheet ≡ sheetOf p signature text
-    → firstCause (profileCauses p) ≡ 0 → Carried p signature text
-    → length signature ≤ length r.signatureSlice → length text ≤ length r.textSlice → Yields signature text r
-unfolding sheetCode lineIn signature_in textIn isWrong
+right-read : (p : Profile) (signature text : List ℕ) (r : SheetReading p) → r.sheet ≡ sheet_of p signature text
+    → first_cause (profile_causes p) ≡ 0 → Carried p signature text
+    → length signature ≤ length r.signature_slice → length text ≤ length r.text_slice → Yields signature text r
+unfolding sheet_code line_in signature_in text_in is_wrong
 right-read p signature text r whole passed carried enough room =
-    let sheet = sheetOf p signature text in
-    let is_read : readSheet p sheet ≡ read signature text = (exact p (profile-limits p passed) sheet signature text).1 (carried, refl) in
-    let reads : ReadsSheet p sheet r.signatureSlice r.textSlice r.signatureSlice' r.textSlice' r.found = rw whole at r.reads in
-    let code : sheetCode p sheet r.signatureSlice r.textSlice ≡ 0 =
-    none_then (profileCauses p) (sheetCauses p sheet r.signatureSlice r.textSlice) passed (profile-numbered p)
-    ∙ rw (is_read, le-ltb (length r.signatureSlice) (signatureLength p) (omega (arith, carried.whole)), le-ltb (length r.textSlice) (length text) room)
+    let sheet = sheet_of p signature text in
+    let is_read : read_sheet p sheet ≡ read signature text = (exact p (profile-limits p passed) sheet signature text).1 (carried, refl) in
+    let reads : ReadsSheet p sheet r.signature_slice r.text_slice r.signature_slice' r.text_slice' r.found = rw whole at r.reads in
+    let code : sheet_code p sheet r.signature_slice r.text_slice ≡ 0 =
+    none_then (profile_causes p) (sheet_causes p sheet r.signature_slice r.text_slice) passed (profile-numbered p)
+    ∙ rw (is_read, le-ltb (length r.signature_slice) (signature_length p) (omega (arith, carried.whole)), le-ltb (length r.text_slice) (length text) room)
     in
     record {
       granted = reads.code ∙ code;
@@ -43,15 +43,15 @@ right-read p signature text r whole passed carried enough room =
     }
 
 pub written-is-read : WrittenSheetIsRead
-unfolding writeSheetCode
+unfolding write_sheet_code
 written-is-read p w signature-bytes text-bytes granted r same enough room =
     let signature = w.signature in
     let text = w.text in
-    let whole = sheetOf p signature text in
-    let none : writeSheetCode p signature text w.slice ≡ 0 = sym w.writes.code ∙ granted in
+    let whole = sheet_of p signature text in
+    let none : write_sheet_code p signature text w.slice ≡ 0 = sym w.writes.code ∙ granted in
     let fit =
-    carried-fit p signature text
-    (none-of-append (carriedCauses p signature text) ((ltb (length w.slice) (length whole), 6) ∷ []) (carried-numbered p signature text) none).0 in
+    carried_fit p signature text
+    (none-of-append (carried_causes p signature text) ((ltb (length w.slice) (length whole), 6) ∷ []) (carried-numbered p signature text) none).0 in
     let long : w.made.length ≡ length whole = w.writes.bytes ∙ rw none in
     let front : take w.made.length w.slice' ≡ whole =
     rw (w.writes.written, none, long) (take_at whole (drop (length whole) w.slice) (length whole) refl) in
@@ -67,37 +67,37 @@ written-is-read p w signature-bytes text-bytes granted r same enough room =
 
 -- a signature and a text that a sheet can carry are written into a slice that is long enough
 right-written : (p : Profile) (signature text : List ℕ) (w : SheetWriting p) → w.signature ≡ signature → w.text ≡ text
-    → firstCause (profileCauses p) ≡ 0 → Carried p signature text → length (sheetOf p signature text) ≤ length w.slice
-    → Gives (sheetOf p signature text) w
+    → first_cause (profile_causes p) ≡ 0 → Carried p signature text → length (sheet_of p signature text) ≤ length w.slice
+    → Gives (sheet_of p signature text) w
 right-written p signature text w own-signature own-text passed carried room =
     let none =
-    fit-carried p signature text (record { passed = passed; some-text = carried.some-text; short-text = carried.short-text; whole = carried.whole }) in
+    fit_carried p signature text (record { passed = passed; some-text = carried.some-text; short-text = carried.short-text; whole = carried.whole }) in
     let code = room-granted p signature text w.slice none room in
     let writes : WritesSheet p signature text w.slice w.slice' w.made = rw (own-signature, own-text) at w.writes in
     record { granted = writes.code ∙ code; bytes = writes.bytes ∙ rw code; written = writes.written ∙ rw code }
 
 pub read-is-written : ReadSheetIsWritten
-unfolding sheetCode isWrong signature_in textIn
-read-is-written p r granted w own-signature own-text room = by (readSheet p r.sheet) refl
+unfolding sheet_code is_wrong signature_in text_in
+read-is-written p r granted w own-signature own-text room = by (read_sheet p r.sheet) refl
   where
-    reads : ReadsSheet p r.sheet r.signatureSlice r.textSlice r.signatureSlice' r.textSlice' r.found
+    reads : ReadsSheet p r.sheet r.signature_slice r.text_slice r.signature_slice' r.text_slice' r.found
     reads = r.reads
 
-    none : sheetCode p r.sheet r.signatureSlice r.textSlice ≡ 0
+    none : sheet_code p r.sheet r.signature_slice r.text_slice ≡ 0
     none = sym reads.code ∙ granted
 
-    both : (firstCause (profileCauses p) ≡ 0) × (firstCause (sheetCauses p r.sheet r.signatureSlice r.textSlice) ≡ 0)
-    both = none-of-append (profileCauses p) (sheetCauses p r.sheet r.signatureSlice r.textSlice) (profile-numbered p) none
+    both : (first_cause (profile_causes p) ≡ 0) × (first_cause (sheet_causes p r.sheet r.signature_slice r.text_slice) ≡ 0)
+    both = none-of-append (profile_causes p) (sheet_causes p r.sheet r.signature_slice r.text_slice) (profile-numbered p) none
 
-    by : (found : Reading) → readSheet p r.sheet ≡ found → Gives r.sheet w
-    by (wrongLine n) q = let seventeen : ◌≡◌ {A = ℕ} 17 0 = rw q at both.1 in absurd (omega arith)
+    by : (found : Reading) → read_sheet p r.sheet ≡ found → Gives r.sheet w
+    by (wrong_line n) q = let seventeen : ◌≡◌ {A = ℕ} 17 0 = rw q at both.1 in absurd (omega arith)
     by (read signature text) q =
         let right = (exact p (profile-limits p both.0) r.sheet signature text).0 q in
         let carried = right.0 in
-        let front : take (signatureLength p) r.signatureSlice' ≡ signature =
-        rw (reads.signature-written, none, q) (take_at signature (drop (signatureLength p) r.signatureSlice) (signatureLength p) carried.whole) in
+        let front : take (signature_length p) r.signature_slice' ≡ signature =
+        rw (reads.signature-written, none, q) (take_at signature (drop (signature_length p) r.signature_slice) (signature_length p) carried.whole) in
         let long : r.found.length ≡ length text = reads.text-length ∙ rw (none, q) in
-        let words : take r.found.length r.textSlice' ≡ text =
-        rw (reads.text-written, none, q, long) (take_at text (drop (length text) r.textSlice) (length text) refl) in
+        let words : take r.found.length r.text_slice' ≡ text =
+        rw (reads.text-written, none, q, long) (take_at text (drop (length text) r.text_slice) (length text) refl) in
         rw right.1
         (right-written p signature text w (own-signature ∙ front) (own-text ∙ words) both.0 carried (omega (arith, room, ap length right.1)))

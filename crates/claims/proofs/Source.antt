@@ -4,53 +4,53 @@ use mathlib.Core.List.{List, [], ◌∷◌, ◌++◌}
 use Prim.Native.Nat.{ℕ, ◌+◌, ◌<◌, ◌≤◌}
 use native.Mathlib.Nat.{le_refl}
 use native.Mathlib.Omega.{arith}
-use Rattle.lists.proofs.Pairs.{Each, each-imply, Pairs, pairs-imply, Apart}
-use Rattle.claims.specs.Orders.{givenAlong, Along}
+use Rattle.lists.proofs.Pairs.{Each, each_imply, Pairs, pairs_imply, Apart}
+use Rattle.claims.specs.Orders.{given_along, Along}
 
-module _ {Item : Type 0} (leafOf : Item → ℕ) (Good : Item → Type 0) where
+module _ {Item : Type 0} (leaf_of : Item → ℕ) (Good : Item → Type 0) where
   -- all items are good, and their leaves rise: from n on, and below m
   abbrev pub Rises : ℕ → List Item → ℕ → Type 0
   Rises n [] m = n ≤ m
-  Rises n (x ∷ more) m = (n ≤ leafOf x) × Good x × Rises (leafOf x + 1) more m
+  Rises n (x ∷ more) m = (n ≤ leaf_of x) × Good x × Rises (leaf_of x + 1) more m
 
-  rises-from : (k n m : ℕ) (xs : List Item) → k ≤ n → Rises n xs m → Rises k xs m
-  rises-from k n m [] h r = omega arith
-  rises-from k n m (x ∷ xs) h r = (omega (arith, r.0), r.1, r.2)
+  rises_from : (k n m : ℕ) (xs : List Item) → k ≤ n → Rises n xs m → Rises k xs m
+  rises_from k n m [] h r = omega arith
+  rises_from k n m (x ∷ xs) h r = (omega (arith, r.0), r.1, r.2)
 
-  rises-append : (n m k : ℕ) (xs ys : List Item) → Rises n xs m → Rises m ys k → Rises n (xs ++ ys) k
-  rises-append n m k [] ys r q = rises-from n m k ys r q
-  rises-append n m k (x ∷ xs) ys r q = (r.0, r.1, rises-append (leafOf x + 1) m k xs ys r.2 q)
+  rises_append : (n m k : ℕ) (xs ys : List Item) → Rises n xs m → Rises m ys k → Rises n (xs ++ ys) k
+  rises_append n m k [] ys r q = rises_from n m k ys r q
+  rises_append n m k (x ∷ xs) ys r q = (r.0, r.1, rises_append (leaf_of x + 1) m k xs ys r.2 q)
 
-  rises-least : (n m : ℕ) (xs : List Item) → Rises n xs m → Each (λ x. n ≤ leafOf x) xs
-  rises-least n m [] r = tt
-  rises-least n m (x ∷ xs) r =
-      (r.0, each-imply (λ y. leafOf x + 1 ≤ leafOf y) (λ y. n ≤ leafOf y) (λ y h. omega (arith, r.0)) xs (rises-least (leafOf x + 1) m xs r.2))
+  rises_least : (n m : ℕ) (xs : List Item) → Rises n xs m → Each (λ x. n ≤ leaf_of x) xs
+  rises_least n m [] r = tt
+  rises_least n m (x ∷ xs) r =
+      (r.0, each_imply (λ y. leaf_of x + 1 ≤ leaf_of y) (λ y. n ≤ leaf_of y) (λ y h. omega (arith, r.0)) xs (rises_least (leaf_of x + 1) m xs r.2))
 
-  pub rises-pairs : (n m : ℕ) (xs : List Item) → Rises n xs m → Pairs (λ x y. leafOf x < leafOf y) xs
-  rises-pairs n m [] r = tt
-  rises-pairs n m (x ∷ xs) r = (
-    each-imply (λ y. leafOf x + 1 ≤ leafOf y) (λ y. leafOf x < leafOf y) (λ y h. omega arith) xs (rises-least (leafOf x + 1) m xs r.2),
-    rises-pairs (leafOf x + 1) m xs r.2,
+  pub rises_pairs : (n m : ℕ) (xs : List Item) → Rises n xs m → Pairs (λ x y. leaf_of x < leaf_of y) xs
+  rises_pairs n m [] r = tt
+  rises_pairs n m (x ∷ xs) r = (
+    each_imply (λ y. leaf_of x + 1 ≤ leaf_of y) (λ y. leaf_of x < leaf_of y) (λ y h. omega arith) xs (rises_least (leaf_of x + 1) m xs r.2),
+    rises_pairs (leaf_of x + 1) m xs r.2,
   )
 
-  pub rises-good : (n m : ℕ) (xs : List Item) → Rises n xs m → Each Good xs
-  rises-good n m [] r = tt
-  rises-good n m (x ∷ xs) r = (r.1, rises-good (leafOf x + 1) m xs r.2)
+  pub rises_good : (n m : ℕ) (xs : List Item) → Rises n xs m → Each Good xs
+  rises_good n m [] r = tt
+  rises_good n m (x ∷ xs) r = (r.1, rises_good (leaf_of x + 1) m xs r.2)
 
   -- no two have the same leaf
-  pub rises-apart : (n m : ℕ) (xs : List Item) → Rises n xs m → Pairs (Apart leafOf) xs
-  rises-apart n m xs r = pairs-imply (λ x y. leafOf x < leafOf y) (Apart leafOf) (λ x y h same. omega arith) xs (rises-pairs n m xs r)
+  pub rises_apart : (n m : ℕ) (xs : List Item) → Rises n xs m → Pairs (Apart leaf_of) xs
+  rises_apart n m xs r = pairs_imply (λ x y. leaf_of x < leaf_of y) (Apart leaf_of) (λ x y h same. omega arith) xs (rises_pairs n m xs r)
 
   -- the source: a state from which leaves from n on may come, and what a call that is allowed does to it
   module _ {State Call : Type 0} (after : State → Call → State) (gives : State → Call → List Item) (allowed : State → Call → Type 0) (From : State → ℕ → Type 0)
       (step : (s : State) (n : ℕ) → From s n → (c : Call) → allowed s c → (m : ℕ) × Rises n (gives s c) m × From (after s c) m) where
-    pub issued-rises : (s : State) (n : ℕ) → From s n → (calls : List Call) → Along after allowed s calls → (m : ℕ) × Rises n (givenAlong after gives s calls) m
-    unfolding givenAlong Along
-    issued-rises s n from [] all = (n, le_refl n)
-    issued-rises s n from (c ∷ calls) all =
+    pub issued_rises : (s : State) (n : ℕ) → From s n → (calls : List Call) → Along after allowed s calls → (m : ℕ) × Rises n (given_along after gives s calls) m
+    unfolding given_along Along
+    issued_rises s n from [] all = (n, le_refl n)
+    issued_rises s n from (c ∷ calls) all =
         let now = step s n from c all.0 in
-        let rest = issued-rises (after s c) now.0 now.2 calls all.1 in
-        (rest.0, rises-append n now.0 rest.0 (gives s c) (givenAlong after gives (after s c) calls) now.1 rest.1)
+        let rest = issued_rises (after s c) now.0 now.2 calls all.1 in
+        (rest.0, rises_append n now.0 rest.0 (gives s c) (given_along after gives (after s c) calls) now.1 rest.1)
 
 -- where every call is allowed, so is every list
 pub always : {State Call : Type 0} (after : State → Call → State) (s : State) (calls : List Call) → Along after (λ s c. Unit {0}) s calls

@@ -7,7 +7,7 @@ use Prim.Native.Nat.{ℕ, zero, suc, ◌+◌, ◌-◌, ◌*◌, ◌/◌, ◌≤�
 use native.Mathlib.Nat.{le_refl, le_of_lt, suc-mul}
 use native.Mathlib.Omega.{arith}
 use lib.ListN.{length, get_or}
-use Rattle.lists.proofs.Numbers.{lt-or-le}
+use Rattle.lists.proofs.Numbers.{lt_or_le}
 use Rattle.codewords.specs.Codeword.{total, IsRow, IsCodeword, AtMost}
 
 -- the last place of the chain with a name; the first is 0
@@ -50,23 +50,23 @@ rising w [] k m low c = le_refl _
 rising w (j ∷ name) k m low zero = omega arith
 rising w (j ∷ name) k m low (suc c) = rising w name _ _ (omega arith) c
 
-length-rowAt : (w : ℕ) (name : List ℕ) (k : ℕ) → length (row_at w name k) ≡ length name
+length-row_at : (w : ℕ) (name : List ℕ) (k : ℕ) → length (row_at w name k) ≡ length name
 unfolding row_at
-length-rowAt w [] k = refl
-length-rowAt w (j ∷ name) k = ap suc (length-rowAt w name _)
+length-row_at w [] k = refl
+length-row_at w (j ∷ name) k = ap suc (length-row_at w name _)
 
 -- the lengths of a row on a chain are below w
-below-rowAt : (w : ℕ) (name : List ℕ) (k : ℕ) → IsName w name → k ≤ last w name → (c : ℕ) → c < length name → get_or (row_at w name k) c 0 < w
+below-row_at : (w : ℕ) (name : List ℕ) (k : ℕ) → IsName w name → k ≤ last w name → (c : ℕ) → c < length name → get_or (row_at w name k) c 0 < w
 unfolding row_at last
-below-rowAt w [] k is within c h = absurd (omega arith)
-below-rowAt w (j ∷ name) k is within zero h = omega (arith, is.0, is.1)
-below-rowAt w (j ∷ name) k is within (suc c) h = below-rowAt w name _ is.2 (omega arith) c (omega arith)
+below-row_at w [] k is within c h = absurd (omega arith)
+below-row_at w (j ∷ name) k is within zero h = omega (arith, is.0, is.1)
+below-row_at w (j ∷ name) k is within (suc c) h = below-row_at w name _ is.2 (omega arith) c (omega arith)
 
 -- each place has a sum one more than the place before
-total-rowAt : (w : ℕ) (name : List ℕ) (k : ℕ) → IsName w name → k ≤ last w name → total (row_at w name k) ≡ total name + k
+total-row_at : (w : ℕ) (name : List ℕ) (k : ℕ) → IsName w name → k ≤ last w name → total (row_at w name k) ≡ total name + k
 unfolding row_at last total
-total-rowAt w [] k is within = omega arith
-total-rowAt w (j ∷ name) k is within = omega (arith, is.0, is.1, total-rowAt w name (min k (last w name - j)) is.2 (omega arith))
+total-row_at w [] k is within = omega arith
+total-row_at w (j ∷ name) k is within = omega (arith, is.0, is.1, total-row_at w name (min k (last w name - j)) is.2 (omega arith))
 
 -- the sums of a chain lie as far below the middle as above it
 symmetric : (w : ℕ) (name : List ℕ) → IsName w name → last w name + 2 * total name ≡ length name * (w - 1)
@@ -83,19 +83,19 @@ module _ (j k m : ℕ) (low : j ≤ m) where
   same_place = omega arith
 
 -- the row at a place lies there
-locate-rowAt : (w : ℕ) (name : List ℕ) (k : ℕ) → IsName w name → k ≤ last w name → locate w (row_at w name k) ≡ record { name = name; place = k }
+locate-row_at : (w : ℕ) (name : List ℕ) (k : ℕ) → IsName w name → k ≤ last w name → locate w (row_at w name k) ≡ record { name = name; place = k }
 unfolding locate row_at last
-locate-rowAt w [] k is within = ap (λ place. record { name = []; place = place }) (omega arith)
-locate-rowAt w (j ∷ name) k is within =
-    rw (locate-rowAt w name (min k (last w name - j)) is.2 (omega arith), same_first j k (last w name) is.1, same_place j k (last w name) is.1)
+locate-row_at w [] k is within = ap (λ place. record { name = []; place = place }) (omega arith)
+locate-row_at w (j ∷ name) k is within =
+    rw (locate-row_at w name (min k (last w name - j)) is.2 (omega arith), same_first j k (last w name) is.1, same_place j k (last w name) is.1)
 
 -- a row's first length t, with the others at the place i of m: what `row_at` makes of where the row lies
 module _ (t i m j : ℕ) (within : i ≤ m) (first : j ≡ min t (m - i)) where
   row_first : max j (i + t - j + 2 * j - m) ≡ t
   row_first = omega arith
 
-  row-behind : min (i + t - j) (m - j) ≡ i
-  row-behind = omega arith
+  row_behind : min (i + t - j) (m - j) ≡ i
+  row_behind = omega arith
 
   row_within : (w : ℕ) → t < w → i + t - j ≤ m + (w - 1) - 2 * j
   row_within w below = omega arith
@@ -117,7 +117,7 @@ lies w (t ∷ row) below =
     record {
       named = (omega arith, omega arith, tail.named);
       within = row_within t i m (min t (m - i)) tail.within refl w t-below;
-      here = rw (row_first t i m (min t (m - i)) tail.within refl, row-behind t i m (min t (m - i)) tail.within refl, tail.here);
+      here = rw (row_first t i m (min t (m - i)) tail.within refl, row_behind t i m (min t (m - i)) tail.within refl, tail.here);
     }
 
 -- the row with the sum s on the chain of a row
@@ -136,7 +136,7 @@ module _ (w l s : ℕ) (half : s ≡ l * (w - 1) / 2) where
   passes row is =
       let name = name_of w row in
       let lying = lies w row (λ c h. is.digits c (omega arith)) in
-      let long : length name ≡ l = sym (length-rowAt w name (place_of w row)) ∙ ap length lying.here ∙ is.chains in
+      let long : length name ≡ l = sym (length-row_at w name (place_of w row)) ∙ ap length lying.here ∙ is.chains in
       let sums : last w name + 2 * total name ≡ l * (w - 1) = symmetric w name lying.named ∙ ap (λ n. n * (w - 1)) long in
       record { lying = lying; long = long; from = omega arith; upto = omega arith }
 
@@ -148,11 +148,11 @@ module _ (w l s : ℕ) (half : s ≡ l * (w - 1) / 2) where
       let k = s - total name in
       record {
         lengths = record {
-          chains = length-rowAt w name k ∙ has.long;
+          chains = length-row_at w name k ∙ has.long;
           digits =
-              λ c h. below-rowAt w name k has.lying.named has.upto c (omega (arith, has.long));
+              λ c h. below-row_at w name k has.lying.named has.upto c (omega (arith, has.long));
         };
-        sum = omega (arith, total-rowAt w name k has.lying.named has.upto, has.from);
+        sum = omega (arith, total-row_at w name k has.lying.named has.upto, has.from);
       }
 
   -- it tells the chain's name
@@ -160,7 +160,7 @@ module _ (w l s : ℕ) (half : s ≡ l * (w - 1) / 2) where
   unfolding middle
   name-of-middle row is =
       let has = passes row is in
-      ap (λ x. x.name) (locate-rowAt w (name_of w row) (s - total (name_of w row)) has.lying.named has.upto)
+      ap (λ x. x.name) (locate-row_at w (name_of w row) (s - total (name_of w row)) has.lying.named has.upto)
 
   -- so two rows that have the same are on one chain, and one of them is at most the other
   pub same-middle : (xs ys : List ℕ) → IsRow w l xs → IsRow w l ys → middle w s xs ≡ middle w s ys → AtMost l xs ys ⊎ AtMost l ys xs
@@ -170,4 +170,4 @@ module _ (w l s : ℕ) (half : s ≡ l * (w - 1) / 2) where
       let x-here : row_at w name (place_of w xs) ≡ xs = ap (λ n. row_at w n (place_of w xs)) (sym one_name) ∙ (passes xs is_x).lying.here in
       let y-here = (passes ys is_y).lying.here in
       ⊎_elim (λ less. inl (λ c h. rw (x-here, y-here) at (rising w name (place_of w xs) (place_of w ys) (le_of_lt less) c)))
-      (λ over. inr (λ c h. rw (x-here, y-here) at (rising w name (place_of w ys) (place_of w xs) over c))) (lt-or-le (place_of w xs) (place_of w ys))
+      (λ over. inr (λ c h. rw (x-here, y-here) at (rising w name (place_of w ys) (place_of w xs) over c))) (lt_or_le (place_of w xs) (place_of w ys))

@@ -3,32 +3,32 @@ use Rattle.std.specs.Prelude.{cond, ℕ, ◌+◌, ◌≤◌, ◌<◌, eqb, lengt
 use mathlib.Core.List.{List, [], ◌∷◌, map, Permᴰ}
 use Rattle.lists.specs.Distinct.{Distinct}
 use Rattle.profile.specs.declared.Profile.{Profile}
-use Rattle.tweak.specs.Tweak.{firstDomain}
-use Rattle.tree.specs.Tree.{rootOf}
-use Rattle.signing_key.specs.Key.{freshKey}
-use Rattle.verifier.specs.Verifying.{freshVerifier}
-use Rattle.verifier.specs.Operations.{VerifyingCall, verifyCode, verifierAfter}
-use Rattle.signature.specs.Signature.{leafIn}
+use Rattle.tweak.specs.Tweak.{first_domain}
+use Rattle.tree.specs.Tree.{root_of}
+use Rattle.signing_key.specs.Key.{fresh_key}
+use Rattle.verifier.specs.Verifying.{fresh_verifier}
+use Rattle.verifier.specs.Operations.{VerifyingCall, verify_code, verifier_after}
+use Rattle.signature.specs.Signature.{leaf_in}
 use Rattle.verifier.specs.declared.Verifier.{Verifier}
-use Rattle.claims.specs.Orders.{KeyCall, Issued, givenAlong, issued, leafOf, Check, AllAccepted}
+use Rattle.claims.specs.Orders.{KeyCall, Issued, given_along, issued, leaf_of, Check, AllAccepted}
 
 -- the call itself, if its signature is accepted
-unfoldable pub acceptedBy : Verifier → VerifyingCall → List VerifyingCall
-acceptedBy v c = cond (eqb (verifyCode v c) 0) (c ∷ []) []
+unfoldable pub accepted_by : Verifier → VerifyingCall → List VerifyingCall
+accepted_by v c = cond (eqb (verify_code v c) 0) (c ∷ []) []
 
 -- those calls of a list that are accepted, the first at a cabinet and each other at the cabinet that the one before handed back
 abbrev pub accepted : Verifier → List VerifyingCall → List VerifyingCall
-accepted v calls = givenAlong verifierAfter acceptedBy v calls
+accepted v calls = given_along verifier_after accepted_by v calls
 
 -- the leaf that a call's signature carries
-abbrev pub leafChecked : VerifyingCall → ℕ
-leafChecked c = leafIn c.signature
+abbrev pub leaf_checked : VerifyingCall → ℕ
+leaf_checked c = leaf_in c.signature
 
 -- "For every list of checks from fresh, no leaf is accepted twice"
 abbrev pub NoLeafAcceptedTwice : Type 0
 NoLeafAcceptedTwice =
     (p : Profile) (seed root : List ℕ) (calls : List VerifyingCall)
-    → Distinct 0 (map leafChecked (accepted (freshVerifier p seed root) calls))
+    → Distinct 0 (map leaf_checked (accepted (fresh_verifier p seed root) calls))
 
 -- "each comes before any leaf 32 or more above it": of the leaves at two places of an order of arrival
 abbrev pub InTime : (leaves : List ℕ) → Type 0
@@ -42,6 +42,6 @@ InTime leaves = (i j : ℕ) → i < length leaves → j < length leaves → get_
 abbrev pub ArrivalsAccepted : Type 0
 ArrivalsAccepted =
     (p : Profile) (seed secret : List ℕ) (calls : List KeyCall) (arrivals : List Issued)
-    → Permᴰ arrivals (issued (freshKey p seed secret) calls)
-    → InTime (map leafOf arrivals)
-    → (checks : List Check) → AllAccepted p.shape (freshVerifier p seed (rootOf (firstDomain seed) p secret)) arrivals checks
+    → Permᴰ arrivals (issued (fresh_key p seed secret) calls)
+    → InTime (map leaf_of arrivals)
+    → (checks : List Check) → AllAccepted p.shape (fresh_verifier p seed (root_of (first_domain seed) p secret)) arrivals checks

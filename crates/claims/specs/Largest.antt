@@ -15,9 +15,9 @@ pub record Antichain (w l : ℕ) (rows : List (List ℕ)) : Type 0 where
       → (get_or rows i [] ≡ get_or rows j [] → ⊥) → AtMost l (get_or rows i []) (get_or rows j []) → ⊥
 
 -- the rows of the numbers 0 to n − 1
-unfoldable pub rowsBelow : Shape → ℕ → List (List ℕ)
-rowsBelow shape zero = []
-rowsBelow shape (suc n) = rowsBelow shape n ++ (row_of shape n ∷ [])
+unfoldable pub rows_below : Shape → ℕ → List (List ℕ)
+rows_below shape zero = []
+rows_below shape (suc n) = rows_below shape n ++ (row_of shape n ∷ [])
 
 -- "no code with as many chains signs more numbers"
 pub record LargestCode : Type 0 where
@@ -26,4 +26,4 @@ pub record LargestCode : Type 0 where
       → Antichain shape.width shape.chains rows → length rows ≤ count shape
   -- the rows of a shape, whatever its sum, are such a list with count members: those of the sum above reach the bound
   pub reached : (shape : Shape)
-      → Antichain shape.width shape.chains (rowsBelow shape (count shape)) × (length (rowsBelow shape (count shape)) ≡ count shape)
+      → Antichain shape.width shape.chains (rows_below shape (count shape)) × (length (rows_below shape (count shape)) ≡ count shape)

@@ -5,21 +5,21 @@ use Rattle.std.specs.Prelude.{◌≡◌, List, ℕ, ◌-◌, ◌*◌, ◌^◌, �
 use Rattle.profile.specs.declared.Profile.{Profile}
 use Rattle.counts.specs.Counts.{count}
 use Rattle.tweak.specs.declared.Domain.{Domain}
-use Rattle.chains.specs.Leaves.{leafKeyOf}
-use Rattle.one_time.specs.Operations.{revealedBy, recoveredBy, steps_of}
+use Rattle.chains.specs.Leaves.{leaf_key_of}
+use Rattle.one_time.specs.Operations.{revealed_by, recovered_by, steps_of}
 use Rattle.merkle.specs.Nodes.{path, climbed}
-use Rattle.tree.specs.Tree.{rootOf}
+use Rattle.tree.specs.Tree.{root_of}
 
 -- "The checker steps on to w − 1, l × (w − 1) − s steps in all": what Recover finds of the values that Reveal shows, for the same number
 -- and leaf
 abbrev pub RecoversRevealed : Type 0
 RecoversRevealed =
     (d : Domain) (p : Profile) (secret : List ℕ) (leaf n : ℕ) → n < count p.shape
-    → (recoveredBy d p leaf n (revealedBy d p secret leaf n) ≡ leafKeyOf d p secret leaf)
+    → (recovered_by d p leaf n (revealed_by d p secret leaf n) ≡ leaf_key_of d p secret leaf)
     × (steps_of p.shape n ≡ p.shape.chains * (p.shape.width - 1) - p.shape.sum)
 
 -- "h siblings from the bottom": the climb along a leaf's own siblings ends at the root
 abbrev pub ClimbsToRoot : Type 0
 ClimbsToRoot =
     (d : Domain) (p : Profile) (secret : List ℕ) (leaf : ℕ) → leaf < 2 ^ p.height
-    → climbed d leaf (leafKeyOf d p secret leaf) (path d (leafKeyOf d p secret) p.height leaf) p.height ≡ rootOf d p secret
+    → climbed d leaf (leaf_key_of d p secret leaf) (path d (leaf_key_of d p secret) p.height leaf) p.height ≡ root_of d p secret

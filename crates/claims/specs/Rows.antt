@@ -2,9 +2,9 @@
 use Rattle.std.specs.Prelude.{◌≡◌, ◌↔◌, List, ℕ, ◌<◌}
 use Rattle.profile.specs.declared.Shape.{Shape}
 use Rattle.counts.specs.Counts.{count}
-use Rattle.counts.specs.Operations.{countCode}
+use Rattle.counts.specs.Operations.{count_code}
 use Rattle.codewords.specs.Codeword.{IsCodeword, AtMost, Before}
-use Rattle.codewords.specs.Operations.{row_of, rankCode}
+use Rattle.codewords.specs.Operations.{row_of, rank_code}
 
 -- "Under one profile, two message numbers below the count are equal exactly when no chain in the first one's signature stands
 -- higher than the same chain in the second's": a chain stands at the length that the number's row has at the chain's place
@@ -26,5 +26,5 @@ Ordered = (shape : Shape) (m n : ℕ) → m < count shape → n < count shape �
 -- "So, past 5, refused exactly if no number has that row": Gather, where 1, 2, 3 and 5 refuse nothing
 abbrev pub RankExact : Type 0
 RankExact =
-    (shape : Shape) (row work : List ℕ) → countCode shape work ≡ 0
-    → (rankCode shape row work ≡ 0) ↔ ((n : ℕ) × (n < count shape) × (row_of shape n ≡ row))
+    (shape : Shape) (row work : List ℕ) → count_code shape work ≡ 0
+    → (rank_code shape row work ≡ 0) ↔ ((n : ℕ) × (n < count shape) × (row_of shape n ≡ row))

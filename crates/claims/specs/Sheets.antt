@@ -1,9 +1,9 @@
 -- Document 02, point 1: "Reading a written sheet yields the same signature and text, writing what was read the same bytes". Of what the
 -- operations answer and leave, for every profile, in either edition.
 use Rattle.std.specs.Prelude.{◌≡◌, List, ◌++◌, ℕ, ◌≤◌, ◌<◌, length, get_or, take, drop}
-use Rattle.refusal.specs.Code.{outcomeCode}
+use Rattle.refusal.specs.Code.{outcome_code}
 use Rattle.profile.specs.declared.Profile.{Profile}
-use Rattle.signature.specs.Signature.{signatureLength}
+use Rattle.signature.specs.Signature.{signature_length}
 use Rattle.sheet_reader.specs.Operations.{ReadsSheet}
 use Rattle.sheet_reader.specs.declared.SheetRead.{SheetRead}
 use Rattle.sheet_writer.specs.Operations.{WritesSheet}
@@ -25,39 +25,39 @@ pub record SheetWriting (p : Profile) : Type 0 where
 -- a call of Read sheet: the sheet, its slices before and after, and what it answers
 pub record SheetReading (p : Profile) : Type 0 where
   pub sheet : List ℕ
-  pub signatureSlice : List ℕ
-  pub textSlice : List ℕ
-  pub signatureSlice' : List ℕ
-  pub textSlice' : List ℕ
+  pub signature_slice : List ℕ
+  pub text_slice : List ℕ
+  pub signature_slice' : List ℕ
+  pub text_slice' : List ℕ
   pub found : SheetRead
-  pub reads : ReadsSheet p sheet signatureSlice textSlice signatureSlice' textSlice' found
+  pub reads : ReadsSheet p sheet signature_slice text_slice signature_slice' text_slice' found
 
 -- a reading that is granted, with this signature and text at the front of its slices
 pub record Yields {p : Profile} (signature text : List ℕ) (r : SheetReading p) : Type 0 where
-  pub granted : outcomeCode r.found.outcome ≡ 0
+  pub granted : outcome_code r.found.outcome ≡ 0
   pub no_line : r.found.line ≡ 0
   pub text-length : r.found.length ≡ length text
-  pub signature-read : r.signatureSlice' ≡ signature ++ drop (length signature) r.signatureSlice
-  pub text-read : r.textSlice' ≡ text ++ drop (length text) r.textSlice
+  pub signature-read : r.signature_slice' ≡ signature ++ drop (length signature) r.signature_slice
+  pub text-read : r.text_slice' ≡ text ++ drop (length text) r.text_slice
 
 -- "Reading a written sheet yields the same signature and text": the bytes that Write sheet wrote, read into slices that are long enough
 abbrev pub WrittenSheetIsRead : Type 0
 WrittenSheetIsRead =
-    (p : Profile) (w : SheetWriting p) → AllBytes w.signature → AllBytes w.text → outcomeCode w.made.outcome ≡ 0
+    (p : Profile) (w : SheetWriting p) → AllBytes w.signature → AllBytes w.text → outcome_code w.made.outcome ≡ 0
     → (r : SheetReading p) → r.sheet ≡ take w.made.length w.slice'
-    → length w.signature ≤ length r.signatureSlice → length w.text ≤ length r.textSlice
+    → length w.signature ≤ length r.signature_slice → length w.text ≤ length r.text_slice
     → Yields w.signature w.text r
 
 -- a writing that is granted, with this sheet at the front of its slice
 pub record Gives {p : Profile} (sheet : List ℕ) (w : SheetWriting p) : Type 0 where
-  pub granted : outcomeCode w.made.outcome ≡ 0
+  pub granted : outcome_code w.made.outcome ≡ 0
   pub bytes : w.made.length ≡ length sheet
   pub written : w.slice' ≡ sheet ++ drop (length sheet) w.slice
 
 -- "writing what was read the same bytes": the signature and the text that Read sheet wrote, written into a slice that is long enough
 abbrev pub ReadSheetIsWritten : Type 0
 ReadSheetIsWritten =
-    (p : Profile) (r : SheetReading p) → outcomeCode r.found.outcome ≡ 0
-    → (w : SheetWriting p) → w.signature ≡ take (signatureLength p) r.signatureSlice'
-    → w.text ≡ take r.found.length r.textSlice' → length r.sheet ≤ length w.slice
+    (p : Profile) (r : SheetReading p) → outcome_code r.found.outcome ≡ 0
+    → (w : SheetWriting p) → w.signature ≡ take (signature_length p) r.signature_slice'
+    → w.text ≡ take r.found.length r.text_slice' → length r.sheet ≤ length w.slice
     → Gives r.sheet w

@@ -1,6 +1,7 @@
 // The claims, over the definitions that the contracts cite. A function here does nothing: its contract is the claim, so that the crate is
 // proved only with
 // the claim as it is stated, in specs/ here or of the crate that has the definitions.
+#![tactic(auto)]
 ghost use Rattle.numbers.specs.Order.{HighestDecides};
 ghost use Rattle.sha256_block.specs.Constants.{RootWords};
 ghost use Rattle.sha256.specs.Running.{RunningHash};

@@ -7,9 +7,9 @@ use native.Mathlib.Nat.{zero-add, add-zero, not-suc-le-zero, le_of_suc-le-suc}
 use native.Mathlib.Omega.{arith}
 use borrow.Author.Tests.{lt-ltb, le-ltb}
 use lib.ListN.{length, get_or}
-use Rattle.lists.proofs.Numbers.{lt-or-le}
+use Rattle.lists.proofs.Numbers.{lt_or_le}
 use Rattle.counts.specs.Counts.{sum_to, share, D}
-use Rattle.counts.proofs.CountLaws.{share-low, share-high, sum-term}
+use Rattle.counts.proofs.CountLaws.{share-low, share-high, sum_term}
 use Rattle.codewords.specs.Codeword.{Placed, place, codeword, rank, total, IsCodeword}
 
 -- a share that holds the number ends the search
@@ -31,10 +31,10 @@ pub record Found (f : ℕ → ℕ) (first limit n : ℕ) (placed : Placed) : Typ
   pub holds : placed.number < f placed.digit
 
 -- a search that has taken off the shares before j
-place-finds : (f : ℕ → ℕ) (tries j n : ℕ) → sum_to f j + n < sum_to f (j + tries) → Found f j (j + tries) (sum_to f j + n) (place f tries j n)
+place_finds : (f : ℕ → ℕ) (tries j n : ℕ) → sum_to f j + n < sum_to f (j + tries) → Found f j (j + tries) (sum_to f j + n) (place f tries j n)
 unfolding sum_to
-place-finds f zero j n within = absurd (omega (arith, rw add-zero at within))
-place-finds f (suc tries) j n within = by (lt-or-le n (f j)) (place-finds f tries (suc j) (n - f j))
+place_finds f zero j n within = absurd (omega (arith, rw add-zero at within))
+place_finds f (suc tries) j n within = by (lt_or_le n (f j)) (place_finds f tries (suc j) (n - f j))
   where
     limit : suc j + tries ≡ j + suc tries
     limit = omega arith
@@ -54,7 +54,7 @@ place-finds f (suc tries) j n within = by (lt-or-le n (f j)) (place-finds f trie
 -- a search from the start
 place_found : (f : ℕ → ℕ) (w n : ℕ) → n < sum_to f w → Found f 0 w n (place f w 0 n)
 unfolding sum_to
-place_found f w n within = simp zero-add at (place-finds f w 0 n (simp zero-add within))
+place_found f w n within = simp zero-add at (place_finds f w 0 n (simp zero-add within))
 
 -- the first length of the codeword with the number n, and the number of the others
 pub record First (w i t n : ℕ) (placed : Placed) : Type 0 where
@@ -68,7 +68,7 @@ unfolding D
 first w i t n h =
     let placed = place (share (D w i) t) w 0 n in
     let found = place_found (share (D w i) t) w n h in
-    let within : placed.digit ≤ t = by placed found (lt-or-le t placed.digit) in
+    let within : placed.digit ≤ t = by placed found (lt_or_le t placed.digit) in
     record { below = found.below; within = within; split = found.split; rest = rw (share-low (D w i) t placed.digit within) at found.holds }
   where
     by : (placed : Placed) → Found (share (D w i) t) 0 w n placed → (t < placed.digit) ⊎ (placed.digit ≤ t) → placed.digit ≤ t
@@ -91,12 +91,12 @@ prepend {w} {i} {t} {a} {row} below within is = record { lengths = record { chai
     digits (suc c) h = is.lengths.digits c (le_of_suc-le-suc h)
 
 -- the number n names a codeword
-pub codeword-valid : (w i t n : ℕ) → n < D w i t → IsCodeword w i t (codeword w i t n)
+pub codeword_valid : (w i t n : ℕ) → n < D w i t → IsCodeword w i t (codeword w i t n)
 unfolding codeword total
-codeword-valid w zero t n h = record { lengths = record { chains = refl; digits = λ c none. absurd (not-suc-le-zero none) }; sum = sym (none_left w t n h).0 }
-codeword-valid w (suc i) t n h =
+codeword_valid w zero t n h = record { lengths = record { chains = refl; digits = λ c none. absurd (not-suc-le-zero none) }; sum = sym (none_left w t n h).0 }
+codeword_valid w (suc i) t n h =
     let head = first w i t n h in
-    prepend head.below head.within (codeword-valid w i _ _ head.rest)
+    prepend head.below head.within (codeword_valid w i _ _ head.rest)
 
 -- the number of the codeword with the number n
 pub rank-codeword : (w i t n : ℕ) → n < D w i t → rank w t (codeword w i t n) ≡ n
@@ -104,7 +104,7 @@ unfolding codeword rank
 rank-codeword w zero t n h = omega (arith, (none_left w t n h).1)
 rank-codeword w (suc i) t n h =
     let head = first w i t n h in
-    rw ((codeword-valid w i _ _ head.rest).lengths.chains, rank-codeword w i _ _ head.rest) (sym head.split)
+    rw ((codeword_valid w i _ _ head.rest).lengths.chains, rank-codeword w i _ _ head.rest) (sym head.split)
 
 -- the first length of a codeword, and the others
 pub record Front (w t a : ℕ) (row : List ℕ) : Type 0 where
@@ -126,7 +126,7 @@ pub rank_below : {w t a : ℕ} {row : List ℕ} (b : ℕ) → Front w t a row �
     → rank w t (a ∷ row) < sum_to (share (D w (length row)) t) b
 unfolding rank
 rank_below {w} {t} {a} {row} b part own less =
-    omega (arith, share-low (D w (length row)) t a part.within, sum-term (share (D w (length row)) t) a b less)
+    omega (arith, share-low (D w (length row)) t a part.within, sum_term (share (D w (length row)) t) a b less)
 
 -- the number of a codeword is below the count
 pub rank_lt : (w i t : ℕ) (row : List ℕ) → IsCodeword w i t row → rank w t row < D w i t

@@ -21,8 +21,8 @@ behind-few chains place h = omega arith
 pub from-few : (chains place : ℕ) {m : ℕ} → chains ≤ m → chains - place ≤ m
 from-few chains place h = omega arith
 
-pub less-left : (left j : ℕ) {m : ℕ} → left ≤ m → left - j ≤ m
-less-left left j h = omega arith
+pub less_left : (left j : ℕ) {m : ℕ} → left ≤ m → left - j ≤ m
+less_left left j h = omega arith
 
 pub left-within : (left j : ℕ) {m : ℕ} → left ≤ m → left - j < m + 1
 left-within left j h = omega arith
@@ -33,5 +33,5 @@ share-at first left j h = omega arith
 pub share-within : (first left j : ℕ) {m : ℕ} → 5 * (first + left) + 5 ≤ m → 5 * (first + left - j) + 5 ≤ m
 share-within first left j h = omega arith
 
-pub not-above : (a b : ℕ) {c : ℕ} → a + b ≡ c → b ≤ c
-not-above a b e = omega arith
+pub not_above : (a b : ℕ) {c : ℕ} → a + b ≡ c → b ≤ c
+not_above a b e = omega arith

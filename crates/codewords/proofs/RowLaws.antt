@@ -8,12 +8,12 @@ use Rattle.profile.specs.declared.Shape.{Shape}
 use Rattle.counts.specs.Counts.{count}
 use Rattle.codewords.specs.Codeword.{IsCodeword}
 use Rattle.codewords.specs.Operations.{row_of}
-use Rattle.codewords.proofs.CodewordLaws.{codeword-valid}
+use Rattle.codewords.proofs.CodewordLaws.{codeword_valid}
 
 module _ (shape : Shape) (n : ℕ) (below : n < count shape) where
-  pub row-valid : IsCodeword shape.width shape.chains shape.sum (row_of shape n)
+  pub row_valid : IsCodeword shape.width shape.chains shape.sum (row_of shape n)
   unfolding count
-  row-valid = codeword-valid shape.width shape.chains shape.sum n below
+  row_valid = codeword_valid shape.width shape.chains shape.sum n below
 
-  pub row-front : (more : List ℕ) → take shape.chains (row_of shape n ++ more) ≡ row_of shape n
-  row-front more = take_at (row_of shape n) more shape.chains row-valid.lengths.chains
+  pub row_front : (more : List ℕ) → take shape.chains (row_of shape n ++ more) ≡ row_of shape n
+  row_front more = take_at (row_of shape n) more shape.chains row_valid.lengths.chains

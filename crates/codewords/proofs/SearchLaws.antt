@@ -11,11 +11,11 @@ use borrow.Author.Tests.{ltb-true, ltb-false}
 use lib.Dec.{ltb}
 use lib.ListN.{length, take, set}
 use lib.Seq.{take-suc-set}
-use Rattle.numbers.specs.Number.{value, toWords}
-use Rattle.numbers.proofs.NumberLaws.{value-toWords-5}
-use Rattle.lists.proofs.Numbers.{lt-or-le}
+use Rattle.numbers.specs.Number.{value, to_words}
+use Rattle.numbers.proofs.NumberLaws.{value-to_words_5}
+use Rattle.lists.proofs.Numbers.{lt_or_le}
 use Rattle.counts.specs.Counts.{sum_to, share, D}
-use Rattle.counts.proofs.CountLaws.{sumTo-mono, share-low, share-high, D-small}
+use Rattle.counts.proofs.CountLaws.{sum_to_mono, share-low, share-high, D-small}
 use Rattle.codewords.specs.Codeword.{place, codeword}
 use Rattle.codewords.proofs.CodewordLaws.{place_here, place-next, first}
 
@@ -28,10 +28,10 @@ past f t j (suc n) h = rw (add-suc j n, share-high f t (j + n) (omega arith), pa
 -- while the skipped shares are not all, the length is one that can be placed
 pub still : (f : ℕ → ℕ) (t w j n m : ℕ) → sum_to (share f t) j + m ≡ n → n < sum_to (share f t) w → (j < w) × (j ≤ t)
 still f t w j n m e h =
-    let below : j < w = ⊎_elim (λ l. l) (λ g. absurd (omega (arith, sumTo-mono (share f t) w j g))) (lt-or-le j w) in
+    let below : j < w = ⊎_elim (λ l. l) (λ g. absurd (omega (arith, sum_to_mono (share f t) w j g))) (lt_or_le j w) in
     let rest : j + (w - j) ≡ w = omega arith in
     let within : j ≤ t =
-    ⊎_elim (λ l. absurd (omega (arith, rw rest at (past f t j (w - j) l)))) (λ g. g) (lt-or-le t j) in
+    ⊎_elim (λ l. absurd (omega (arith, rw rest at (past f t j (w - j) l)))) (λ g. g) (lt_or_le t j) in
     (below, within)
 
 -- a share is taken off
@@ -65,9 +65,9 @@ module _ (w i t n j m : ℕ) (e : place (share (D w i) t) w 0 n ≡ record { dig
       rw (add-one k, take-suc-set row k j h, append_assoc) (ap (λ l. take k row ++ l) (sym codeword-next) ∙ p)
 
 -- a number of the table that is read, compared and taken off
-module _ (w i t j : ℕ) (one : 1 ≤ w) (narrow : w ≤ 16) (few : i ≤ 40) (within : j ≤ t) (n s : List ℕ) (p : s ≡ toWords 5 (D w i (t - j))) where
+module _ (w i t j : ℕ) (one : 1 ≤ w) (narrow : w ≤ 16) (few : i ≤ 40) (within : j ≤ t) (n s : List ℕ) (p : s ≡ to_words 5 (D w i (t - j))) where
   share-is : value s ≡ share (D w i) t j
-  share-is = ap value p ∙ value-toWords-5 (D w i (t - j)) (D-small w i (t - j) one narrow few) ∙ sym (share-low (D w i) t j within)
+  share-is = ap value p ∙ value-to_words_5 (D w i (t - j)) (D-small w i (t - j) one narrow few) ∙ sym (share-low (D w i) t j within)
 
   pub holds : ltb (value n) (value s) ≡ true → value n < share (D w i) t j
   holds e = rw share-is at (ltb-true (value n) (value s) e)
@@ -75,6 +75,6 @@ module _ (w i t j : ℕ) (one : 1 ≤ w) (narrow : w ≤ 16) (few : i ≤ 40) (w
   pub too_small : ltb (value n) (value s) ≡ false → share (D w i) t j ≤ value n
   too_small e = rw share-is at (ltb-false (value n) (value s) e)
 
-  pub taken-off : (r : List ℕ) → value n < 2 ^ 160 → r ≡ toWords 5 (value n - value s) → value r ≡ value n - share (D w i) t j
-  taken-off r small e =
-      ap value e ∙ value-toWords-5 (value n - value s) (lt_of_le_of_lt (sub-le (value n) (value s)) small) ∙ ap (λ k. value n - k) share-is
+  pub taken_off : (r : List ℕ) → value n < 2 ^ 160 → r ≡ to_words 5 (value n - value s) → value r ≡ value n - share (D w i) t j
+  taken_off r small e =
+      ap value e ∙ value-to_words_5 (value n - value s) (lt_of_le_of_lt (sub-le (value n) (value s)) small) ∙ ap (λ k. value n - k) share-is

@@ -1,12 +1,12 @@
 -- Document 01, "Spread, number to row" and "Gather, row to number".
 use Rattle.std.specs.Prelude.{◌≡◌, Bool, false, not, ◌||◌, cond, List, [], ◌∷◌, ◌++◌, ℕ, ◌<◌, ltb, leb, eqb, length, drop}
-use Rattle.refusal.specs.Code.{outcomeCode, firstCause}
+use Rattle.refusal.specs.Code.{outcome_code, first_cause}
 use Rattle.refusal.specs.declared.Outcome.{Outcome}
-use Rattle.numbers.specs.Number.{toWords}
+use Rattle.numbers.specs.Number.{to_words}
 use Rattle.profile.specs.declared.Shape.{Shape}
 use Rattle.counts.specs.Counts.{count}
-use Rattle.counts.specs.Table.{tableAfter}
-use Rattle.counts.specs.Operations.{countCauses}
+use Rattle.counts.specs.Table.{table_after}
+use Rattle.counts.specs.Operations.{count_causes}
 use Rattle.codewords.specs.Codeword.{codeword, rank, total, IsCodeword}
 use Rattle.codewords.specs.declared.ranking.Ranked.{Ranked}
 
@@ -19,36 +19,36 @@ abbrev pub number_of : Shape → List ℕ → ℕ
 number_of shape row = rank shape.width shape.sum row
 
 -- "Spread, number to row: 1, 2, 3, 5; 6 output under l bytes; 7 number not below the count"
-unfoldable pub unrankCode : Shape → ℕ → (work row : List ℕ) → ℕ
-unrankCode shape n work row =
-    firstCause
-    (countCauses shape (length work) ++ ((ltb (length row) shape.chains, 6) ∷ (leb (count shape) n, 7) ∷ []))
+unfoldable pub unrank_code : Shape → ℕ → (work row : List ℕ) → ℕ
+unrank_code shape n work row =
+    first_cause
+    (count_causes shape (length work) ++ ((ltb (length row) shape.chains, 6) ∷ (leb (count shape) n, 7) ∷ []))
 
 -- what Spread answers and leaves: the table after a success and after 7, the row after a success, nothing else
 pub record Unranks (shape : Shape) (n : ℕ) (work row work' row' : List ℕ) (r : Outcome) : Type 0 where
-  pub code : outcomeCode r ≡ unrankCode shape n work row
-  pub table : work' ≡ tableAfter (unrankCode shape n work row) shape work
-  pub written : row' ≡ cond (eqb (unrankCode shape n work row) 0) (row_of shape n ++ drop shape.chains row) row
+  pub code : outcome_code r ≡ unrank_code shape n work row
+  pub table : work' ≡ table_after (unrank_code shape n work row) shape work
+  pub written : row' ≡ cond (eqb (unrank_code shape n work row) 0) (row_of shape n ++ drop shape.chains row) row
 
 -- "a length above w − 1"
-unfoldable pub someAbove : ℕ → List ℕ → Bool
-someAbove w [] = false
-someAbove w (a ∷ row) = leb w a || someAbove w row
+unfoldable pub some_above : ℕ → List ℕ → Bool
+some_above w [] = false
+some_above w (a ∷ row) = leb w a || some_above w row
 
 -- the causes of Gather that look at the row
-abbrev pub rowCauses : Shape → List ℕ → List (Bool × ℕ)
-rowCauses shape row =
-    (not (eqb (length row) shape.chains), 8) ∷ (someAbove shape.width row, 9) ∷ (not (eqb (total row) shape.sum), 10) ∷ []
+abbrev pub row_causes : Shape → List ℕ → List (Bool × ℕ)
+row_causes shape row =
+    (not (eqb (length row) shape.chains), 8) ∷ (some_above shape.width row, 9) ∷ (not (eqb (total row) shape.sum), 10) ∷ []
 
 -- "Gather, row to number: 1, 2, 3, 5; 8 the row hasn't l bytes; 9 a length above w − 1; 10 sum other than s"
-unfoldable pub rankCode : Shape → (row work : List ℕ) → ℕ
-rankCode shape row work = firstCause (countCauses shape (length work) ++ rowCauses shape row)
+unfoldable pub rank_code : Shape → (row work : List ℕ) → ℕ
+rank_code shape row work = first_cause (count_causes shape (length work) ++ row_causes shape row)
 
 -- what Gather answers and leaves; refused, the number is zero
 pub record Ranks (shape : Shape) (row work work' : List ℕ) (r : Ranked) : Type 0 where
-  pub code : outcomeCode r.outcome ≡ rankCode shape row work
-  pub ranked : r.number ≡ toWords 5 (cond (eqb (rankCode shape row work) 0) (number_of shape row) 0)
-  pub table : work' ≡ tableAfter (rankCode shape row work) shape work
+  pub code : outcome_code r.outcome ≡ rank_code shape row work
+  pub ranked : r.number ≡ to_words 5 (cond (eqb (rank_code shape row work) 0) (number_of shape row) 0)
+  pub table : work' ≡ table_after (rank_code shape row work) shape work
 
 -- "Spread, number to row" and "Gather, row to number": each undoes the other
 pub record RankUnrank : Type 0 where

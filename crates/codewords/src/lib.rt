@@ -1,4 +1,5 @@
 // Codewords and their numbers: Spread and Gather.
+#![tactic(auto)]
 pub mod ranking;
 pub mod unranking;
 

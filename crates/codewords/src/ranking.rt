@@ -1,11 +1,11 @@
 // Gather: the number of a codeword.
 ghost use Rattle.std.specs.Prelude.{◌≡◌, not, ◌+◌, ◌-◌, ◌*◌, ◌^◌, ◌≤◌, ◌<◌, eqb, length, take, drop};
-ghost use Rattle.refusal.specs.Code.{outcomeCode, thenFirst};
-ghost use Rattle.numbers.specs.Number.{value, toWords};
+ghost use Rattle.refusal.specs.Code.{outcome_code, then_first};
+ghost use Rattle.numbers.specs.Number.{value, to_words};
 ghost use Rattle.counts.specs.Counts.{sum_to};
 ghost use Rattle.counts.specs.Table.{rows};
 ghost use Rattle.codewords.specs.Codeword.{rank as rank_of, total, IsCodeword};
-ghost use Rattle.codewords.specs.Operations.{someAbove, rowCauses, Ranks};
+ghost use Rattle.codewords.specs.Operations.{some_above, row_causes, Ranks};
 
 use counts::cells::load;
 use counts::table::{count_outcome, fill_past};
@@ -22,7 +22,7 @@ pub struct Ranked {
 
 // Whether a length is above w - 1.
 fn some_above(width: usize, row: &[u8]) -> bool
-    ensures { result ≡ someAbove width row.now }
+    ensures { result ≡ some_above width row.now }
 {
     let mut i = 0;
     while i < row.len() {
@@ -53,7 +53,7 @@ fn sum_differs(sum: usize, row: &[u8]) -> bool
 
 // The causes of Gather that look at the row, behind those of Count.
 fn rank_outcome(checked: Outcome, shape: Shape, row: &[u8]) -> Outcome
-    ensures { outcomeCode result ≡ thenFirst (outcomeCode checked) (rowCauses shape row.now) }
+    ensures { outcome_code result ≡ then_first (outcome_code checked) (row_causes shape row.now) }
 {
     let chains = shape.chains as usize;
     let width = shape.width as usize;
@@ -67,9 +67,9 @@ fn rank_outcome(checked: Outcome, shape: Shape, row: &[u8]) -> Outcome
 // The number with the shares of the lengths below a digit added: those counts are skipped. The share of the length j is the
 // number at `above` - j of the table.
 fn skip(table: &[u32], number: [u32; 5], above: usize, digit: usize) -> [u32; 5]
-    requires number_value { (number ≡ toWords 5 (value number)) × (digit ≤ above) × (5 * above + 5 ≤ length table.now) }
+    requires number_value { (number ≡ to_words 5 (value number)) × (digit ≤ above) × (5 * above + 5 ≤ length table.now) }
     requires digit_bound { value number + sum_to (λ j. value (take 5 (drop (5 * (above - j)) table.now))) digit < 2 ^ 160 }
-    ensures { result ≡ toWords 5 (value number + sum_to (λ j. value (take 5 (drop (5 * (above - j)) table.now))) digit) }
+    ensures { result ≡ to_words 5 (value number + sum_to (λ j. value (take 5 (drop (5 * (above - j)) table.now))) digit) }
 {
     let mut n = number;
     let mut j = 0;
@@ -86,7 +86,7 @@ fn number_of(table: &[u32], row: &[u8], width: usize, sum: usize) -> [u32; 5]
     requires le_width { (1 ≤ width) × (width ≤ 16) × (length row.now ≤ 40) × (sum ≤ 600) }
     requires codeword { IsCodeword width (length row.now) sum row.now }
     requires table_value { take (5 * ((length row.now + 1) * (sum + 1))) table.now ≡ rows width sum (length row.now + 1) }
-    ensures { result ≡ toWords 5 (rank_of width sum row.now) }
+    ensures { result ≡ to_words 5 (rank_of width sum row.now) }
 {
     let mut n = [0u32; 5];
     let mut left = sum;

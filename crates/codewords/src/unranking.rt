@@ -1,6 +1,6 @@
 // Spread: the codeword of a number.
 ghost use Rattle.std.specs.Prelude.{◌≡◌, ◌++◌, ◌≤◌, ◌<◌, length, drop};
-ghost use Rattle.refusal.specs.Code.{outcomeCode};
+ghost use Rattle.refusal.specs.Code.{outcome_code};
 ghost use Rattle.numbers.specs.Number.{value};
 ghost use Rattle.profile.specs.Checks.{InLimits};
 ghost use Rattle.counts.specs.Counts.{count as count_of};
@@ -58,8 +58,8 @@ pub fn place_past(
     table: &[u32],
     row: &mut [u8],
 ) -> Outcome
-    requires { outcomeCode early ≡ 0 → Placeable shape count table.now row.old }
-    ensures { PlacesPast (outcomeCode early) shape (value number) row.old row.new result }
+    requires { outcome_code early ≡ 0 → Placeable shape count table.now row.old }
+    ensures { PlacesPast (outcome_code early) shape (value number) row.old row.new result }
 {
     let outcome = early.then(!less(number, count), Refusal::NumberTooLarge);
     match outcome {

@@ -6,27 +6,27 @@ use Prim.Native.Nat.{ℕ, ◌+◌, ◌*◌, ◌^◌, ◌<◌}
 use native.Mathlib.Omega.{arith}
 use lib.Dec.{eqb}
 use lib.ListN.{length, take, drop}
-use Rattle.refusal.specs.Code.{outcomeCode, firstCause}
+use Rattle.refusal.specs.Code.{outcome_code, first_cause}
 use Rattle.refusal.specs.declared.Outcome.{Outcome}
-use Rattle.refusal.proofs.Causes.{Avoids, kind-then}
-use Rattle.numbers.specs.Number.{value, toWords}
-use Rattle.numbers.proofs.NumberLaws.{value-toWords-5}
+use Rattle.refusal.proofs.Causes.{Avoids, kind_then}
+use Rattle.numbers.specs.Number.{value, to_words}
+use Rattle.numbers.proofs.NumberLaws.{value-to_words_5}
 use Rattle.profile.specs.Checks.{InLimits}
 use Rattle.profile.specs.declared.Shape.{Shape}
 use Rattle.counts.specs.Counts.{count, CountsFit}
-use Rattle.counts.specs.Table.{rows, tableLength, withTable, leavesTable, tableAfter, Holds}
-use Rattle.counts.specs.Operations.{countCauses, countCode, Counts}
+use Rattle.counts.specs.Table.{rows, table_length, with_table, leaves_table, table_after, Holds}
+use Rattle.counts.specs.Operations.{count_causes, count_code, Counts}
 use Rattle.counts.specs.inner.Filling.{FillsPast}
 use Rattle.counts.proofs.CountLaws.{D-small, D-some}
 use Rattle.counts.proofs.Room.{count-early}
-use Rattle.counts.proofs.TableLaws.{cell_row, above-row}
+use Rattle.counts.proofs.TableLaws.{cell_row, above_row}
 
 -- the last number of a table is the count
-pub last-cell : (shape : Shape) (more : List ℕ)
+pub last_cell : (shape : Shape) (more : List ℕ)
     → take 5 (drop (5 * (shape.chains * (shape.sum + 1) + shape.sum)) (rows shape.width shape.sum (shape.chains + 1) ++ more))
-    ≡ toWords 5 (count shape)
+    ≡ to_words 5 (count shape)
 unfolding count
-last-cell shape more = cell_row shape.width shape.sum (shape.chains + 1) shape.chains shape.sum more (omega arith) (omega arith)
+last_cell shape more = cell_row shape.width shape.sum (shape.chains + 1) shape.chains shape.sum more (omega arith) (omega arith)
 
 -- the count, as five words and back
 module _ (shape : Shape) (limits : InLimits shape) where
@@ -39,36 +39,36 @@ module _ (shape : Shape) (limits : InLimits shape) where
   unfolding count
   count-some = D-some shape.width shape.chains shape.sum (omega (arith, limits.wide)) limits.reached
 
-  pub count-value : {n : List ℕ} → n ≡ toWords 5 (count shape) → value n ≡ count shape
-  count-value e = ap value e ∙ value-toWords-5 (count shape) count-below
+  pub count-value : {n : List ℕ} → n ≡ to_words 5 (count shape) → value n ≡ count shape
+  count-value e = ap value e ∙ value-to_words_5 (count shape) count-below
 
-pub counts-fit : CountsFit
-counts-fit = record { below = count-below }
+pub counts_fit : CountsFit
+counts_fit = record { below = count-below }
 
 -- the work slice after the table is filled: it holds the table
-pub table-held : (shape : Shape) (work : List ℕ) {left : List ℕ} → left ≡ withTable shape work → Holds shape left
-unfolding withTable tableLength Holds
-table-held shape work e = above-row shape.width shape.sum (shape.chains + 1) (drop (tableLength shape) work) _ e
+pub table-held : (shape : Shape) (work : List ℕ) {left : List ℕ} → left ≡ with_table shape work → Holds shape left
+unfolding with_table table_length Holds
+table-held shape work e = above_row shape.width shape.sum (shape.chains + 1) (drop (table_length shape) work) _ e
 
 -- an operation that fills the table past causes none of which leaves it, before causes that all do: what it leaves in the work slice
-module _ (before after : List (Bool × ℕ)) (early : Avoids leavesTable before) (late : Avoids (λ k. not (leavesTable k)) after)
-    {n code : ℕ} (e : n ≡ firstCause before) (all : code ≡ firstCause (before ++ after)) where
-  pub leaves-past : leavesTable code ≡ eqb n 0
-  leaves-past = rw (e, all) (kind-then leavesTable before after refl early late)
+module _ (before after : List (Bool × ℕ)) (early : Avoids leaves_table before) (late : Avoids (λ k. not (leaves_table k)) after)
+    {n code : ℕ} (e : n ≡ first_cause before) (all : code ≡ first_cause (before ++ after)) where
+  pub leaves-past : leaves_table code ≡ eqb n 0
+  leaves-past = rw (e, all) (kind_then leaves_table before after refl early late)
 
-  pub table-past : (shape : Shape) (work : List ℕ) {left : List ℕ} → left ≡ cond (eqb n 0) (withTable shape work) work → left ≡ tableAfter code shape work
-  unfolding tableAfter
+  pub table-past : (shape : Shape) (work : List ℕ) {left : List ℕ} → left ≡ cond (eqb n 0) (with_table shape work) work → left ≡ table_after code shape work
+  unfolding table_after
   table-past shape work filled = filled ∙ rw leaves-past
 
 -- what Count answers
-pub counted : (shape : Shape) (work : List ℕ) {o : Outcome} {left n : List ℕ} → outcomeCode o ≡ firstCause (countCauses shape (length work))
-    → FillsPast (outcomeCode o) shape work left n
+pub counted : (shape : Shape) (work : List ℕ) {o : Outcome} {left n : List ℕ} → outcome_code o ≡ first_cause (count_causes shape (length work))
+    → FillsPast (outcome_code o) shape work left n
     → Counts shape work left (record { outcome = o; count = n })
-unfolding countCode
+unfolding count_code
 counted shape work e fills =
-    let causes = countCauses shape (length work) in
+    let causes = count_causes shape (length work) in
     record {
       code = e;
       counted = rw e at fills.counted;
-      table = table-past causes [] (count-early shape (length work)) tt e (ap firstCause (sym (append-nil causes))) shape work fills.table;
+      table = table-past causes [] (count-early shape (length work)) tt e (ap first_cause (sym (append-nil causes))) shape work fills.table;
     }

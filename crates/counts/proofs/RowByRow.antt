@@ -8,7 +8,7 @@ use native.Mathlib.Omega.{arith}
 use lib.Dec.{lit≤}
 use lib.ListN.{length, get_or, drop, replicate, length-replicate, get_or-replicate, get_or-append}
 use lib.Seq.{get_or-drop, get_or-append-add}
-use Rattle.lists.proofs.Numbers.{lt-or-le}
+use Rattle.lists.proofs.Numbers.{lt_or_le}
 use Rattle.counts.specs.Counts.{share, D}
 use Rattle.counts.proofs.CountLaws.{D-window, share-low, share-high, share-before, share-start}
 
@@ -21,9 +21,9 @@ windows sum [] leaving = []
 windows sum (x ∷ entering) leaving = let next = sum + x - get_or leaving 0 0 in next ∷ windows next entering (drop 1 leaving)
 
 -- D(i, 0), …, D(i, s)
-unfoldable rowTo : (w s i : ℕ) → List ℕ
-rowTo w s zero = 1 ∷ zeros s
-rowTo w s (suc i) = let row = rowTo w s i in windows 0 row (zeros w ++ row)
+unfoldable row_to : (w s i : ℕ) → List ℕ
+row_to w s zero = 1 ∷ zeros s
+row_to w s (suc i) = let row = row_to w s i in windows 0 row (zeros w ++ row)
 
 length-windows : (sum : ℕ) (entering leaving : List ℕ) → length (windows sum entering leaving) ≡ length entering
 unfolding windows
@@ -38,29 +38,29 @@ next-window w i k x y one enters leaves =
     omega (arith, D-window w i k one)
 
 -- the numbers of row suc i from D(suc i, k) on, where those of row i enter and those w places before them leave
-windows-are : (w i k : ℕ) (entering leaving : List ℕ) → 1 ≤ w
+windows_are : (w i k : ℕ) (entering leaving : List ℕ) → 1 ≤ w
     → ((j : ℕ) → j < length entering → get_or entering j 0 ≡ D w i (k + j))
     → ((j : ℕ) → j < length entering → get_or leaving j 0 ≡ share (D w i) (k + j) w)
     → (j : ℕ) → j < length entering → get_or (windows (share (D w (suc i)) k 1) entering leaving) j 0 ≡ D w (suc i) (k + j)
 unfolding windows
-windows-are w i k [] leaving one enters leaves j h = absurd (omega arith)
-windows-are w i k (x ∷ entering) leaving one enters leaves zero h =
+windows_are w i k [] leaving one enters leaves j h = absurd (omega arith)
+windows_are w i k (x ∷ entering) leaving one enters leaves zero h =
     rw add-zero (next-window w i k x (get_or leaving 0 0) one (enters 0 (omega arith)) (leaves 0 (omega arith)))
-windows-are w i k (x ∷ entering) leaving one enters leaves (suc j) h =
+windows_are w i k (x ∷ entering) leaving one enters leaves (suc j) h =
     let on : (m : ℕ) → k + suc m ≡ k + 1 + m = λ m. omega arith in
     let first = next-window w i k x (get_or leaving 0 0) one (enters 0 (omega arith)) (leaves 0 (omega arith)) in
-    let others = windows-are w i (k + 1) entering (drop 1 leaving) one (λ m n. rw (← on m) (enters (suc m) (omega arith)))
+    let others = windows_are w i (k + 1) entering (drop 1 leaving) one (λ m n. rw (← on m) (enters (suc m) (omega arith)))
     (λ m n. get_or-drop 1 leaving m 0 ∙ leaves (1 + m) (omega arith) ∙ ap (λ t. share (D w i) t w) (omega arith)) j (omega arith) in
     rw (first, on j) (rw share-before at others)
 
-length-row : (w s i : ℕ) → length (rowTo w s i) ≡ suc s
-unfolding rowTo
-length-row w s zero = ap suc (length-replicate s 0)
-length-row w s (suc i) = length-windows 0 (rowTo w s i) (zeros w ++ rowTo w s i) ∙ length-row w s i
+length_row : (w s i : ℕ) → length (row_to w s i) ≡ suc s
+unfolding row_to
+length_row w s zero = ap suc (length-replicate s 0)
+length_row w s (suc i) = length-windows 0 (row_to w s i) (zeros w ++ row_to w s i) ∙ length_row w s i
 
 -- behind w zeros each number stands w places on
 behind-zeros : (w n : ℕ) (f : ℕ → ℕ) (l : List ℕ) → ((j : ℕ) → j < n → get_or l j 0 ≡ f j) → (j : ℕ) → j < n → get_or (zeros w ++ l) j 0 ≡ share f j w
-behind-zeros w n f l are j h = by (lt-or-le j w)
+behind-zeros w n f l are j h = by (lt_or_le j w)
   where
     long : length (zeros w) ≡ w
     long = length-replicate {A = ℕ} w 0
@@ -72,20 +72,20 @@ behind-zeros w n f l are j h = by (lt-or-le j w)
         let place : j ≡ length (zeros w) + (j - w) = omega (arith, long) in
         ap (λ t. get_or (zeros w ++ l) t 0) place ∙ get_or-append-add (zeros w) l (j - w) 0 ∙ are (j - w) (omega arith) ∙ sym (share-low f j w behind)
 
-row_is : (w s i : ℕ) → 1 ≤ w → (t : ℕ) → t ≤ s → get_or (rowTo w s i) t 0 ≡ D w i t
-unfolding rowTo D
+row_is : (w s i : ℕ) → 1 ≤ w → (t : ℕ) → t ≤ s → get_or (row_to w s i) t 0 ≡ D w i t
+unfolding row_to D
 row_is w s zero one zero h = refl
 row_is w s zero one (suc t) h = get_or-replicate s t 0 0 h
 row_is w s (suc i) one t h =
-    let row = rowTo w s i in
-    let all : length row ≡ suc s = length-row w s i in
+    let row = row_to w s i in
+    let all : length row ≡ suc s = length_row w s i in
     let before : (j : ℕ) → j < length row → get_or row j 0 ≡ D w i j = λ j less. row_is w s i one j (omega arith) in
     rw (zero-add, share-start (D w (suc i)))
-    at (windows-are w i 0 row (zeros w ++ row) one (λ j less. rw zero-add (before j less))
+    at (windows_are w i 0 row (zeros w ++ row) one (λ j less. rw zero-add (before j less))
     (λ j less. rw zero-add (behind-zeros w (length row) (D w i) row before j less)) t (omega arith))
 
-computed : get_or (rowTo 16 255 34) 255 0 ≡ 1287155674008337910149577743336952677632
-unfolding windows rowTo
+computed : get_or (row_to 16 255 34) 255 0 ≡ 1287155674008337910149577743336952677632
+unfolding windows row_to
 computed = refl
 
 -- the gate profile's count: "l = 34, w = 16, s = 255"

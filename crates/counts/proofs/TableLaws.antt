@@ -8,30 +8,30 @@ use native.Mathlib.Numerals.{add-one}
 use native.Mathlib.Omega.{arith}
 use lib.ListN.{length, take, drop, length-append, length-take, take-append-drop}
 use lib.Seq.{take_at, drop_at, drop-append-add, drop-drop, take-length, paste}
-use Rattle.numbers.specs.Number.{toWords}
-use Rattle.numbers.proofs.NumberLaws.{length-toWords}
+use Rattle.numbers.specs.Number.{to_words}
+use Rattle.numbers.proofs.NumberLaws.{length-to_words}
 use Rattle.counts.specs.Counts.{D}
 use Rattle.counts.specs.Table.{cells, rows}
 
 -- where the next row starts
-pub row-end : (i s : ℕ) → (i + 1) * (s + 1) ≡ i * (s + 1) + (s + 1)
-row-end i s = rw add-one (suc-mul i (s + 1))
+pub row_end : (i s : ℕ) → (i + 1) * (s + 1) ≡ i * (s + 1) + (s + 1)
+row_end i s = rw add-one (suc-mul i (s + 1))
 
 length-cells : (f : ℕ → ℕ) (n : ℕ) → length (cells f n) ≡ 5 * n
 unfolding cells
 length-cells f zero = refl
-length-cells f (suc n) = length-append (cells f n) (toWords 5 (f n)) ∙ omega (arith, length-cells f n, length-toWords 5 (f n))
+length-cells f (suc n) = length-append (cells f n) (to_words 5 (f n)) ∙ omega (arith, length-cells f n, length-to_words 5 (f n))
 
 -- the t-th of n numbers, with more behind them
-cell_in : (f : ℕ → ℕ) (n t : ℕ) (more : List ℕ) → t < n → take 5 (drop (5 * t) (cells f n ++ more)) ≡ toWords 5 (f t)
+cell_in : (f : ℕ → ℕ) (n t : ℕ) (more : List ℕ) → t < n → take 5 (drop (5 * t) (cells f n ++ more)) ≡ to_words 5 (f t)
 unfolding cells
 cell_in f zero t more h = absurd (omega arith)
 cell_in f (suc n) t more h =
     rw append_assoc
     (⊎_elim
-    (λ e. rw e (ap (take 5) (drop_at (cells f n) (toWords 5 (f n) ++ more) (5 * n) (length-cells f n))
-    ∙ take_at (toWords 5 (f n)) more 5 (length-toWords 5 (f n))))
-    (λ l. cell_in f n t (toWords 5 (f n) ++ more) l) (eq-or-lt_of_le (le_of_suc-le-suc h)))
+    (λ e. rw e (ap (take 5) (drop_at (cells f n) (to_words 5 (f n) ++ more) (5 * n) (length-cells f n))
+    ∙ take_at (to_words 5 (f n)) more 5 (length-to_words 5 (f n))))
+    (λ l. cell_in f n t (to_words 5 (f n) ++ more) l) (eq-or-lt_of_le (le_of_suc-le-suc h)))
 
 length-rows : (w s n : ℕ) → length (rows w s n) ≡ 5 * (n * (s + 1))
 unfolding rows
@@ -47,7 +47,7 @@ module _ (w s : ℕ) where
       rw e (drop-append-add (rows w s n) more (5 * t))
 
   -- D(i, t) in n rows, with more behind them
-  pub cell_row : (n i t : ℕ) (more : List ℕ) → i < n → t < s + 1 → take 5 (drop (5 * (i * (s + 1) + t)) (rows w s n ++ more)) ≡ toWords 5 (D w i t)
+  pub cell_row : (n i t : ℕ) (more : List ℕ) → i < n → t < s + 1 → take 5 (drop (5 * (i * (s + 1) + t)) (rows w s n ++ more)) ≡ to_words 5 (D w i t)
   unfolding rows
   cell_row zero i t more h k = absurd (omega arith)
   cell_row (suc n) i t more h k =
@@ -61,15 +61,15 @@ module _ (w s : ℕ) where
   rows_split n table e = rw (← e) (sym (take-append-drop (5 * (n * (s + 1))) table))
 
   -- D(i, t) in it
-  pub cell-of : (n i t : ℕ) (table : List ℕ) → take (5 * (n * (s + 1))) table ≡ rows w s n → i < n → t < s + 1
-      → take 5 (drop (5 * (i * (s + 1) + t)) table) ≡ toWords 5 (D w i t)
-  cell-of n i t table e h k =
+  pub cell_of : (n i t : ℕ) (table : List ℕ) → take (5 * (n * (s + 1))) table ≡ rows w s n → i < n → t < s + 1
+      → take 5 (drop (5 * (i * (s + 1) + t)) table) ≡ to_words 5 (D w i t)
+  cell_of n i t table e h k =
       ap (λ l. take 5 (drop (5 * (i * (s + 1) + t)) l)) (rows_split n table e) ∙ cell_row n i t (drop (5 * (n * (s + 1))) table) h k
 
   -- there is room for it
-  pub cell-within : (n : ℕ) (table : List ℕ) → take (5 * (n * (s + 1))) table ≡ rows w s n → (i t : ℕ) → i < n → t ≤ s
+  pub cell_within : (n : ℕ) (table : List ℕ) → take (5 * (n * (s + 1))) table ≡ rows w s n → (i t : ℕ) → i < n → t ≤ s
       → 5 * (i * (s + 1) + t) + 5 ≤ length table
-  cell-within n table e i t above within =
+  cell_within n table e i t above within =
       let long : 5 * (n * (s + 1)) ≤ length table = omega (arith, length-take (5 * (n * (s + 1))) table, ap length e, length-rows w s n) in
       omega (arith, suc-mul i (s + 1), mul-le-mul_right (s + 1) above)
 
@@ -78,38 +78,38 @@ module _ (w s : ℕ) where
   length_before i t = length-append (rows w s i) (cells (D w i) t) ∙ omega (arith, length-rows w s i, length-cells (D w i) t)
 
   -- a work slice with the rows above i, as it is where the row i begins
-  pub row-begins : (i : ℕ) (work : List ℕ) → take (5 * (i * (s + 1))) work ≡ rows w s i
+  pub row_begins : (i : ℕ) (work : List ℕ) → take (5 * (i * (s + 1))) work ≡ rows w s i
       → work ≡ rows w s i ++ cells (D w i) 0 ++ drop (5 * (i * (s + 1) + 0)) work
   unfolding cells
-  row-begins i work e = rw (add-zero, append-nil) (rows_split i work e)
+  row_begins i work e = rw (add-zero, append-nil) (rows_split i work e)
 
   -- the cell t stored behind what is before it
-  cell-stored : (i t : ℕ) (work : List ℕ) → 5 * (i * (s + 1) + t) + 5 ≤ length work
-      → paste (rows w s i ++ cells (D w i) t ++ drop (5 * (i * (s + 1) + t)) work) (5 * (i * (s + 1) + t)) (toWords 5 (D w i t)) 5
+  cell_stored : (i t : ℕ) (work : List ℕ) → 5 * (i * (s + 1) + t) + 5 ≤ length work
+      → paste (rows w s i ++ cells (D w i) t ++ drop (5 * (i * (s + 1) + t)) work) (5 * (i * (s + 1) + t)) (to_words 5 (D w i t)) 5
       ≡ rows w s i ++ cells (D w i) (suc t) ++ drop (5 * (i * (s + 1) + suc t)) work
   unfolding cells
-  cell-stored i t work h =
+  cell_stored i t work h =
       let k = 5 * (i * (s + 1) + t) in
       let front = rows w s i ++ cells (D w i) t in
-      let n = toWords 5 (D w i t) in
+      let n = to_words 5 (D w i t) in
       let e : k + 5 ≡ 5 * (i * (s + 1) + suc t) = omega arith in
-      let all : take 5 n ≡ n = ap (λ m. take m n) (sym (length-toWords 5 (D w i t))) ∙ take-length n in
+      let all : take 5 n ≡ n = ap (λ m. take m n) (sym (length-to_words 5 (D w i t))) ∙ take-length n in
       let back : drop (k + 5) (front ++ drop k work) ≡ drop (5 * (i * (s + 1) + suc t)) work =
       ap (λ m. drop (m + 5) (front ++ drop k work)) (sym (length_before i t)) ∙ drop-append-add front (drop k work) 5 ∙ drop-drop 5 k work
       ∙ ap (λ m. drop m work) e in
       rw (take_at front (drop k work) k (length_before i t), all, back) (simp append_assoc)
 
   -- a turn of the loop that fills a row
-  pub next-cell : (i t : ℕ) (work table n next : List ℕ) → 5 * (i * (s + 1) + t) + 5 ≤ length work
-      → table ≡ rows w s i ++ cells (D w i) t ++ drop (5 * (i * (s + 1) + t)) work → n ≡ toWords 5 (D w i t) → next ≡ paste table (5 * (i * (s + 1) + t)) n 5
+  pub next_cell : (i t : ℕ) (work table n next : List ℕ) → 5 * (i * (s + 1) + t) + 5 ≤ length work
+      → table ≡ rows w s i ++ cells (D w i) t ++ drop (5 * (i * (s + 1) + t)) work → n ≡ to_words 5 (D w i t) → next ≡ paste table (5 * (i * (s + 1) + t)) n 5
       → next ≡ rows w s i ++ cells (D w i) (t + 1) ++ drop (5 * (i * (s + 1) + (t + 1))) work
-  next-cell i t work table n next h e f g = g ∙ rw (e, f, add-one t) (cell-stored i t work h)
+  next_cell i t work table n next h e f g = g ∙ rw (e, f, add-one t) (cell_stored i t work h)
 
   -- a whole row is the next of the rows
   pub row_ends : (i : ℕ) (work : List ℕ) → rows w s i ++ cells (D w i) (s + 1) ++ drop (5 * (i * (s + 1) + (s + 1))) work ≡ rows w s (i + 1) ++ drop
       (5 * ((i + 1) * (s + 1))) work
   unfolding rows
-  row_ends i work = rw (row-end i s, add-one i)
+  row_ends i work = rw (row_end i s, add-one i)
 
   -- no row is there yet
   pub no_rows : (work : List ℕ) → take (5 * (0 * (s + 1))) work ≡ rows w s 0
@@ -117,12 +117,12 @@ module _ (w s : ℕ) where
   no_rows work = let none : 5 * (0 * (s + 1)) ≡ 0 = omega arith in rw none
 
   -- the rows above i
-  pub above-row : (i : ℕ) (work table : List ℕ) → table ≡ rows w s i ++ work → take (5 * (i * (s + 1))) table ≡ rows w s i
-  above-row i work table e = rw e (take_at (rows w s i) work (5 * (i * (s + 1))) (length-rows w s i))
+  pub above_row : (i : ℕ) (work table : List ℕ) → table ≡ rows w s i ++ work → take (5 * (i * (s + 1))) table ≡ rows w s i
+  above_row i work table e = rw e (take_at (rows w s i) work (5 * (i * (s + 1))) (length-rows w s i))
 
   -- the same where the row i is there up to t
-  pub above-cell : (i t : ℕ) (work table : List ℕ) → table ≡ rows w s i ++ cells (D w i) t ++ work → take (5 * (i * (s + 1))) table ≡ rows w s i
-  above-cell i t work table e = above-row i (cells (D w i) t ++ work) table (e ∙ append_assoc (rows w s i) (cells (D w i) t) work)
+  pub above_cell : (i t : ℕ) (work table : List ℕ) → table ≡ rows w s i ++ cells (D w i) t ++ work → take (5 * (i * (s + 1))) table ≡ rows w s i
+  above_cell i t work table e = above_row i (cells (D w i) t ++ work) table (e ∙ append_assoc (rows w s i) (cells (D w i) t) work)
 
   -- rows filled over those above them leave what is behind both
   pub rows-over : {i j : ℕ} → i ≤ j → (work : List ℕ) {table next : List ℕ} → table ≡ rows w s i ++ drop (5 * (i * (s + 1))) work

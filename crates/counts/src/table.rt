@@ -1,12 +1,12 @@
 // The table of the counts D(i, t), and Count.
 ghost use Rattle.std.specs.Prelude.{◌≡◌, ◌++◌, ℕ, ◌+◌, ◌*◌, ◌≤◌, ltb, length, take, drop};
-ghost use Rattle.refusal.specs.Code.{outcomeCode, firstCause};
+ghost use Rattle.refusal.specs.Code.{outcome_code, first_cause};
 ghost use Rattle.numbers.specs.inner.Limbs.{number};
-ghost use Rattle.numbers.specs.Number.{toWords};
+ghost use Rattle.numbers.specs.Number.{to_words};
 ghost use Rattle.profile.specs.Checks.{InLimits};
 ghost use Rattle.counts.specs.Counts.{share, D, count};
-ghost use Rattle.counts.specs.Table.{rows, tableLength, withTable, tableCauses};
-ghost use Rattle.counts.specs.Operations.{countCauses, Counts};
+ghost use Rattle.counts.specs.Table.{rows, table_length, with_table, table_causes};
+ghost use Rattle.counts.specs.Operations.{count_causes, Counts};
 ghost use Rattle.counts.specs.inner.Filling.{FillsPast};
 
 use super::cells::{load, store};
@@ -23,7 +23,7 @@ pub struct Counted {
 
 // D(0, t), whatever the width.
 fn first_cell(t: usize) -> [u32; 5]
-    ensures { (w : ℕ) → result ≡ toWords 5 (D w 0 t) }
+    ensures { (w : ℕ) → result ≡ to_words 5 (D w 0 t) }
 {
     if t == 0 { [1, 0, 0, 0, 0] } else { [0; 5] }
 }
@@ -93,8 +93,8 @@ fn fill_rows(table: &mut [u32], chains: usize, width: usize, sum: usize)
 // Fills the work slice with the table of a shape, and gives the count, its last number.
 fn fill(shape: Shape, table: &mut [u32]) -> [u32; 5]
     requires in_limits { InLimits shape }
-    requires shape_in_bounds { tableLength shape ≤ length table.old }
-    ensures { (result ≡ toWords 5 (count shape)) × (table.new ≡ withTable shape table.old) }
+    requires shape_in_bounds { table_length shape ≤ length table.old }
+    ensures { (result ≡ to_words 5 (count shape)) × (table.new ≡ with_table shape table.old) }
 {
     let chains = shape.chains as usize;
     let width = shape.width as usize;
@@ -106,8 +106,8 @@ fn fill(shape: Shape, table: &mut [u32]) -> [u32; 5]
 // Past the causes that gave an outcome: granted, fills the work slice with the table and gives the count; refused, leaves
 // the slice as it is and gives zero.
 pub fn fill_past(early: Outcome, shape: Shape, table: &mut [u32]) -> [u32; 5]
-    requires { outcomeCode early ≡ 0 → InLimits shape × (tableLength shape ≤ length table.old) }
-    ensures { FillsPast (outcomeCode early) shape table.old table.new result }
+    requires { outcome_code early ≡ 0 → InLimits shape × (table_length shape ≤ length table.old) }
+    ensures { FillsPast (outcome_code early) shape table.old table.new result }
 {
     match early {
         Outcome::Refused(_) => [0; 5],
@@ -117,7 +117,7 @@ pub fn fill_past(early: Outcome, shape: Shape, table: &mut [u32]) -> [u32; 5]
 
 // Whether so many words are too few for the table of a shape, which may be any: the product of its sizes needs not fit.
 pub fn no_room(shape: Shape, words: usize) -> bool
-    ensures { result ≡ ltb words (tableLength shape) }
+    ensures { result ≡ ltb words (table_length shape) }
 {
     let chains = shape.chains as usize;
     let sum = shape.sum as usize;
@@ -126,14 +126,14 @@ pub fn no_room(shape: Shape, words: usize) -> bool
 
 // The causes of Count.
 pub fn count_outcome(shape: Shape, words: usize) -> Outcome
-    ensures { outcomeCode result ≡ firstCause (countCauses shape words) }
+    ensures { outcome_code result ≡ first_cause (count_causes shape words) }
 {
     check_shape(shape).then(no_room(shape, words), Refusal::TableTooShort)
 }
 
 // The causes of a profile, with room for its table.
 pub fn table_outcome(p: Profile, words: usize) -> Outcome
-    ensures { outcomeCode result ≡ firstCause (tableCauses p words) }
+    ensures { outcome_code result ≡ first_cause (table_causes p words) }
 {
     let shape = p.shape;
     check_profile(p).then(no_room(shape, words), Refusal::TableTooShort)

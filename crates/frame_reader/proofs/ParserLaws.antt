@@ -12,15 +12,15 @@ use lib.ListN.{length, get_or, drop, drop_of_length-le}
 use lib.Seq.{drop-cons}
 use Rattle.profile.specs.Checks.{outside}
 use Rattle.profile.proofs.Limits.{outside_low, outside_high, inside}
-use Rattle.hex.specs.Hex.{Line, wrong, right, behind, lineEnd, readLine}
-use Rattle.hex.specs.inner.Digits.{byte_at}
-use Rattle.hex.specs.declared.Digits.TheVariants as digits
-use Rattle.hex.proofs.Reading.{line-ends, line-byte, line-wrong}
+use Rattle.hex_lines.specs.Hex.{Line, wrong, right, behind, line_end, read_line}
+use Rattle.hex_lines.specs.inner.Digits.{byte_at}
+use Rattle.hex_lines.specs.declared.Digits.TheVariants as digits
+use Rattle.hex_lines.proofs.Reading.{line-ends, line_byte, line-wrong}
 use Rattle.frames.specs.Frames.{Frame, framed}
-use Rattle.frames.specs.Lines.{without, within, readFrame}
+use Rattle.frames.specs.Lines.{without, within, read_frame}
 use Rattle.frames.specs.inner.Size.{HasSize}
 use Rattle.frames.specs.declared.Size.{Size}
-use Rattle.frame_reader.specs.inner.Parser.{foundOf, step_of}
+use Rattle.frame_reader.specs.inner.Parser.{found_of, step_of}
 use Rattle.frame_reader.specs.declared.frame.Found.{Found}
 use Rattle.frame_reader.specs.declared.frame.Found.TheVariants as found
 use Rattle.frame_reader.specs.declared.frame.Step.TheVariants as step
@@ -46,28 +46,28 @@ without-none h head rest = refl
 
 module _ (sheet : List ℕ) (at : ℕ) (h : ℕ) (head : List ℕ) (low high : ℕ) where
   -- the first fixed byte stands: the others are looked for behind it
-  head-same : byte_at sheet at ≡ digits.Byte h → readFrame (framed (h ∷ head) low high) (drop at sheet) ≡ readFrame (framed head low high) (drop (at + 2) sheet)
-  unfolding readFrame
-  head-same e = rw (line-byte sheet at e, without-same h head (readLine (drop (at + 2) sheet)))
+  head-same : byte_at sheet at ≡ digits.Byte h → read_frame (framed (h ∷ head) low high) (drop at sheet) ≡ read_frame (framed head low high) (drop (at + 2) sheet)
+  unfolding read_frame
+  head-same e = rw (line_byte sheet at e, without-same h head (read_line (drop (at + 2) sheet)))
 
   -- another byte stands there
-  head-other : (b : ℕ) → byte_at sheet at ≡ digits.Byte b → (b ≡ h → ⊥) → readFrame (framed (h ∷ head) low high) (drop at sheet) ≡ wrong
-  unfolding readFrame within
-  head-other b e other = rw (line-byte sheet at e, without_other h b head (readLine (drop (at + 2) sheet)) other)
+  head-other : (b : ℕ) → byte_at sheet at ≡ digits.Byte b → (b ≡ h → ⊥) → read_frame (framed (h ∷ head) low high) (drop at sheet) ≡ wrong
+  unfolding read_frame within
+  head-other b e other = rw (line_byte sheet at e, without_other h b head (read_line (drop (at + 2) sheet)) other)
 
   -- no byte stands there
-  head-none : byte_at sheet at ≡ digits.Wrong → readFrame (framed (h ∷ head) low high) (drop at sheet) ≡ wrong
-  unfolding readFrame within
-  head-none e = by (eqb (get_or sheet at 0) lineEnd) refl
+  head-none : byte_at sheet at ≡ digits.Wrong → read_frame (framed (h ∷ head) low high) (drop at sheet) ≡ wrong
+  unfolding read_frame within
+  head-none e = by (eqb (get_or sheet at 0) line_end) refl
     where
-      by : (t : Bool) → eqb (get_or sheet at 0) lineEnd ≡ t → within low high (without (h ∷ head) (readLine (drop at sheet))) ≡ wrong
-      by true q = rw (line-ends sheet at (eqb-true (get_or sheet at 0) lineEnd q), without-none h head (drop (at + 1) sheet))
-      by false q = rw (line-wrong sheet at e (eqb-false (get_or sheet at 0) lineEnd q), without-wrong (h ∷ head))
+      by : (t : Bool) → eqb (get_or sheet at 0) line_end ≡ t → within low high (without (h ∷ head) (read_line (drop at sheet))) ≡ wrong
+      by true q = rw (line-ends sheet at (eqb-true (get_or sheet at 0) line_end q), without-none h head (drop (at + 1) sheet))
+      by false q = rw (line-wrong sheet at e (eqb-false (get_or sheet at 0) line_end q), without-wrong (h ∷ head))
 
 -- of the fixed bytes, i stand from `at` on, and the others are still to be looked for
 abbrev pub HeadLeft : (sheet : List ℕ) (at : ℕ) (head : List ℕ) (i : ℕ) → Type 0
 HeadLeft sheet at head i =
-    (low high : ℕ) → readFrame (framed head low high) (drop at sheet) ≡ readFrame (framed (drop i head) low high) (drop (at + 2 * i) sheet)
+    (low high : ℕ) → read_frame (framed head low high) (drop at sheet) ≡ read_frame (framed (drop i head) low high) (drop (at + 2 * i) sheet)
 
 pub head-start : (sheet : List ℕ) (at : ℕ) (head : List ℕ) → HeadLeft sheet at head 0
 head-start sheet at head low high = let same : at + 2 * 0 ≡ at = omega arith in rw same
@@ -85,15 +85,15 @@ module _ (sheet : List ℕ) (at : ℕ) (head : List ℕ) (i : ℕ) (left : HeadL
 
     -- another byte, or none
     pub head-differs : (b : ℕ) → byte_at sheet (at + 2 * i) ≡ digits.Byte b → (b ≡ get_or head i 0 → ⊥) → (low high : ℕ)
-        → readFrame (framed head low high) (drop at sheet) ≡ wrong
+        → read_frame (framed head low high) (drop at sheet) ≡ wrong
     head-differs b e other low high = left low high ∙ rw head_at (head-other sheet (at + 2 * i) (get_or head i 0) (drop (i + 1) head) low high b e other)
 
-    pub head-ends : byte_at sheet (at + 2 * i) ≡ digits.Wrong → (low high : ℕ) → readFrame (framed head low high) (drop at sheet) ≡ wrong
+    pub head-ends : byte_at sheet (at + 2 * i) ≡ digits.Wrong → (low high : ℕ) → read_frame (framed head low high) (drop at sheet) ≡ wrong
     head-ends e low high = left low high ∙ rw head_at (head-none sheet (at + 2 * i) (get_or head i 0) (drop (i + 1) head) low high e)
 
   -- all stand
   pub head-all : (fixed : ℕ) → i ≡ fixed → length head ≤ i → (low high : ℕ)
-      → readFrame (framed head low high) (drop at sheet) ≡ readFrame (framed [] low high) (drop (at + 2 * fixed) sheet)
+      → read_frame (framed head low high) (drop at sheet) ≡ read_frame (framed [] low high) (drop (at + 2 * fixed) sheet)
   head-all fixed all h low high = let none : drop i head ≡ [] = drop_of_length-le head {i = i} h in left low high ∙ rw (none, all)
 
 -- how many bytes a line has, of which i are passed
@@ -101,13 +101,13 @@ unfoldable pub found_from : (i most : ℕ) → Line → Found
 found_from i most wrong = found.Wrong
 found_from i most (right bytes rest) = cond (leb (i + length bytes) most) (found.Bytes (i + length bytes)) found.Wrong
 
-found-zero : (most : ℕ) (line : Line) → foundOf most line ≡ found_from 0 most line
-unfolding foundOf found_from
-found-zero most wrong = refl
-found-zero most (right bytes rest) = rw zero-add
+found_zero : (most : ℕ) (line : Line) → found_of most line ≡ found_from 0 most line
+unfolding found_of found_from
+found_zero most wrong = refl
+found_zero most (right bytes rest) = rw zero-add
 
-pub found-start : (sheet : List ℕ) (at most : ℕ) → foundOf most (readLine (drop at sheet)) ≡ found_from 0 most (readLine (drop (at + 2 * 0) sheet))
-found-start sheet at most = let same : at + 2 * 0 ≡ at = omega arith in rw same (found-zero most (readLine (drop at sheet)))
+pub found-start : (sheet : List ℕ) (at most : ℕ) → found_of most (read_line (drop at sheet)) ≡ found_from 0 most (read_line (drop (at + 2 * 0) sheet))
+found-start sheet at most = let same : at + 2 * 0 ≡ at = omega arith in rw same (found_zero most (read_line (drop at sheet)))
 
 -- too many bytes are passed
 pub found-over : (i most : ℕ) (line : Line) → most < i → found_from i most line ≡ found.Wrong
@@ -124,21 +124,21 @@ found-behind i most b (right bytes rest) =
 
 module _ (sheet : List ℕ) (at i most : ℕ) where
   -- the line ends
-  pub found-end : i ≤ most → get_or sheet at 0 ≡ lineEnd → found_from i most (readLine (drop at sheet)) ≡ found.Bytes i
+  pub found_end : i ≤ most → get_or sheet at 0 ≡ line_end → found_from i most (read_line (drop at sheet)) ≡ found.Bytes i
   unfolding found_from
-  found-end h e = let all : i + 0 ≡ i = omega arith in rw (line-ends sheet at e, all, le-leb i most h)
+  found_end h e = let all : i + 0 ≡ i = omega arith in rw (line-ends sheet at e, all, le-leb i most h)
 
   -- no byte and no ending
-  pub found_none : byte_at sheet at ≡ digits.Wrong → (get_or sheet at 0 ≡ lineEnd → ⊥) → found_from i most (readLine (drop at sheet)) ≡ found.Wrong
+  pub found_none : byte_at sheet at ≡ digits.Wrong → (get_or sheet at 0 ≡ line_end → ⊥) → found_from i most (read_line (drop at sheet)) ≡ found.Wrong
   unfolding found_from
   found_none e other = rw (line-wrong sheet at e other)
 
 -- a byte more
 pub found-next : (sheet : List ℕ) (at i most b : ℕ) → byte_at sheet (at + 2 * i) ≡ digits.Byte b
-    → found_from i most (readLine (drop (at + 2 * i) sheet)) ≡ found_from (i + 1) most (readLine (drop (at + 2 * (i + 1)) sheet))
+    → found_from i most (read_line (drop (at + 2 * i) sheet)) ≡ found_from (i + 1) most (read_line (drop (at + 2 * (i + 1)) sheet))
 found-next sheet at i most b e =
     let next : at + 2 * i + 2 ≡ at + 2 * (i + 1) = omega arith in
-    rw (line-byte sheet (at + 2 * i) e, next) (found-behind i most b (readLine (drop (at + 2 * (i + 1)) sheet)))
+    rw (line_byte sheet (at + 2 * i) e, next) (found-behind i most b (read_line (drop (at + 2 * (i + 1)) sheet)))
 
 -- the fixed bytes stand in front of a line with n bytes more: what the parser answers
 outside-over : (low high x : ℕ) → high < x → outside low high x ≡ true
@@ -153,8 +153,8 @@ not_found n e = let z : ◌≡◌ {A = ℕ} 0 1 = cc in absurd (omega arith)
 
 module _ (high : ℕ) where
   -- a number of bytes that is found
-  pub found-few : (n : ℕ) (line : Line) → foundOf high line ≡ found.Bytes n → n ≤ high
-  unfolding foundOf
+  pub found-few : (n : ℕ) (line : Line) → found_of high line ≡ found.Bytes n → n ≤ high
+  unfolding found_of
   found-few n wrong e = not_found n e
   found-few n (right bytes rest) e = by (leb (length bytes) high) refl e
     where
@@ -163,8 +163,8 @@ module _ (high : ℕ) where
       by false q e = not_found n e
 
   module _ (low at fixed : ℕ) where
-    step-none : (line : Line) → foundOf high line ≡ found.Wrong → step_of at fixed (within low high line) ≡ step.Wrong
-    unfolding foundOf step_of within
+    step-none : (line : Line) → found_of high line ≡ found.Wrong → step_of at fixed (within low high line) ≡ step.Wrong
+    unfolding found_of step_of within
     step-none wrong e = refl
     step-none (right bytes rest) e = by (leb (length bytes) high) refl e
       where
@@ -173,10 +173,10 @@ module _ (high : ℕ) where
         by true q e = not_found (length bytes) (sym e)
         by false q e = rw (outside-over low high (length bytes) (leb-false (length bytes) high q))
 
-    step-found : (n : ℕ) (line : Line) → foundOf high line ≡ found.Bytes n
+    step-found : (n : ℕ) (line : Line) → found_of high line ≡ found.Bytes n
         → (low ≤ n → step_of at fixed (within low high line) ≡ step.Next (at + 2 * (fixed + n) + 1))
         × (n < low → step_of at fixed (within low high line) ≡ step.Wrong)
-    unfolding foundOf step_of within
+    unfolding found_of step_of within
     step-found n wrong e = not_found n e
     step-found n (right bytes rest) e = by (leb (length bytes) high) refl e
       where
@@ -191,24 +191,24 @@ module _ (high : ℕ) where
 
 -- a frame's head stands in front of `behind`, or it doesn't: what the parser answers, going by the frame's size
 module _ (f : Frame) (size : Size) (has : HasSize f size) (at : ℕ) (sheet behind : List ℕ) (r : Bool)
-    (stands : (low high : ℕ) → readFrame (framed f.head low high) sheet ≡ cond r (readFrame (framed [] low high) behind) wrong) where
-  sized-step : step_of at (length f.head) (readFrame f sheet) ≡ step_of at size.fixed (cond r (readFrame (framed [] size.low size.high) behind) wrong)
+    (stands : (low high : ℕ) → read_frame (framed f.head low high) sheet ≡ cond r (read_frame (framed [] low high) behind) wrong) where
+  sized-step : step_of at (length f.head) (read_frame f sheet) ≡ step_of at size.fixed (cond r (read_frame (framed [] size.low size.high) behind) wrong)
   sized-step = rw (has.fixed, has.low, has.high) (ap (step_of at (length f.head)) (stands f.low f.high))
 
-  pub parsed-other : r ≡ false → step.Wrong ≡ step_of at (length f.head) (readFrame f sheet)
+  pub parsed-other : r ≡ false → step.Wrong ≡ step_of at (length f.head) (read_frame f sheet)
   unfolding step_of
   parsed-other e = sym (sized-step ∙ rw e)
 
-  parsed : r ≡ true → step_of at (length f.head) (readFrame f sheet) ≡ step_of at size.fixed (within size.low size.high (readLine behind))
-  unfolding readFrame without
+  parsed : r ≡ true → step_of at (length f.head) (read_frame f sheet) ≡ step_of at size.fixed (within size.low size.high (read_line behind))
+  unfolding read_frame without
   parsed e = sized-step ∙ rw e
 
-  pub parsed-none : r ≡ true → foundOf size.high (readLine behind) ≡ found.Wrong → step.Wrong ≡ step_of at (length f.head) (readFrame f sheet)
-  parsed-none e none = sym (parsed e ∙ step-none size.high size.low at size.fixed (readLine behind) none)
+  pub parsed-none : r ≡ true → found_of size.high (read_line behind) ≡ found.Wrong → step.Wrong ≡ step_of at (length f.head) (read_frame f sheet)
+  parsed-none e none = sym (parsed e ∙ step-none size.high size.low at size.fixed (read_line behind) none)
 
-  pub parsed-found : (n : ℕ) → r ≡ true → foundOf size.high (readLine behind) ≡ found.Bytes n
-      → (size.low ≤ n → step.Next (at + 2 * (size.fixed + n) + 1) ≡ step_of at (length f.head) (readFrame f sheet))
-      × (n < size.low → step.Wrong ≡ step_of at (length f.head) (readFrame f sheet))
+  pub parsed-found : (n : ℕ) → r ≡ true → found_of size.high (read_line behind) ≡ found.Bytes n
+      → (size.low ≤ n → step.Next (at + 2 * (size.fixed + n) + 1) ≡ step_of at (length f.head) (read_frame f sheet))
+      × (n < size.low → step.Wrong ≡ step_of at (length f.head) (read_frame f sheet))
   parsed-found n e some =
-      let steps = step-found size.high size.low at size.fixed n (readLine behind) some in
+      let steps = step-found size.high size.low at size.fixed n (read_line behind) some in
       (λ h. sym (parsed e ∙ steps.0 h), λ h. sym (parsed e ∙ steps.1 h))

@@ -8,15 +8,15 @@ use native.Mathlib.Omega.{arith}
 use lib.Dec.{lit<, lit≤}
 use lib.ListN.{length, get_or, take, drop, take-append-drop}
 use lib.Seq.{drop-cons, take-suc, take_all, get_or-take}
-use Rattle.lists.proofs.Lists.{below-by-test}
-use Rattle.hex.specs.Hex.{hexDigit, hexOf, lineEnd, Line, wrong, right, line_of}
-use Rattle.hex.proofs.Reading.{ending-within}
+use Rattle.lists.proofs.Lists.{below-by_test}
+use Rattle.hex_lines.specs.Hex.{hex_digit, hex_of, line_end, Line, wrong, right, line_of}
+use Rattle.hex_lines.proofs.Reading.{ending-within}
 use Rattle.profile.specs.declared.Profile.{Profile}
-use Rattle.frames.specs.Frames.{Frame, firstCharacters, firstFrame, frames, textFrame, frame_at}
-use Rattle.frames.specs.Lines.{readFrame}
+use Rattle.frames.specs.Frames.{Frame, first_characters, first_frame, frames, text_frame, frame_at}
+use Rattle.frames.specs.Lines.{read_frame}
 use Rattle.frames.proofs.FrameNumbers.{text_at}
-use Rattle.frames.proofs.FrameLaws.{frame-read, read-frame, line-within}
-use Rattle.frame_reader.specs.Places.{start, behindLine, placeAfter, placeAt}
+use Rattle.frames.proofs.FrameLaws.{frame_read, read_frame_lem, line-within}
+use Rattle.frame_reader.specs.Places.{start, behind_line, place_after, place_at}
 use Rattle.frame_reader.specs.inner.Parser.{step_of, Stands, Due}
 use Rattle.frame_reader.specs.declared.frame.Step.TheVariants as step
 use Rattle.frame_reader.specs.declared.Place.{Place}
@@ -24,93 +24,93 @@ use Rattle.frame_reader.specs.declared.Place.{Place}
 -- what the parser's answer makes of a place
 module _ (here : Place) (fixed : ℕ) where
   step-wrong : (line : Line) → step_of here.at fixed line ≡ step.Wrong
-      → behindLine here fixed line ≡ record { at = here.at; line = here.line; right = false }
-  unfolding step_of behindLine
+      → behind_line here fixed line ≡ record { at = here.at; line = here.line; right = false }
+  unfolding step_of behind_line
   step-wrong wrong e = refl
   step-wrong (right bytes rest) e = let z : ◌≡◌ {A = ℕ} 0 1 = cc in absurd (omega arith)
 
   step-next : (line : Line) (next : ℕ) → step_of here.at fixed line ≡ step.Next next
-      → behindLine here fixed line ≡ record { at = next; line = here.line + 1; right = true }
-  unfolding step_of behindLine
+      → behind_line here fixed line ≡ record { at = next; line = here.line + 1; right = true }
+  unfolding step_of behind_line
   step-next wrong next e = let z : ◌≡◌ {A = ℕ} 0 1 = cc in absurd (omega arith)
   step-next (right bytes rest) next e = let index : here.at + 2 * (fixed + length bytes) + 1 ≡ next = cc in rw index
 
 module _ (sheet : List ℕ) (f : Frame) (here : Place) where
   abbrev pub line-here : Line
-  line-here = readFrame f (drop here.at sheet)
+  line-here = read_frame f (drop here.at sheet)
 
-  pub after_line : here.right ≡ true → placeAfter sheet f here ≡ behindLine here (length f.head) line-here
-  unfolding placeAfter
-  after_line e = ap (λ t. cond t (behindLine here (length f.head) line-here) here) e
+  pub after_line : here.right ≡ true → place_after sheet f here ≡ behind_line here (length f.head) line-here
+  unfolding place_after
+  after_line e = ap (λ t. cond t (behind_line here (length f.head) line-here) here) e
 
   pub after-wrong : here.right ≡ true → step.Wrong ≡ step_of here.at (length f.head) line-here
-      → record { at = here.at; line = here.line; right = false } ≡ placeAfter sheet f here
+      → record { at = here.at; line = here.line; right = false } ≡ place_after sheet f here
   after-wrong e q = sym (after_line e ∙ step-wrong here (length f.head) line-here (sym q))
 
   pub after_next : (next : ℕ) → here.right ≡ true → step.Next next ≡ step_of here.at (length f.head) line-here
-      → record { at = next; line = here.line + 1; right = true } ≡ placeAfter sheet f here
+      → record { at = next; line = here.line + 1; right = true } ≡ place_after sheet f here
   after_next next e q = sym (after_line e ∙ step-next here (length f.head) line-here next (sym q))
 
-  pub after_kept : here.right ≡ false → here ≡ placeAfter sheet f here
-  unfolding placeAfter
-  after_kept e = sym (ap (λ t. cond t (behindLine here (length f.head) line-here) here) e)
+  pub after_kept : here.right ≡ false → here ≡ place_after sheet f here
+  unfolding place_after
+  after_kept e = sym (ap (λ t. cond t (behind_line here (length f.head) line-here) here) e)
 
-  after-stands : Stands sheet here → Stands sheet (placeAfter sheet f here)
-  unfolding placeAfter behindLine
-  after-stands h = by here.right line-here refl refl
+  after_stands : Stands sheet here → Stands sheet (place_after sheet f here)
+  unfolding place_after behind_line
+  after_stands h = by here.right line-here refl refl
     where
-      by : (t : Bool) (l : Line) → here.right ≡ t → line-here ≡ l → Stands sheet (placeAfter sheet f here)
+      by : (t : Bool) (l : Line) → here.right ≡ t → line-here ≡ l → Stands sheet (place_after sheet f here)
       by false l e q = rw e h
       by true wrong e q = rw (e, q) h
       by true (right bytes rest) e q =
-          let within = line-within sheet here.at f.head bytes rest (read-frame f (drop here.at sheet) bytes rest q).line in
+          let within = line-within sheet here.at f.head bytes rest (read_frame_lem f (drop here.at sheet) bytes rest q).line in
           rw (e, q) (within, omega arith)
 
 -- the places before the frames of a profile
 module _ (p : Profile) (sheet : List ℕ) where
-  stands_at : (k : ℕ) → Stands sheet (placeAt sheet p k)
-  unfolding placeAt
+  stands_at : (k : ℕ) → Stands sheet (place_at sheet p k)
+  unfolding place_at
   stands_at zero = (omega arith, lit≤ tt)
-  stands_at (suc k) = after-stands sheet (frame_at p k) (placeAt sheet p k) (stands_at k)
+  stands_at (suc k) = after_stands sheet (frame_at p k) (place_at sheet p k) (stands_at k)
 
-  pub due-at : (k : ℕ) → Due sheet k (placeAt sheet p k)
-  unfolding placeAt
-  due-at k = (stands_at k, λ e. rw e)
+  pub due_at : (k : ℕ) → Due sheet k (place_at sheet p k)
+  unfolding place_at
+  due_at k = (stands_at k, λ e. rw e)
 
   -- behind the last of them the text's frame is taken
-  pub text-taken : (k : ℕ) → k ≡ length (frames p) → placeAt sheet p (suc k) ≡ placeAfter sheet textFrame (placeAt sheet p k)
-  unfolding placeAt
-  text-taken k e = ap (λ f. placeAfter sheet f (placeAt sheet p k)) (text_at p k (omega arith))
+  pub text-taken : (k : ℕ) → k ≡ length (frames p) → place_at sheet p (suc k) ≡ place_after sheet text_frame (place_at sheet p k)
+  unfolding place_at
+  text-taken k e = ap (λ f. place_after sheet f (place_at sheet p k)) (text_at p k (omega arith))
 
 -- the first line
 module _ (sheet : List ℕ) where
-  begun : take 6 sheet ≡ firstCharacters → get_or sheet 6 0 ≡ lineEnd → readFrame firstFrame sheet ≡ right [] (drop 7 sheet)
-  unfolding line_of hexOf hexDigit
+  begun : take 6 sheet ≡ first_characters → get_or sheet 6 0 ≡ line_end → read_frame first_frame sheet ≡ right [] (drop 7 sheet)
+  unfolding line_of hex_of hex_digit
   begun e end =
-      let rest : drop 6 sheet ≡ lineEnd ∷ drop 7 sheet = rw (drop-cons sheet 6 0 (ending-within sheet 6 end), end) in
-      let whole : firstCharacters ++ (lineEnd ∷ drop 7 sheet) ≡ sheet =
-      ap (λ l. firstCharacters ++ l) (sym rest) ∙ ap (λ l. l ++ drop 6 sheet) (sym e) ∙ take-append-drop 6 sheet in
-      rw whole at (frame-read firstFrame [] (drop 7 sheet) (below-by-test 256 (71 ∷ 79 ∷ 49 ∷ []) tt) (λ i. lit< tt) (lit≤ tt) (lit≤ tt))
+      let rest : drop 6 sheet ≡ line_end ∷ drop 7 sheet = rw (drop-cons sheet 6 0 (ending-within sheet 6 end), end) in
+      let whole : first_characters ++ (line_end ∷ drop 7 sheet) ≡ sheet =
+      ap (λ l. first_characters ++ l) (sym rest) ∙ ap (λ l. l ++ drop 6 sheet) (sym e) ∙ take-append-drop 6 sheet in
+      rw whole at (frame_read first_frame [] (drop 7 sheet) (below-by_test 256 (71 ∷ 79 ∷ 49 ∷ []) tt) (λ i. lit< tt) (lit≤ tt) (lit≤ tt))
 
-  pub first-right : take 6 sheet ≡ firstCharacters → get_or sheet 6 0 ≡ lineEnd → record { at = 7; line = 2; right = true } ≡ placeAfter sheet firstFrame start
-  unfolding placeAfter behindLine
+  pub first-right : take 6 sheet ≡ first_characters → get_or sheet 6 0 ≡ line_end → record { at = 7; line = 2; right = true } ≡ place_after sheet first_frame start
+  unfolding place_after behind_line
   first-right e end = rw (begun e end)
 
-  first-apart : (line : Line) → readFrame firstFrame sheet ≡ line → (take 6 sheet ≡ firstCharacters → get_or sheet 6 0 ≡ lineEnd → ⊥) → line ≡ wrong
-  unfolding line_of hexOf hexDigit
+  first-apart : (line : Line) → read_frame first_frame sheet ≡ line → (take 6 sheet ≡ first_characters → get_or sheet 6 0 ≡ line_end → ⊥) → line ≡ wrong
+  unfolding line_of hex_of hex_digit
   first-apart wrong q other = refl
   first-apart (right [] rest) q other =
-      let line = (read-frame firstFrame sheet [] rest q).line in
+      let line = (read_frame_lem first_frame sheet [] rest q).line in
       absurd (other (ap (take 6) line) (ap (λ l. get_or l 6 0) line))
-  first-apart (right (b ∷ bytes) rest) q other = absurd (omega (arith, (read-frame firstFrame sheet (b ∷ bytes) rest q).few))
+  first-apart (right (b ∷ bytes) rest) q other = absurd (omega (arith, (read_frame_lem first_frame sheet (b ∷ bytes) rest q).few))
 
-  pub first-wrong : (take 6 sheet ≡ firstCharacters → get_or sheet 6 0 ≡ lineEnd → ⊥)
-      → record { at = 0; line = 1; right = false } ≡ placeAfter sheet firstFrame start
-  unfolding placeAfter behindLine
-  first-wrong other = rw (first-apart (readFrame firstFrame sheet) refl other)
+  pub first-wrong : (take 6 sheet ≡ first_characters → get_or sheet 6 0 ≡ line_end → ⊥)
+      → record { at = 0; line = 1; right = false } ≡ place_after sheet first_frame start
+  unfolding place_after behind_line
+  first-wrong other = rw (first-apart (read_frame first_frame sheet) refl other)
 
   -- which is frame 0, where reading begins
-  pub first-after : (p : Profile) (k : ℕ) (here : Place) → k ≡ 0 → Due sheet k here → placeAfter sheet firstFrame start ≡ placeAfter sheet (frame_at p k) here
+  pub first-after : (p : Profile) (k : ℕ) (here : Place) → k ≡ 0 → Due sheet k here → place_after sheet first_frame start ≡ place_after sheet (frame_at p k) here
   unfolding frames
   first-after p k here e due = rw (e, due.1 e)
 

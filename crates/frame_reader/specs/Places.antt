@@ -1,9 +1,9 @@
 -- Document 01, Sheet: "The reader takes the sheet frame after frame, each call picking up behind the last": the places that it passes.
 use Rattle.std.specs.Prelude.{true, false, cond, List, ℕ, zero, suc, ◌+◌, ◌*◌, length, drop}
 use Rattle.profile.specs.declared.Profile.{Profile}
-use Rattle.hex.specs.Hex.{Line, wrong, right}
+use Rattle.hex_lines.specs.Hex.{Line, wrong, right}
 use Rattle.frames.specs.Frames.{Frame, frame_at}
-use Rattle.frames.specs.Lines.{readFrame}
+use Rattle.frames.specs.Lines.{read_frame}
 use Rattle.frame_reader.specs.declared.Place.{Place}
 
 -- where reading begins
@@ -11,15 +11,15 @@ abbrev pub start : Place
 start = record { at = 0; line = 1; right = true }
 
 -- the place behind a line; a wrong line stays
-unfoldable pub behindLine : Place → (fixed : ℕ) → Line → Place
-behindLine here fixed wrong = record { at = here.at; line = here.line; right = false }
-behindLine here fixed (right bytes rest) = record { at = here.at + 2 * (fixed + length bytes) + 1; line = here.line + 1; right = true }
+unfoldable pub behind_line : Place → (fixed : ℕ) → Line → Place
+behind_line here fixed wrong = record { at = here.at; line = here.line; right = false }
+behind_line here fixed (right bytes rest) = record { at = here.at + 2 * (fixed + length bytes) + 1; line = here.line + 1; right = true }
 
 -- the place once a frame is taken; behind a wrong line none is
-unfoldable pub placeAfter : (sheet : List ℕ) → Frame → Place → Place
-placeAfter sheet f here = cond here.right (behindLine here (length f.head) (readFrame f (drop here.at sheet))) here
+unfoldable pub place_after : (sheet : List ℕ) → Frame → Place → Place
+place_after sheet f here = cond here.right (behind_line here (length f.head) (read_frame f (drop here.at sheet))) here
 
 -- the place before frame k, "each call picking up behind the last"
-unfoldable pub placeAt : (sheet : List ℕ) → Profile → (k : ℕ) → Place
-placeAt sheet p zero = start
-placeAt sheet p (suc k) = placeAfter sheet (frame_at p k) (placeAt sheet p k)
+unfoldable pub place_at : (sheet : List ℕ) → Profile → (k : ℕ) → Place
+place_at sheet p zero = start
+place_at sheet p (suc k) = place_after sheet (frame_at p k) (place_at sheet p k)

@@ -1,12 +1,12 @@
 // One frame of a sheet, from an index on.
 ghost use Rattle.std.specs.Prelude.{◌≡◌, ◌+◌, ◌≤◌, eqb, length, get_or, drop};
-ghost use Rattle.hex.specs.Hex.{lineEnd, readLine};
+ghost use Rattle.hex_lines.specs.Hex.{line_end, read_line};
 ghost use Rattle.frames.specs.Frames.{SizesInLimits, frame_at};
-ghost use Rattle.frames.specs.Lines.{readFrame};
-ghost use Rattle.frame_reader.specs.inner.Parser.{foundOf, step_of, HeadStands};
+ghost use Rattle.frames.specs.Lines.{read_frame};
+ghost use Rattle.frame_reader.specs.inner.Parser.{found_of, step_of, HeadStands};
 
 use frames::{frame_size, head_byte};
-use hex::{Digits, byte_at};
+use hex_lines::{Digits, byte_at};
 use profile::Profile;
 
 // How many bytes a line has.
@@ -25,7 +25,7 @@ pub enum Step {
 
 // Whether a line ends at an index.
 pub fn ends_at(sheet: &[u8], at: usize) -> bool
-    ensures { result ≡ eqb (get_or sheet.now at 0) lineEnd }
+    ensures { result ≡ eqb (get_or sheet.now at 0) line_end }
 {
     if at < sheet.len() {
         sheet[at] == 10
@@ -59,7 +59,7 @@ fn head_stands(sheet: &[u8], at: usize, p: Profile, k: usize, fixed: usize) -> b
 // The bytes of the line that goes on at an index, where they are at most so many.
 fn line_bytes(sheet: &[u8], at: usize, most: usize) -> Found
     requires { (at ≤ length sheet.now + 14) × (most ≤ 200) }
-    ensures { result ≡ foundOf most (readLine (drop at sheet.now)) }
+    ensures { result ≡ found_of most (read_line (drop at sheet.now)) }
 {
     let mut i = 0;
     while i <= most {
@@ -81,7 +81,7 @@ fn line_bytes(sheet: &[u8], at: usize, most: usize) -> Found
 // The frame parser: whether the line from an index on is frame k of a profile's sheet.
 pub fn frame(sheet: &[u8], at: usize, p: Profile, k: usize) -> Step
     requires { (at ≤ length sheet.now) × SizesInLimits p × (1 ≤ k) }
-    ensures { result ≡ step_of at (length (frame_at p k).head) (readFrame (frame_at p k) (drop at sheet.now)) }
+    ensures { result ≡ step_of at (length (frame_at p k).head) (read_frame (frame_at p k) (drop at sheet.now)) }
 {
     let size = frame_size(p, k);
     let fixed = size.fixed;

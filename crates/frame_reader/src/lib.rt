@@ -1,7 +1,8 @@
 // The reader: the sheet frame after frame, each call picking up behind the last.
+#![tactic(auto)]
 ghost use Rattle.std.specs.Prelude.{◌≡◌, suc};
 ghost use Rattle.frames.specs.Frames.{SizesInLimits, frame_at};
-ghost use Rattle.frame_reader.specs.Places.{placeAfter, placeAt};
+ghost use Rattle.frame_reader.specs.Places.{place_after, place_at};
 ghost use Rattle.frame_reader.specs.inner.Parser.{Due};
 
 mod frame;
@@ -30,7 +31,7 @@ impl<'a> Reader<'a> {
     fn next(self, p: Profile, k: usize) -> Reader<'a>
         requires { Due self.sheet.now k self.place × SizesInLimits p }
         ensures { (result.sheet ≡ self.entry.sheet)
-            × (result.place ≡ placeAfter self.entry.sheet.now (frame_at p k) self.entry.place) }
+            × (result.place ≡ place_after self.entry.sheet.now (frame_at p k) self.entry.place) }
     {
         Reader {
             sheet: self.sheet,
@@ -49,7 +50,7 @@ pub struct Passed {
 // The whole sheet, by one reader: the frames in front of the text, which are so many, and then the text's.
 pub fn take_frames(sheet: &[u8], p: Profile, count: usize) -> Passed
     requires { SizesInLimits p }
-    ensures { (result.text ≡ placeAt sheet.now p count) × (result.end ≡ placeAt sheet.now p (suc count)) }
+    ensures { (result.text ≡ place_at sheet.now p count) × (result.end ≡ place_at sheet.now p (suc count)) }
 {
     let mut reader = Reader {
         sheet,

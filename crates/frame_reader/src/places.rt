@@ -1,7 +1,7 @@
 // Places of the reader: what a frame does to one.
 ghost use Rattle.std.specs.Prelude.{◌≡◌, true, false, take};
-ghost use Rattle.frames.specs.Frames.{SizesInLimits, firstFrame, frame_at};
-ghost use Rattle.frame_reader.specs.Places.{start, placeAfter};
+ghost use Rattle.frames.specs.Frames.{SizesInLimits, first_frame, frame_at};
+ghost use Rattle.frame_reader.specs.Places.{start, place_after};
 ghost use Rattle.frame_reader.specs.inner.Parser.{Due};
 
 use super::Place;
@@ -28,7 +28,7 @@ fn begins(sheet: &[u8], characters: [u8; 6]) -> bool
 
 // The first line.
 fn first_line(sheet: &[u8]) -> Place
-    ensures { result ≡ placeAfter sheet.now firstFrame start }
+    ensures { result ≡ place_after sheet.now first_frame start }
 {
     let characters = first_characters();
     if begins(sheet, characters) {
@@ -50,7 +50,7 @@ fn first_line(sheet: &[u8]) -> Place
 // Frame k.
 pub fn take_frame(sheet: &[u8], here: Place, p: Profile, k: usize) -> Place
     requires { Due sheet.now k here × SizesInLimits p }
-    ensures { result ≡ placeAfter sheet.now (frame_at p k) here }
+    ensures { result ≡ place_after sheet.now (frame_at p k) here }
 {
     if k == 0 {
         return first_line(sheet);

@@ -10,12 +10,12 @@ use lib.ListN.{length, drop, length-append, length-drop}
 use lib.Seq.{drop_at, drop-drop}
 use Rattle.lists.proofs.Lists.{Below, below-append, below-behind}
 use Rattle.profile.specs.Checks.{outside}
-use Rattle.profile.proofs.Limits.{inside, not-outside}
-use Rattle.hex.specs.Hex.{Line, wrong, right, line_of, readLine}
-use Rattle.hex.proofs.HexLaws.{wrong-right, read-line-of, line-of-read}
-use Rattle.hex.proofs.Writing.{length-lineOf}
+use Rattle.profile.proofs.Limits.{inside, not_outside}
+use Rattle.hex_lines.specs.Hex.{Line, wrong, right, line_of, read_line}
+use Rattle.hex_lines.proofs.HexLaws.{wrong-right, read-line-of, line-of-read}
+use Rattle.hex_lines.proofs.Writing.{length-line_of}
 use Rattle.frames.specs.Frames.{Frame}
-use Rattle.frames.specs.Lines.{without, within, readFrame}
+use Rattle.frames.specs.Lines.{without, within, read_frame}
 
 without-head : (head bytes rest : List ℕ) → without head (right (head ++ bytes) rest) ≡ right bytes rest
 unfolding without
@@ -50,13 +50,13 @@ inside-within low high (right more rest') bytes rest e = by (outside low high (l
     by : (test : Bool) → outside low high (length more) ≡ test → cond test wrong (right more rest') ≡ right bytes rest
         → (right more rest' ≡ right bytes rest) × (low ≤ length bytes) × (length bytes ≤ high)
     by true test e = wrong-right e
-    by false test e = let limits = not-outside low high (length more) test in let same : more ≡ bytes = cc in
+    by false test e = let limits = not_outside low high (length more) test in let same : more ≡ bytes = cc in
         (e, (rw same at limits.0), (rw same at limits.1))
 
-pub frame-read : (f : Frame) (bytes rest : List ℕ) → Below 256 f.head → Below 256 bytes → f.low ≤ length bytes → length bytes ≤ f.high
-    → readFrame f (line_of (f.head ++ bytes) ++ rest) ≡ right bytes rest
-unfolding readFrame
-frame-read f bytes rest head below some few =
+pub frame_read : (f : Frame) (bytes rest : List ℕ) → Below 256 f.head → Below 256 bytes → f.low ≤ length bytes → length bytes ≤ f.high
+    → read_frame f (line_of (f.head ++ bytes) ++ rest) ≡ right bytes rest
+unfolding read_frame
+frame_read f bytes rest head below some few =
     rw (read-line-of (f.head ++ bytes) rest (below-append 256 f.head bytes head below), without-head f.head bytes rest)
     (within-inside f.low f.high bytes rest some few)
 
@@ -67,15 +67,15 @@ pub record Framed (f : Frame) (sheet bytes rest : List ℕ) : Type 0 where
   pub some : f.low ≤ length bytes
   pub few : length bytes ≤ f.high
 
-pub read-frame : (f : Frame) (sheet bytes rest : List ℕ) → readFrame f sheet ≡ right bytes rest → Framed f sheet bytes rest
-unfolding readFrame
-read-frame f sheet bytes rest e =
-    let limits = inside-within f.low f.high (without f.head (readLine sheet)) bytes rest e in
-    let line = line-of-read sheet (head-without f.head (readLine sheet) bytes rest limits.0) in
+pub read_frame_lem : (f : Frame) (sheet bytes rest : List ℕ) → read_frame f sheet ≡ right bytes rest → Framed f sheet bytes rest
+unfolding read_frame
+read_frame_lem f sheet bytes rest e =
+    let limits = inside-within f.low f.high (without f.head (read_line sheet)) bytes rest e in
+    let line = line-of-read sheet (head-without f.head (read_line sheet) bytes rest limits.0) in
     record { line = line.line; below = below-behind 256 f.head bytes line.below; some = limits.1; few = limits.2 }
 
 pub line-long : (head bytes : List ℕ) → length (line_of (head ++ bytes)) ≡ 2 * (length head + length bytes) + 1
-line-long head bytes = length-lineOf (head ++ bytes) ∙ ap (λ n. 2 * n + 1) (length-append head bytes)
+line-long head bytes = length-line_of (head ++ bytes) ∙ ap (λ n. 2 * n + 1) (length-append head bytes)
 
 -- a line that begins at an index: what stands behind it
 module _ (sheet : List ℕ) (at : ℕ) (head bytes rest : List ℕ) (e : drop at sheet ≡ line_of (head ++ bytes) ++ rest) where

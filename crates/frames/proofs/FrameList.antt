@@ -7,16 +7,16 @@ use lib.Dec.{lit<}
 use lib.ListN.{length, take, drop, length-append, length-drop}
 use lib.Seq.{length-take-le}
 use Rattle.octets.specs.Bytes.{to_bytes}
-use Rattle.octets.proofs.ByteLaws.{toBytes-lt}
-use Rattle.lists.proofs.Lists.{Below, below-by-test, below-cons, below-append}
+use Rattle.octets.proofs.ByteLaws.{to_bytes_lt}
+use Rattle.lists.proofs.Lists.{Below, below-by_test, below_cons, below-append}
 use Rattle.lists.proofs.Pairs.{Each, each_append}
 use Rattle.profile.specs.declared.Profile.{Profile}
-use Rattle.signature.specs.Signature.{signatureLength}
-use Rattle.frames.specs.Frames.{SizesInLimits, Frame, sized, firstFrame, editionByte, profileFrame, leafFrame, randomizerFrame, numbered, frames}
-use Rattle.frames.specs.Lines.{frameLine, lines_of}
-use Rattle.frames.specs.inner.Size.{behindFrame, behindAll}
+use Rattle.signature.specs.Signature.{signature_length}
+use Rattle.frames.specs.Frames.{SizesInLimits, Frame, sized, first_frame, edition_byte, profile_frame, leaf_frame, randomizer_frame, numbered, frames}
+use Rattle.frames.specs.Lines.{frame_line, lines_of}
+use Rattle.frames.specs.inner.Size.{behind_frame, behind_all}
 use Rattle.frames.proofs.FrameLaws.{line-long}
-use Rattle.frames.proofs.FrameNumbers.{edition-byte, profile-long}
+use Rattle.frames.proofs.FrameNumbers.{edition_byte_lem, profile-long}
 
 -- each has one number of bytes behind its fixed ones
 abbrev pub Sized : List Frame → Type 0
@@ -54,11 +54,11 @@ module _ (p : Profile) where
       (all-numbered P 5 0 p.height (λ i h. sibling i (omega arith)))
 
   pub frames-sized : Sized (frames p)
-  unfolding frames profileFrame
+  unfolding frames profile_frame
   frames-sized = (refl, (refl, (refl, (refl, all-values (λ f. f.low ≡ f.high) (λ i h. refl) (λ i h. refl)))))
 
-  pub frames-total : total (frames p) ≡ signatureLength p
-  unfolding frames profileFrame signatureLength
+  pub frames-total : total (frames p) ≡ signature_length p
+  unfolding frames profile_frame signature_length
   frames-total =
       omega (
         arith,
@@ -67,50 +67,50 @@ module _ (p : Profile) where
         total-numbered 5 0 p.height,
       )
 
-  pub profile-below : SizesInLimits p → Below 256 (profileFrame p).head
-  unfolding profileFrame
+  pub profile-below : SizesInLimits p → Below 256 (profile_frame p).head
+  unfolding profile_frame
   profile-below h zero = lit< tt
   profile-below h (suc zero) = omega (arith, h.0.few-chains)
   profile-below h (suc (suc zero)) = omega (arith, h.0.narrow)
   profile-below h (suc (suc (suc zero))) = omega (arith, h.1)
-  profile-below h (suc (suc (suc (suc i)))) = below-append 256 (to_bytes 2 p.shape.sum) (editionByte p.edition) (toBytes-lt 2 p.shape.sum)
-      (edition-byte (Below 256) p.edition (below-by-test 256 (2 ∷ []) tt) (below-by-test 256 [] tt)) i
+  profile-below h (suc (suc (suc (suc i)))) = below-append 256 (to_bytes 2 p.shape.sum) (edition_byte p.edition) (to_bytes_lt 2 p.shape.sum)
+      (edition_byte_lem (Below 256) p.edition (below-by_test 256 (2 ∷ []) tt) (below-by_test 256 [] tt)) i
 
   pub frames-bytes : SizesInLimits p → Bytes (frames p)
-  unfolding frames profileFrame
+  unfolding frames profile_frame
   frames-bytes h =
       let head : (kind i : ℕ) → kind < 256 → i < 256 → Below 256 (kind ∷ i ∷ []) =
-      λ kind i small few. below-cons 256 kind (i ∷ []) small (below-cons 256 i [] few (λ j. lit< tt)) in
+      λ kind i small few. below_cons 256 kind (i ∷ []) small (below_cons 256 i [] few (λ j. lit< tt)) in
       let values = all-values (λ f. Below 256 f.head) (λ i low. head 4 i (lit< tt) (omega (arith, h.0.few-chains)))
       (λ i low. head 5 i (lit< tt) (omega (arith, h.1))) in
-      (below-by-test 256 (71 ∷ 79 ∷ 49 ∷ []) tt, (profile-below h, (below-by-test 256 (2 ∷ []) tt, (below-by-test 256 (3 ∷ []) tt, values))))
+      (below-by_test 256 (71 ∷ 79 ∷ 49 ∷ []) tt, (profile-below h, (below-by_test 256 (2 ∷ []) tt, (below-by_test 256 (3 ∷ []) tt, values))))
 
 -- the place behind lines is where they end
-pub length-lines : (fs : List Frame) (bytes : List ℕ) (at : ℕ) → total fs ≤ length bytes → at + length (lines_of fs bytes) ≡ behindAll at fs
-unfolding lines_of behindAll
+pub length-lines : (fs : List Frame) (bytes : List ℕ) (at : ℕ) → total fs ≤ length bytes → at + length (lines_of fs bytes) ≡ behind_all at fs
+unfolding lines_of behind_all
 length-lines [] bytes at enough = omega arith
 length-lines (f ∷ fs) bytes at enough =
-    let here = frameLine f (take f.high bytes) in
+    let here = frame_line f (take f.high bytes) in
     let long = line-long f.head (take f.high bytes) in
     let mine = length-take-le f.high bytes (omega arith) in
     let rest = length-drop f.high bytes in
-    omega (arith, length-append here (lines_of fs (drop f.high bytes)), length-lines fs (drop f.high bytes) (behindFrame at f) (omega arith))
+    omega (arith, length-append here (lines_of fs (drop f.high bytes)), length-lines fs (drop f.high bytes) (behind_frame at f) (omega arith))
 
-behind-append : (at : ℕ) (fs gs : List Frame) → behindAll at (fs ++ gs) ≡ behindAll (behindAll at fs) gs
-unfolding behindAll
+behind-append : (at : ℕ) (fs gs : List Frame) → behind_all at (fs ++ gs) ≡ behind_all (behind_all at fs) gs
+unfolding behind_all
 behind-append at [] gs = refl
-behind-append at (f ∷ fs) gs = behind-append (behindFrame at f) fs gs
+behind-append at (f ∷ fs) gs = behind-append (behind_frame at f) fs gs
 
-behind-numbered : (at kind k n : ℕ) → behindAll at (numbered kind k n) ≡ at + 37 * n
-unfolding behindAll numbered
+behind-numbered : (at kind k n : ℕ) → behind_all at (numbered kind k n) ≡ at + 37 * n
+unfolding behind_all numbered
 behind-numbered at kind k zero = omega arith
-behind-numbered at kind k (suc n) = behind-numbered (behindFrame at (sized (kind ∷ k ∷ []) 16)) kind (suc k) n ∙ omega arith
+behind-numbered at kind k (suc n) = behind-numbered (behind_frame at (sized (kind ∷ k ∷ []) 16)) kind (suc k) n ∙ omega arith
 
 -- where the text's line begins
-pub behind-frames : (p : Profile) → behindAll 0 (frames p) ≡ 66 + 2 * length (editionByte p.edition) + 37 * (p.shape.chains + p.height)
-unfolding behindAll frames profileFrame
+pub behind-frames : (p : Profile) → behind_all 0 (frames p) ≡ 66 + 2 * length (edition_byte p.edition) + 37 * (p.shape.chains + p.height)
+unfolding behind_all frames profile_frame
 behind-frames p =
     let values = numbered 4 0 p.shape.chains in
-    let four = behindAll 0 (firstFrame ∷ profileFrame p ∷ leafFrame ∷ randomizerFrame ∷ []) in
+    let four = behind_all 0 (first_frame ∷ profile_frame p ∷ leaf_frame ∷ randomizer_frame ∷ []) in
     behind-append four values (numbered 5 0 p.height)
-    ∙ omega (arith, profile-long p, behind-numbered four 4 0 p.shape.chains, behind-numbered (behindAll four values) 5 0 p.height)
+    ∙ omega (arith, profile-long p, behind-numbered four 4 0 p.shape.chains, behind-numbered (behind_all four values) 5 0 p.height)

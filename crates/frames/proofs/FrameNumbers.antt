@@ -12,8 +12,8 @@ use lib.ListN.{length, get_or, drop, length-append, get_or-append, get_or-eq_def
 use lib.Seq.{drop-cons, get_or-append-add}
 use Rattle.octets.specs.Bytes.{to_bytes}
 use Rattle.profile.specs.declared.Profile.{Profile}
-use Rattle.frames.specs.Frames.{SizesInLimits, Frame, sized, firstFrame, editionByte, profileFrame, leafFrame, randomizerFrame, numbered, frames}
-use Rattle.frames.specs.Frames.{textFrame, frame_at}
+use Rattle.frames.specs.Frames.{SizesInLimits, Frame, sized, first_frame, edition_byte, profile_frame, leaf_frame, randomizer_frame, numbered, frames}
+use Rattle.frames.specs.Frames.{text_frame, frame_at}
 use Rattle.frames.specs.inner.Size.{HasSize}
 use Rattle.frames.specs.declared.Size.{Size}
 
@@ -53,36 +53,36 @@ module _ (p : Profile) where
   frames-few h = omega (arith, length-frames, h.0.few-chains, h.1)
 
   -- behind the first four
-  behind-four : (j : ℕ) → frame_at p (4 + j) ≡ get_or (numbered 4 0 chains ++ numbered 5 0 p.height) j textFrame
+  behind_four : (j : ℕ) → frame_at p (4 + j) ≡ get_or (numbered 4 0 chains ++ numbered 5 0 p.height) j text_frame
   unfolding frames
-  behind-four j = get_or-append-add (firstFrame ∷ profileFrame p ∷ leafFrame ∷ randomizerFrame ∷ []) (numbered 4 0 chains ++ numbered 5 0 p.height) j textFrame
+  behind_four j = get_or-append-add (first_frame ∷ profile_frame p ∷ leaf_frame ∷ randomizer_frame ∷ []) (numbered 4 0 chains ++ numbered 5 0 p.height) j text_frame
 
   module _ (k : ℕ) where
     pub value-at : 4 ≤ k → k < 4 + chains → frame_at p k ≡ sized (4 ∷ (k - 4) ∷ []) 16
     value-at low high =
         let same : k ≡ 4 + (k - 4) = omega arith in
         let few : k - 4 < length (numbered 4 0 chains) = omega (arith, length-numbered 4 0 chains) in
-        ap (frame_at p) same ∙ behind-four (k - 4) ∙ get_or-append (numbered 4 0 chains) (numbered 5 0 p.height) textFrame (k - 4) few
-        ∙ numbered-at 4 0 chains (k - 4) textFrame (omega arith) ∙ rw zero-add
+        ap (frame_at p) same ∙ behind_four (k - 4) ∙ get_or-append (numbered 4 0 chains) (numbered 5 0 p.height) text_frame (k - 4) few
+        ∙ numbered-at 4 0 chains (k - 4) text_frame (omega arith) ∙ rw zero-add
 
     pub sibling-at : 4 + chains ≤ k → k < 4 + chains + p.height → frame_at p k ≡ sized (5 ∷ (k - (4 + chains)) ∷ []) 16
     sibling-at low high =
         let long = length-numbered 4 0 chains in
         let same : k ≡ 4 + (length (numbered 4 0 chains) + (k - (4 + chains))) = omega arith in
-        ap (frame_at p) same ∙ behind-four (length (numbered 4 0 chains) + (k - (4 + chains)))
-        ∙ get_or-append-add (numbered 4 0 chains) (numbered 5 0 p.height) (k - (4 + chains)) textFrame
-        ∙ numbered-at 5 0 p.height (k - (4 + chains)) textFrame (omega arith) ∙ rw zero-add
+        ap (frame_at p) same ∙ behind_four (length (numbered 4 0 chains) + (k - (4 + chains)))
+        ∙ get_or-append-add (numbered 4 0 chains) (numbered 5 0 p.height) (k - (4 + chains)) text_frame
+        ∙ numbered-at 5 0 p.height (k - (4 + chains)) text_frame (omega arith) ∙ rw zero-add
 
-    pub profile-at : k ≡ 1 → frame_at p k ≡ profileFrame p
+    pub profile-at : k ≡ 1 → frame_at p k ≡ profile_frame p
     unfolding frames
     profile-at e = ap (frame_at p) e
 
     -- the frames from frame k on
     pub frames-cut : k < length (frames p) → drop k (frames p) ≡ frame_at p k ∷ drop (k + 1) (frames p)
-    frames-cut h = rw add-one (drop-cons (frames p) k textFrame h)
+    frames-cut h = rw add-one (drop-cons (frames p) k text_frame h)
 
-    pub text_at : length (frames p) ≤ k → frame_at p k ≡ textFrame
-    text_at h = get_or-eq_default (frames p) textFrame h
+    pub text_at : length (frames p) ≤ k → frame_at p k ≡ text_frame
+    text_at h = get_or-eq_default (frames p) text_frame h
 
     pub text-size : length (frames p) ≤ k → HasSize (frame_at p k) (record { fixed = 1; low = 1; high = 200 })
     text-size h = rw (text_at h) (record { fixed = refl; low = refl; high = refl; few = lit≤ tt; short = lit≤ tt })
@@ -99,49 +99,49 @@ module _ (p : Profile) where
         by false q = this (sibling-at (ltb-false k (4 + chains) q) (omega (arith, length-frames)))
 
 -- the kind byte of the leaf's frame and of R's
-pub kind-byte : (p : Profile) (k i : ℕ) → 2 ≤ k → k < 4 → i < length (frame_at p k).head → get_or (frame_at p k).head i 0 ≡ k
+pub kind_byte : (p : Profile) (k i : ℕ) → 2 ≤ k → k < 4 → i < length (frame_at p k).head → get_or (frame_at p k).head i 0 ≡ k
 unfolding frames
-kind-byte p zero i low high h = absurd (omega arith)
-kind-byte p (suc zero) i low high h = absurd (omega arith)
-kind-byte p (suc (suc zero)) zero low high h = refl
-kind-byte p (suc (suc zero)) (suc i) low high h = absurd (omega arith)
-kind-byte p (suc (suc (suc zero))) zero low high h = refl
-kind-byte p (suc (suc (suc zero))) (suc i) low high h = absurd (omega arith)
-kind-byte p (suc (suc (suc (suc k)))) i low high h = absurd (omega arith)
+kind_byte p zero i low high h = absurd (omega arith)
+kind_byte p (suc zero) i low high h = absurd (omega arith)
+kind_byte p (suc (suc zero)) zero low high h = refl
+kind_byte p (suc (suc zero)) (suc i) low high h = absurd (omega arith)
+kind_byte p (suc (suc (suc zero))) zero low high h = refl
+kind_byte p (suc (suc (suc zero))) (suc i) low high h = absurd (omega arith)
+kind_byte p (suc (suc (suc (suc k)))) i low high h = absurd (omega arith)
 
 -- the profile's frame: how many bytes it has
-pub profile-long : (p : Profile) → length (profileFrame p).head ≡ 6 + length (editionByte p.edition)
-unfolding profileFrame to_bytes
+pub profile-long : (p : Profile) → length (profile_frame p).head ≡ 6 + length (edition_byte p.edition)
+unfolding profile_frame to_bytes
 profile-long p = omega arith
 
 -- what holds of 02 and of no byte holds of an edition's
-pub edition-byte : (P : List ℕ → Type 0) (edition : ℕ) → P (2 ∷ []) → P [] → P (editionByte edition)
-unfolding editionByte
-edition-byte P edition byte none = by (eqb edition 2)
+pub edition_byte_lem : (P : List ℕ → Type 0) (edition : ℕ) → P (2 ∷ []) → P [] → P (edition_byte edition)
+unfolding edition_byte
+edition_byte_lem P edition byte none = by (eqb edition 2)
   where
     by : (second : Bool) → P (cond second (2 ∷ []) [])
     by true = byte
     by false = none
 
-pub edition-long : (edition : ℕ) → length (editionByte edition) ≤ 1
-edition-long edition = edition-byte (λ l. length l ≤ 1) edition (lit≤ tt) (lit≤ tt)
+pub edition_long : (edition : ℕ) → length (edition_byte edition) ≤ 1
+edition_long edition = edition_byte_lem (λ l. length l ≤ 1) edition (lit≤ tt) (lit≤ tt)
 
 -- the bytes of the profile's frame, with any behind the sum's
-abbrev headWith : Profile → (last : List ℕ) → List ℕ
-headWith p last = 1 ∷ p.shape.chains ∷ p.shape.width ∷ p.height ∷ (to_bytes 2 p.shape.sum ++ last)
+abbrev head_with : Profile → (last : List ℕ) → List ℕ
+head_with p last = 1 ∷ p.shape.chains ∷ p.shape.width ∷ p.height ∷ (to_bytes 2 p.shape.sum ++ last)
 
 -- they are those of edition 2, as far as the frame has them
-pub profile-byte : (p : Profile) (i : ℕ) {head : List ℕ} → head ≡ headWith p (editionByte 2) → i < length (profileFrame p).head
-    → get_or head i 0 ≡ get_or (profileFrame p).head i 0
-unfolding profileFrame editionByte to_bytes
-profile-byte p i e h =
-    let same = edition-byte (λ last. i < length (headWith p last) → get_or (headWith p (editionByte 2)) i 0 ≡ get_or (headWith p last) i 0) p.edition in
-    ap (λ l. get_or l i 0) e ∙ same (λ few. refl) (λ few. get_or-append (headWith p []) (2 ∷ []) 0 i few) h
+pub profile_byte : (p : Profile) (i : ℕ) {head : List ℕ} → head ≡ head_with p (edition_byte 2) → i < length (profile_frame p).head
+    → get_or head i 0 ≡ get_or (profile_frame p).head i 0
+unfolding profile_frame edition_byte to_bytes
+profile_byte p i e h =
+    let same = edition_byte_lem (λ last. i < length (head_with p last) → get_or (head_with p (edition_byte 2)) i 0 ≡ get_or (head_with p last) i 0) p.edition in
+    ap (λ l. get_or l i 0) e ∙ same (λ few. refl) (λ few. get_or-append (head_with p []) (2 ∷ []) 0 i few) h
 
 -- the two bytes of the sum, with the byte of edition 2 behind them
 pub two_bytes : (sum : ℕ) (a b c d last : ℕ) → sum ≤ 600 → last ≡ 2
-    → ◌≡◌ {A = List ℕ} (a ∷ b ∷ c ∷ d ∷ sum / 256 ∷ sum % 256 ∷ last ∷ []) (a ∷ b ∷ c ∷ d ∷ (to_bytes 2 sum ++ editionByte 2))
-unfolding to_bytes editionByte
+    → ◌≡◌ {A = List ℕ} (a ∷ b ∷ c ∷ d ∷ sum / 256 ∷ sum % 256 ∷ last ∷ []) (a ∷ b ∷ c ∷ d ∷ (to_bytes 2 sum ++ edition_byte 2))
+unfolding to_bytes edition_byte
 two_bytes sum a b c d last h second =
     let high : sum / 256 ^ 1 % 256 ≡ sum / 256 = omega arith in
     let low : sum / 256 ^ 0 % 256 ≡ sum % 256 = omega arith in

@@ -1,9 +1,10 @@
 // The frames of a profile's sheet, numbered from 0: how many bytes each has, and its fixed ones. The reader and the writer
 // take them from here.
+#![tactic(auto)]
 ghost use Rattle.std.specs.Prelude.{◌≡◌, [], ◌∷◌, ◌++◌, ◌+◌, ◌≤◌, ◌<◌, length, get_or};
 ghost use Rattle.octets.specs.Bytes.{to_bytes};
-ghost use Rattle.frames.specs.Frames.{SizesInLimits, firstCharacters, editionByte, frames, frame_at};
-ghost use Rattle.frames.specs.inner.Size.{HasSize, behindAll};
+ghost use Rattle.frames.specs.Frames.{SizesInLimits, first_characters, edition_byte, frames, frame_at};
+ghost use Rattle.frames.specs.inner.Size.{HasSize, behind_all};
 
 use profile::Profile;
 
@@ -51,7 +52,7 @@ fn sized(fixed: usize, payload: usize) -> Size
 
 // The six characters of the first line.
 pub fn first_characters() -> [u8; 6]
-    ensures { result ≡ firstCharacters }
+    ensures { result ≡ first_characters }
 {
     *b"474F31"
 }
@@ -66,21 +67,21 @@ pub fn frame_count(p: Profile) -> usize
 
 // How many bytes the edition adds to a frame that names a profile.
 pub fn edition_bytes(edition: u32) -> usize
-    ensures { (result ≡ length (editionByte edition)) × (result ≤ 1) }
+    ensures { (result ≡ length (edition_byte edition)) × (result ≤ 1) }
 {
     if edition == 2 { 1 } else { 0 }
 }
 
 // How many bytes the profile's frame has.
 fn profile_bytes(edition: u32) -> usize
-    ensures { result ≡ 6 + length (editionByte edition) }
+    ensures { result ≡ 6 + length (edition_byte edition) }
 {
     PROFILE + edition_bytes(edition)
 }
 
 // How many bytes the lines in front of the text have.
 pub fn lines_length(p: Profile) -> usize
-    ensures { result ≡ behindAll 0 (frames p) }
+    ensures { result ≡ behind_all 0 (frames p) }
 {
     let shape = p.shape;
     let edition = p.edition;
@@ -117,7 +118,7 @@ pub fn frame_size(p: Profile, k: usize) -> Size
 // The kind of a frame that names a profile, the profile's numbers, and the byte of edition 2.
 pub fn profile_head(kind: u8, p: Profile) -> [u8; 7]
     requires { SizesInLimits p }
-    ensures { result ≡ kind ∷ p.shape.chains ∷ p.shape.width ∷ p.height ∷ (to_bytes 2 p.shape.sum ++ editionByte 2) }
+    ensures { result ≡ kind ∷ p.shape.chains ∷ p.shape.width ∷ p.height ∷ (to_bytes 2 p.shape.sum ++ edition_byte 2) }
 {
     let shape = p.shape;
     let sum = shape.sum;

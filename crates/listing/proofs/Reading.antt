@@ -8,48 +8,48 @@ use native.Mathlib.Omega.{arith}
 use lib.Dec.{eqb}
 use lib.ListN.{length, get_or, drop, length-append, length-take, drop_of_length-le}
 use lib.Seq.{drop-cons}
-use Rattle.hex.specs.Hex.{lineEnd}
-use Rattle.listing.specs.Input.{hasEnding, toRead, lineRead, left_of}
+use Rattle.hex_lines.specs.Hex.{line_end}
+use Rattle.listing.specs.Input.{has_ending, to_read, line_read, left_of}
 use Rattle.listing.specs.declared.input.Input.{Input}
 
 -- the ending is sought from one index to the next
-pub ending-from : (line : List ℕ) (i : ℕ) → i < length line → hasEnding (drop i line) ≡ (eqb (get_or line i 0) lineEnd || hasEnding (drop (i + 1) line))
-unfolding hasEnding
+pub ending-from : (line : List ℕ) (i : ℕ) → i < length line → has_ending (drop i line) ≡ (eqb (get_or line i 0) line_end || has_ending (drop (i + 1) line))
+unfolding has_ending
 ending-from line i h = rw (add-one, drop-cons line i 0)
 
-pub ending-none : (line : List ℕ) → hasEnding (drop (length line) line) ≡ false
-unfolding hasEnding
+pub ending-none : (line : List ℕ) → has_ending (drop (length line) line) ≡ false
+unfolding has_ending
 ending-none line = rw (drop_of_length-le line {i = length line} (omega arith))
 
-pub to-read-ended : (line : List ℕ) → hasEnding line ≡ true → toRead line ≡ 0
-unfolding toRead
-to-read-ended line e = rw e
+pub to_read-ended : (line : List ℕ) → has_ending line ≡ true → to_read line ≡ 0
+unfolding to_read
+to_read-ended line e = rw e
 
-pub to-read-open : (line : List ℕ) → hasEnding line ≡ false → toRead line ≡ 11 - length line
-unfolding toRead
-to-read-open line e = rw e
+pub to_read_open : (line : List ℕ) → has_ending line ≡ false → to_read line ≡ 11 - length line
+unfolding to_read
+to_read_open line e = rw e
 
 -- where something is left to be read, no line ending was read and fewer than eleven bytes were
-pub still_open : (line : List ℕ) → 0 < toRead line → (hasEnding line ≡ false) × (length line < 11)
-unfolding toRead
-still_open line h = by (hasEnding line) refl h
+pub still_open : (line : List ℕ) → 0 < to_read line → (has_ending line ≡ false) × (length line < 11)
+unfolding to_read
+still_open line h = by (has_ending line) refl h
   where
-    by : (b : Bool) → hasEnding line ≡ b → 0 < cond b 0 (11 - length line) → (hasEnding line ≡ false) × (length line < 11)
+    by : (b : Bool) → has_ending line ≡ b → 0 < cond b 0 (11 - length line) → (has_ending line ≡ false) × (length line < 11)
     by true e k = absurd (omega arith)
     by false e k = (e, omega arith)
 
 -- before the end of the input
-left-all : (i : Input) → 0 < left_of i → left_of i ≡ toRead (lineRead i)
+left-all : (i : Input) → 0 < left_of i → left_of i ≡ to_read (line_read i)
 unfolding left_of
 left-all i h = by i.ended h
   where
-    by : (b : Bool) → 0 < cond b 0 (toRead (lineRead i)) → cond b 0 (toRead (lineRead i)) ≡ toRead (lineRead i)
+    by : (b : Bool) → 0 < cond b 0 (to_read (line_read i)) → cond b 0 (to_read (line_read i)) ≡ to_read (line_read i)
     by true k = absurd (omega arith)
     by false k = refl
 
 -- there is room for the next byte
 pub room : (i : Input) → length i.bytes ≡ 11 → 0 < left_of i → i.long < 11
-room i long h = omega (arith, (still_open (lineRead i) (rw (left-all i h) at h)).1, length-take i.long i.bytes)
+room i long h = omega (arith, (still_open (line_read i) (rw (left-all i h) at h)).1, length-take i.long i.bytes)
 
 -- a read found nothing
 pub no_byte : (found : List ℕ) → length found ≡ 0 → found ≡ []
@@ -63,22 +63,22 @@ one_byte (c ∷ []) some few = refl
 one_byte (c ∷ d ∷ more) some few = absurd (omega arith)
 
 -- a byte more leaves fewer to be read
-fewer-to-read : (line : List ℕ) (c : ℕ) → 0 < toRead line → toRead (line ++ (c ∷ [])) < toRead line
-fewer-to-read line c h = by (hasEnding (line ++ (c ∷ []))) refl
+fewer_to_read : (line : List ℕ) (c : ℕ) → 0 < to_read line → to_read (line ++ (c ∷ [])) < to_read line
+fewer_to_read line c h = by (has_ending (line ++ (c ∷ []))) refl
   where
-    by : (b : Bool) → hasEnding (line ++ (c ∷ [])) ≡ b → toRead (line ++ (c ∷ [])) < toRead line
-    by true e = omega (arith, to-read-ended (line ++ (c ∷ [])) e)
+    by : (b : Bool) → has_ending (line ++ (c ∷ [])) ≡ b → to_read (line ++ (c ∷ [])) < to_read line
+    by true e = omega (arith, to_read-ended (line ++ (c ∷ [])) e)
     by false e =
         let before = still_open line h in
-        omega (arith, to-read-open (line ++ (c ∷ [])) e, to-read-open line before.0, length-append line (c ∷ []), before.1)
+        omega (arith, to_read_open (line ++ (c ∷ [])) e, to_read_open line before.0, length-append line (c ∷ []), before.1)
 
 -- each byte read leaves fewer to be read, and so does the end of the input
-pub fewer-left : (i r : Input) (found : List ℕ) → 0 < left_of i → length found ≤ 1 → lineRead r ≡ lineRead i ++ found → r.ended ≡ eqb (length found) 0
+pub fewer_left : (i r : Input) (found : List ℕ) → 0 < left_of i → length found ≤ 1 → line_read r ≡ line_read i ++ found → r.ended ≡ eqb (length found) 0
     → left_of r < left_of i
 unfolding left_of
-fewer-left i r [] h few read ended = rw ended h
-fewer-left i r (c ∷ []) h few read ended =
-    let more = fewer-to-read (lineRead i) c (rw (left-all i h) at h) in
-    let now' = ap toRead read in
+fewer_left i r [] h few read ended = rw ended h
+fewer_left i r (c ∷ []) h few read ended =
+    let more = fewer_to_read (line_read i) c (rw (left-all i h) at h) in
+    let now' = ap to_read read in
     rw ended (omega (arith, more, now', left-all i h))
-fewer-left i r (c ∷ d ∷ more) h few read ended = absurd (omega arith)
+fewer_left i r (c ∷ d ∷ more) h few read ended = absurd (omega arith)

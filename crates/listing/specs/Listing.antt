@@ -1,29 +1,29 @@
 -- Document 01, The listing program.
 use Rattle.std.specs.Prelude.{◌≡◌, cond, ◌&&◌, List, [], ◌∷◌, ◌++◌, ℕ, min, eqb, length, get_or, drop}
-use Rattle.refusal.specs.Code.{firstCause}
-use Rattle.octets.specs.Bytes.{fromBytes, to_bytes}
-use Rattle.lists.specs.Joined.{joinTo}
-use Rattle.hex.specs.Hex.{line_of, Line, wrong, right, readLine}
+use Rattle.refusal.specs.Code.{first_cause}
+use Rattle.octets.specs.Bytes.{from_bytes, to_bytes}
+use Rattle.lists.specs.Joined.{join_to}
+use Rattle.hex_lines.specs.Hex.{line_of, Line, wrong, right, read_line}
 use Rattle.profile.specs.declared.Shape.{Shape}
 use Rattle.counts.specs.Counts.{count}
-use Rattle.counts.specs.Table.{tableAfter}
-use Rattle.counts.specs.Operations.{countCauses}
+use Rattle.counts.specs.Table.{table_after}
+use Rattle.counts.specs.Operations.{count_causes}
 use Rattle.codewords.specs.Operations.{row_of}
 use Rattle.listing.specs.Input.{read_of}
 use Rattle.listing.specs.declared.Request.{Request}
 use Rattle.listing.specs.declared.Request.TheVariants.{Malformed, Asked}
 
 -- "kind 10 (hex): l, w (1 byte each), s (2)"
-unfoldable pub requestOf : (bytes : List ℕ) → Request
-requestOf bytes =
+unfoldable pub request_of : (bytes : List ℕ) → Request
+request_of bytes =
     cond (eqb (length bytes) 5 && eqb (get_or bytes 0 0) 16)
-    (Asked (record { chains = get_or bytes 1 0; width = get_or bytes 2 0; sum = fromBytes (drop 3 bytes) }))
+    (Asked (record { chains = get_or bytes 1 0; width = get_or bytes 2 0; sum = from_bytes (drop 3 bytes) }))
     Malformed
 
 -- "It reads one line from standard input": what stands behind the line is not looked at
-unfoldable pub requestIn : Line → Request
-requestIn wrong = Malformed
-requestIn (right bytes rest) = requestOf bytes
+unfoldable pub request_in : Line → Request
+request_in wrong = Malformed
+request_in (right bytes rest) = request_of bytes
 
 -- "kind 11 (hex), number (2 bytes), l lengths (1 each)"
 unfoldable pub row_line : Shape → (number : ℕ) → List ℕ
@@ -31,51 +31,51 @@ row_line shape n = line_of (17 ∷ to_bytes 2 n ++ row_of shape n)
 
 -- "prints a line for each number up to the first 256"
 unfoldable pub row_lines : Shape → List ℕ
-row_lines shape = joinTo (row_line shape) (min (count shape) 256)
+row_lines shape = join_to (row_line shape) (min (count shape) 256)
 
 -- "A refusal prints 1F and its number in one hex byte"
-unfoldable pub refusalLine : (code : ℕ) → List ℕ
-refusalLine n = line_of (31 ∷ n ∷ [])
+unfoldable pub refusal_line : (code : ℕ) → List ℕ
+refusal_line n = line_of (31 ∷ n ∷ [])
 
 -- "Its work slice has 16,000 words"
-unfoldable pub tableWords : ℕ
-tableWords = 16000
+unfoldable pub table_words : ℕ
+table_words = 16000
 
 -- the causes of Count
-unfoldable pub listingCode : Shape → ℕ
-listingCode shape = firstCause (countCauses shape tableWords)
+unfoldable pub listing_code : Shape → ℕ
+listing_code shape = first_cause (count_causes shape table_words)
 
 -- "a malformed line prints 1F11"
-unfoldable pub answerTo : Request → List ℕ
-answerTo Malformed = refusalLine 17
-answerTo (Asked shape) = cond (eqb (listingCode shape) 0) (row_lines shape) (refusalLine (listingCode shape))
+unfoldable pub answer_to : Request → List ℕ
+answer_to Malformed = refusal_line 17
+answer_to (Asked shape) = cond (eqb (listing_code shape) 0) (row_lines shape) (refusal_line (listing_code shape))
 
 -- all that is printed
-unfoldable pub listingOf : (input : List ℕ) → List ℕ
-listingOf input = answerTo (requestIn (readLine input))
+unfoldable pub listing_of : (input : List ℕ) → List ℕ
+listing_of input = answer_to (request_in (read_line input))
 
 -- what the work slice then holds: what Count leaves there, and after a malformed line what stood there
-unfoldable pub workAfter : Request → (work : List ℕ) → List ℕ
-workAfter Malformed work = work
-workAfter (Asked shape) work = tableAfter (listingCode shape) shape work
+unfoldable pub work_after : Request → (work : List ℕ) → List ℕ
+work_after Malformed work = work
+work_after (Asked shape) work = table_after (listing_code shape) shape work
 
 -- what is printed of a line that was read, and what the slices hold afterwards
 pub record Lists (line work work' out out' : List ℕ) (given : ℕ) : Type 0 where
-  pub length-given : given ≡ length (listingOf line)
-  pub printed : out' ≡ listingOf line ++ drop given out
-  pub table : work' ≡ workAfter (requestIn (readLine line)) work
+  pub length_given : given ≡ length (listing_of line)
+  pub printed : out' ≡ listing_of line ++ drop given out
+  pub table : work' ≡ work_after (request_in (read_line line)) work
 
 -- "It reads one line from standard input": what is not read of an input changes nothing
 abbrev pub FirstEleven : Type 0
-FirstEleven = (input : List ℕ) → listingOf (read_of [] input) ≡ listingOf input
+FirstEleven = (input : List ℕ) → listing_of (read_of [] input) ≡ listing_of input
 
 -- "Input 1003030003 prints in full": the input, with its ending
-abbrev pub exampleInput : List ℕ
-exampleInput = 49 ∷ 48 ∷ 48 ∷ 51 ∷ 48 ∷ 51 ∷ 48 ∷ 48 ∷ 48 ∷ 51 ∷ 10 ∷ []
+abbrev pub example_input : List ℕ
+example_input = 49 ∷ 48 ∷ 48 ∷ 51 ∷ 48 ∷ 51 ∷ 48 ∷ 48 ∷ 48 ∷ 51 ∷ 10 ∷ []
 
 -- what it prints, line by line
-abbrev pub exampleListing : List ℕ
-exampleListing =
+abbrev pub example_listing : List ℕ
+example_listing =
     line_of (17 ∷ 0 ∷ 0 ∷ 0 ∷ 1 ∷ 2 ∷ [])
     ++ line_of (17 ∷ 0 ∷ 1 ∷ 0 ∷ 2 ∷ 1 ∷ [])
     ++ line_of (17 ∷ 0 ∷ 2 ∷ 1 ∷ 0 ∷ 2 ∷ [])
@@ -86,4 +86,4 @@ exampleListing =
 
 -- the listing of that input is that
 abbrev pub Example : Type 0
-Example = listingOf exampleInput ≡ exampleListing
+Example = listing_of example_input ≡ example_listing

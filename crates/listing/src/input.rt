@@ -1,6 +1,6 @@
 // What the program reads: one line, byte by byte.
 ghost use Rattle.std.specs.Prelude.{◌≡◌, false, [], ◌++◌, ◌≤◌, ◌<◌, eqb, length};
-ghost use Rattle.listing.specs.Input.{toRead, lineRead, left_of};
+ghost use Rattle.listing.specs.Input.{to_read, line_read, left_of};
 
 // The first `long` bytes were read, and whether a read found the end of the input.
 #[derive(Drop)]
@@ -12,7 +12,7 @@ pub struct Input {
 
 impl Input {
     pub fn start() -> Input
-        ensures { (lineRead result ≡ []) × (result.long ≤ 11) × (result.ended ≡ false) }
+        ensures { (line_read result ≡ []) × (result.long ≤ 11) × (result.ended ≡ false) }
     {
         Input {
             bytes: [0; 11],
@@ -37,7 +37,7 @@ impl Input {
     // With what a read of one byte found, which is nothing at the end of the input.
     pub fn after(self, found: &[u8]) -> Input
         requires { (self.long ≤ 11) × (0 < left_of self) × (length found.now ≤ 1) }
-        ensures { (lineRead result ≡ lineRead self ++ found.now) × (result.long ≤ 11)
+        ensures { (line_read result ≡ line_read self ++ found.now) × (result.long ≤ 11)
             × (result.ended ≡ eqb (length found.now) 0) }
     {
         let mut bytes = self.bytes;
@@ -60,7 +60,7 @@ impl Input {
 
 // How many bytes of a line are still to be read behind these.
 fn to_read(line: &[u8]) -> usize
-    ensures { result ≡ toRead line.now }
+    ensures { result ≡ to_read line.now }
 {
     let mut i = 0;
     while i < line.len() {

@@ -1,18 +1,19 @@
 // The listing: for a shape in one line of hex, a line for each of the first numbers and its codeword.
+#![tactic(auto)]
 ghost use Rattle.std.specs.Prelude.{◌≡◌, ◌++◌, ◌+◌, ◌*◌, ◌≤◌, ◌<◌, min, length, take, drop};
 ghost use Rattle.numbers.specs.Number.{value};
-ghost use Rattle.hex.specs.Hex.{readLine};
+ghost use Rattle.hex_lines.specs.Hex.{read_line};
 ghost use Rattle.profile.specs.Checks.{InLimits};
 ghost use Rattle.counts.specs.Counts.{count};
 ghost use Rattle.counts.specs.Table.{Holds};
-ghost use Rattle.listing.specs.Input.{lineRead, left_of};
-ghost use Rattle.listing.specs.Listing.{requestIn, row_line, row_lines, refusalLine, answerTo, workAfter, Lists};
+ghost use Rattle.listing.specs.Input.{line_read, left_of};
+ghost use Rattle.listing.specs.Listing.{request_in, row_line, row_lines, refusal_line, answer_to, work_after, Lists};
 
 mod input;
 
 use codewords::unranking::write_codeword;
 use counts::codeword_count;
-use hex::{read_line, write_line};
+use hex_lines::{read_line, write_line};
 pub use input::Input;
 use numbers::number::less;
 use profile::Shape;
@@ -38,7 +39,7 @@ fn shape_of(chains: u8, width: u8, high: u8, low: u8) -> Shape
 
 // The request that the first line is.
 fn read_request(input: &[u8]) -> Request
-    ensures { result ≡ requestIn (readLine input.now) }
+    ensures { result ≡ request_in (read_line input.now) }
 {
     let mut bytes = [0u8; 5];
     if !read_line(input, 0, &mut bytes) {
@@ -53,7 +54,7 @@ fn read_request(input: &[u8]) -> Request
 // Prints a refusal.
 fn write_refusal(cause: u8, out: &mut [u8]) -> usize
     requires { 5 ≤ length out.old }
-    ensures { (result ≡ length (refusalLine cause)) × (out.new ≡ refusalLine cause ++ drop result out.old) }
+    ensures { (result ≡ length (refusal_line cause)) × (out.new ≡ refusal_line cause ++ drop result out.old) }
 {
     let bytes = [31, cause];
     write_line(out, 0, &bytes)
@@ -103,9 +104,9 @@ fn write_rows(shape: Shape, lines: usize, table: &[u32], out: &mut [u8]) -> usiz
 // Prints the lines of a shape, or its refusal.
 fn write_answer(shape: Shape, table: &mut [u32], out: &mut [u8]) -> usize
     requires { (length table.old ≡ 16000) × (22272 ≤ length out.old) }
-    ensures { (result ≡ length (answerTo (Request.Asked shape)))
-        × (out.new ≡ answerTo (Request.Asked shape) ++ drop result out.old)
-        × (table.new ≡ workAfter (Request.Asked shape) table.old) }
+    ensures { (result ≡ length (answer_to (Request.Asked shape)))
+        × (out.new ≡ answer_to (Request.Asked shape) ++ drop result out.old)
+        × (table.new ≡ work_after (Request.Asked shape) table.old) }
 {
     let counted = codeword_count(shape, table);
     let outcome = counted.outcome;
@@ -119,7 +120,7 @@ fn write_answer(shape: Shape, table: &mut [u32], out: &mut [u8]) -> usize
 // Prints the listing that the line asks for, and gives its length.
 pub fn listing(input: Input, table: &mut [u32], out: &mut [u8]) -> usize
     requires { (left_of input ≡ 0) × (input.long ≤ 11) × (length table.old ≡ 16000) × (22272 ≤ length out.old) }
-    ensures { Lists (lineRead input) table.old table.new out.old out.new result }
+    ensures { Lists (line_read input) table.old table.new out.old out.new result }
 {
     let bytes = input.bytes;
     let long = input.long;

@@ -1,4 +1,5 @@
 // The listing program: reads a line from standard input and writes the listing that it asks for.
+#![tactic(auto)]
 use libc::{STDIN_FILENO, STDOUT_FILENO};
 use listing::Input;
 

@@ -16,16 +16,16 @@ numbers-below n zero f below apart = zero-le
 numbers-below zero (suc k) f below apart = absurd (omega (arith, below k (le_refl _)))
 numbers-below (suc n) (suc k) f below apart = suc-le-suc (numbers-below n k g g-below g-apart)
   where
-    or-last : Bool → ℕ → ℕ
-    or-last here i = cond here (f k) (f i)
+    or_last : Bool → ℕ → ℕ
+    or_last here i = cond here (f k) (f i)
 
     g : ℕ → ℕ
-    g i = or-last (eqb (f i) n) i
+    g i = or_last (eqb (f i) n) i
 
     g-below : (i : ℕ) → i < k → g i < n
     g-below i h = by (eqb (f i) n) refl
       where
-        by : (here : Bool) → eqb (f i) n ≡ here → or-last here i < n
+        by : (here : Bool) → eqb (f i) n ≡ here → or_last here i < n
         by true test =
             let other : f k ≡ n → ⊥ = λ e. apart i k h (le_refl _) (eqb-true (f i) n test ∙ sym e) in
             omega (arith, below k (le_refl _), other)
@@ -34,7 +34,7 @@ numbers-below (suc n) (suc k) f below apart = suc-le-suc (numbers-below n k g g-
     g-apart : (i j : ℕ) → i < j → j < k → g i ≡ g j → ⊥
     g-apart i j less h = by (eqb (f i) n) (eqb (f j) n) refl refl
       where
-        by : (a b : Bool) → eqb (f i) n ≡ a → eqb (f j) n ≡ b → or-last a i ≡ or-last b j → ⊥
+        by : (a b : Bool) → eqb (f i) n ≡ a → eqb (f j) n ≡ b → or_last a i ≡ or_last b j → ⊥
         by true true at_i at_j same = apart i j less (omega arith) (eqb-true (f i) n at_i ∙ sym (eqb-true (f j) n at_j))
         by true false at_i at_j same = apart j k h (le_refl _) (sym same)
         by false true at_i at_j same = apart i k (omega arith) (le_refl _) same

@@ -21,30 +21,30 @@ module _ {A : Type 0} where
       rw e at (rw replicate-append-replicate at (drop_at (replicate k z) (replicate (n - k) z) k (length-replicate k z)))
 
   -- a front that ends within the fill
-  pub take-fill : (l : List A) (z : A) (n k m : ℕ) → length l ≡ n → n ≤ k → k ≤ m → take k (l ++ replicate (m - n) z) ≡ l ++ replicate (k - n) z
-  take-fill l z n k m e low high =
+  pub take_fill : (l : List A) (z : A) (n k m : ℕ) → length l ≡ n → n ≤ k → k ≤ m → take k (l ++ replicate (m - n) z) ≡ l ++ replicate (k - n) z
+  take_fill l z n k m e low high =
       let whole : k - n + (m - k) ≡ m - n = omega arith in
       let long : length (l ++ replicate (k - n) z) ≡ k = length-append l (replicate (k - n) z) ∙ rw (length-replicate, e) (omega arith) in
       rw (← whole, ← replicate-append-replicate, ← append_assoc) (take_at (l ++ replicate (k - n) z) (replicate (m - k) z) k long)
 
   -- a paste behind the n elements in front replaces as many behind them
-  pub paste-behind : (front l s : List A) (n : ℕ) → length front ≡ n → paste (front ++ l) n s (length s) ≡ front ++ s ++ drop (length s) l
-  paste-behind front l s n e =
+  pub paste_behind : (front l s : List A) (n : ℕ) → length front ≡ n → paste (front ++ l) n s (length s) ≡ front ++ s ++ drop (length s) l
+  paste_behind front l s n e =
       let back : drop (n + length s) (front ++ l) ≡ drop (length s) l =
       ap (λ k. drop (k + length s) (front ++ l)) (sym e) ∙ drop-append-add front l (length s) in
       rw (take_at front l n e, take-length, back)
 
   -- as much of a fill
-  pub paste-next : (l : List A) (z : A) (s : List A) (n m : ℕ) → length l ≡ n → n + length s ≤ m
+  pub paste_next : (l : List A) (z : A) (s : List A) (n m : ℕ) → length l ≡ n → n + length s ≤ m
       → paste (l ++ replicate (m - n) z) n s (length s) ≡ l ++ s ++ replicate (m - (n + length s)) z
-  paste-next l z s n m e h =
+  paste_next l z s n m e h =
       let behind : m - n - length s ≡ m - (n + length s) = omega arith in
-      paste-behind l (replicate (m - n) z) s n e ∙ rw (drop-replicate (length s) (m - n) z (omega arith), behind)
+      paste_behind l (replicate (m - n) z) s n e ∙ rw (drop-replicate (length s) (m - n) z (omega arith), behind)
 
   -- the same of a list that is known by equations
   pub pasted : (l : List A) (z : A) (s : List A) (n m : ℕ) {d r : List A} → length l ≡ n → n + length s ≤ m
       → d ≡ l ++ replicate (m - n) z → r ≡ paste d n s (length s) → r ≡ l ++ s ++ replicate (m - (n + length s)) z
-  pasted l z s n m e h p q = q ∙ ap (λ d. paste d n s (length s)) p ∙ paste-next l z s n m e h
+  pasted l z s n m e h p q = q ∙ ap (λ d. paste d n s (length s)) p ∙ paste_next l z s n m e h
 
   -- a part up to the end
   pub part_to_end : (l : List A) (a : ℕ) → take (length l - a) (drop a l) ≡ drop a l
@@ -56,6 +56,6 @@ module _ {A : Type 0} where
       drop-set-lt (k + 1) l k a (omega arith) ∙ sym (drop-drop 1 k l) ∙ ap (drop 1) e ∙ drop-drop 1 k old
 
   -- five stores in a row
-  pub store-5 : (l : List A) (at : ℕ) (a b c d e : A) → at + 5 ≤ length l
+  pub store_5 : (l : List A) (at : ℕ) (a b c d e : A) → at + 5 ≤ length l
       → set (set (set (set (set l at a) (at + 1) b) (at + 2) c) (at + 3) d) (at + 4) e ≡ take at l ++ (a ∷ b ∷ c ∷ d ∷ e ∷ []) ++ drop (at + 5) l
-  store-5 l at a b c d e h = rw (add-one, add-two, add-three, add-four) (sets-eq (a ∷ b ∷ c ∷ d ∷ e ∷ []) l at h)
+  store_5 l at a b c d e h = rw (add-one, add-two, add-three, add-four) (sets-eq (a ∷ b ∷ c ∷ d ∷ e ∷ []) l at h)

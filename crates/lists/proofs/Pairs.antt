@@ -30,43 +30,43 @@ module _ {A : Type 0} where
   each-front P [] ys all = tt
   each-front P (x ∷ xs) ys all = (all.0, each-front P xs ys all.1)
 
-  pub each-imply : (P Q : A → Type 0) → ((x : A) → P x → Q x) → (xs : List A) → Each P xs → Each Q xs
-  each-imply P Q f [] all = tt
-  each-imply P Q f (x ∷ xs) all = (f x all.0, each-imply P Q f xs all.1)
+  pub each_imply : (P Q : A → Type 0) → ((x : A) → P x → Q x) → (xs : List A) → Each P xs → Each Q xs
+  each_imply P Q f [] all = tt
+  each_imply P Q f (x ∷ xs) all = (f x all.0, each_imply P Q f xs all.1)
 
-  pub each-with : (P Q S : A → Type 0) → ((x : A) → P x → Q x → S x) → (xs : List A) → Each P xs → Each Q xs → Each S xs
-  each-with P Q S f [] ps qs = tt
-  each-with P Q S f (x ∷ xs) ps qs = (f x ps.0 qs.0, each-with P Q S f xs ps.1 qs.1)
+  pub each_with : (P Q S : A → Type 0) → ((x : A) → P x → Q x → S x) → (xs : List A) → Each P xs → Each Q xs → Each S xs
+  each_with P Q S f [] ps qs = tt
+  each_with P Q S f (x ∷ xs) ps qs = (f x ps.0 qs.0, each_with P Q S f xs ps.1 qs.1)
 
-  pub pairs-front : (R : A → A → Type 0) (xs ys : List A) → Pairs R (xs ++ ys) → Pairs R xs
-  pairs-front R [] ys all = tt
-  pairs-front R (x ∷ xs) ys all = (each-front (R x) xs ys all.0, pairs-front R xs ys all.1)
+  pub pairs_front : (R : A → A → Type 0) (xs ys : List A) → Pairs R (xs ++ ys) → Pairs R xs
+  pairs_front R [] ys all = tt
+  pairs_front R (x ∷ xs) ys all = (each-front (R x) xs ys all.0, pairs_front R xs ys all.1)
 
-  pub pairs-imply : (R S : A → A → Type 0) → ((x y : A) → R x y → S x y) → (xs : List A) → Pairs R xs → Pairs S xs
-  pairs-imply R S f [] all = tt
-  pairs-imply R S f (x ∷ xs) all = (each-imply (R x) (S x) (f x) xs all.0, pairs-imply R S f xs all.1)
+  pub pairs_imply : (R S : A → A → Type 0) → ((x y : A) → R x y → S x y) → (xs : List A) → Pairs R xs → Pairs S xs
+  pairs_imply R S f [] all = tt
+  pairs_imply R S f (x ∷ xs) all = (each_imply (R x) (S x) (f x) xs all.0, pairs_imply R S f xs all.1)
 
-  pub pairs-with : (R S T : A → A → Type 0) → ((x y : A) → R x y → S x y → T x y) → (xs : List A) → Pairs R xs → Pairs S xs → Pairs T xs
-  pairs-with R S T f [] rs ss = tt
-  pairs-with R S T f (x ∷ xs) rs ss = (each-with (R x) (S x) (T x) (f x) xs rs.0 ss.0, pairs-with R S T f xs rs.1 ss.1)
+  pub pairs_with : (R S T : A → A → Type 0) → ((x y : A) → R x y → S x y → T x y) → (xs : List A) → Pairs R xs → Pairs S xs → Pairs T xs
+  pairs_with R S T f [] rs ss = tt
+  pairs_with R S T f (x ∷ xs) rs ss = (each_with (R x) (S x) (T x) (f x) xs rs.0 ss.0, pairs_with R S T f xs rs.1 ss.1)
 
   -- a permutation keeps what every member has, and what every pair has either way round
-  pub each-permuted : (P : A → Type 0) {xs ys : List A} → Permᴰ xs ys → Each P ys → Each P xs
-  each-permuted P Permᴰ.nil all = all
-  each-permuted P (Permᴰ.cons e d) all = (subst P (sym e) all.0, each-permuted P d all.1)
-  each-permuted P (Permᴰ.swap e f) all = (subst P (sym e) all.1.0, (subst P (sym f) all.0, all.1.1))
-  each-permuted P (Permᴰ.trans d f) all = each-permuted P d (each-permuted P f all)
+  pub each_permuted : (P : A → Type 0) {xs ys : List A} → Permᴰ xs ys → Each P ys → Each P xs
+  each_permuted P Permᴰ.nil all = all
+  each_permuted P (Permᴰ.cons e d) all = (subst P (sym e) all.0, each_permuted P d all.1)
+  each_permuted P (Permᴰ.swap e f) all = (subst P (sym e) all.1.0, (subst P (sym f) all.0, all.1.1))
+  each_permuted P (Permᴰ.trans d f) all = each_permuted P d (each_permuted P f all)
 
   module _ (R : A → A → Type 0) (symmetric : (x y : A) → R x y → R y x) where
-    pub pairs-permuted : {xs ys : List A} → Permᴰ xs ys → Pairs R ys → Pairs R xs
-    pairs-permuted Permᴰ.nil all = all
-    pairs-permuted (Permᴰ.cons {l₁ = xs} e d) all = (subst (λ x. Each (R x) xs) (sym e) (each-permuted (R _) d all.0), pairs-permuted d all.1)
-    pairs-permuted (Permᴰ.swap {a} {b} {a'} {b'} {l = xs} e f) all =
+    pub pairs_permuted : {xs ys : List A} → Permᴰ xs ys → Pairs R ys → Pairs R xs
+    pairs_permuted Permᴰ.nil all = all
+    pairs_permuted (Permᴰ.cons {l₁ = xs} e d) all = (subst (λ x. Each (R x) xs) (sym e) (each_permuted (R _) d all.0), pairs_permuted d all.1)
+    pairs_permuted (Permᴰ.swap {a} {b} {a'} {b'} {l = xs} e f) all =
         let first = all.0 in
         let second = all.1 in
         let turned = subst (λ x. R x b) (sym e) (subst (R b') (sym f) (symmetric a' b' first.0)) in
         ((turned, subst (λ x. Each (R x) xs) (sym e) second.0), (subst (λ x. Each (R x) xs) (sym f) first.1, second.1))
-    pairs-permuted (Permᴰ.trans d f) all = pairs-permuted d (pairs-permuted f all)
+    pairs_permuted (Permᴰ.trans d f) all = pairs_permuted d (pairs_permuted f all)
 
   module _ (f : A → ℕ) where
     -- two members have other numbers
@@ -83,9 +83,9 @@ module _ {A : Type 0} where
     place-each P (x ∷ xs) all zero h = all.0
     place-each P (x ∷ xs) all (suc i) h = place-each P xs all.1 i (le_of_suc-le-suc h)
 
-    pub distinct-pairs : (xs : List A) → Pairs Apart xs → Distinct 0 (map f xs)
-    distinct-pairs [] all i j less within same = omega arith
-    distinct-pairs (x ∷ xs) all zero zero less within same = omega arith
-    distinct-pairs (x ∷ xs) all zero (suc j) less within same = place-each (λ n. f x ≡ n → ⊥) xs all.0 j (le_of_suc-le-suc within) same
-    distinct-pairs (x ∷ xs) all (suc i) zero less within same = omega arith
-    distinct-pairs (x ∷ xs) all (suc i) (suc j) less within same = distinct-pairs xs all.1 i j (le_of_suc-le-suc less) (le_of_suc-le-suc within) same
+    pub distinct_pairs : (xs : List A) → Pairs Apart xs → Distinct 0 (map f xs)
+    distinct_pairs [] all i j less within same = omega arith
+    distinct_pairs (x ∷ xs) all zero zero less within same = omega arith
+    distinct_pairs (x ∷ xs) all zero (suc j) less within same = place-each (λ n. f x ≡ n → ⊥) xs all.0 j (le_of_suc-le-suc within) same
+    distinct_pairs (x ∷ xs) all (suc i) zero less within same = omega arith
+    distinct_pairs (x ∷ xs) all (suc i) (suc j) less within same = distinct_pairs xs all.1 i j (le_of_suc-le-suc less) (le_of_suc-le-suc within) same

@@ -2,6 +2,6 @@
 use Rattle.std.specs.Prelude.{List, [], ◌++◌, ℕ, zero, suc}
 
 -- f 0, …, f (n − 1), joined
-unfoldable pub joinTo : (ℕ → List ℕ) → ℕ → List ℕ
-joinTo f zero = []
-joinTo f (suc n) = joinTo f n ++ f n
+unfoldable pub join_to : (ℕ → List ℕ) → ℕ → List ℕ
+join_to f zero = []
+join_to f (suc n) = join_to f n ++ f n

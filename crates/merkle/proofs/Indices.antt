@@ -6,32 +6,32 @@ use native.Mathlib.Nat.{pow-succ', lt_of_lt_of_le}
 use native.Mathlib.Omega.{arith}
 use borrow.Author.Tests.{eqb-true, eq-eqb, ne_eqb}
 use lib.Pow.{pow_mono, shr_lt, shr-shr}
-use Rattle.merkle.specs.Nodes.{isLeft, sibling}
+use Rattle.merkle.specs.Nodes.{is_left, sibling}
 
 -- a node's index is below 2 ^ 31 at every height
-pub index-small : (height : ℕ) {index : ℕ} → index < 2 ^ (31 - height) → index < 2 ^ 31
-index-small height h = lt_of_lt_of_le h (pow_mono {j = 31} (omega arith))
+pub index_small : (height : ℕ) {index : ℕ} → index < 2 ^ (31 - height) → index < 2 ^ 31
+index_small height h = lt_of_lt_of_le h (pow_mono {j = 31} (omega arith))
 
 -- the right child's index is within the children's height
-pub child-within : (height : ℕ) {index : ℕ} → 1 ≤ height → height ≤ 31 → index < 2 ^ (31 - height) → 2 * index + 1 < 2 ^ (31 - (height - 1))
-child-within height some h within =
+pub child_within : (height : ℕ) {index : ℕ} → 1 ≤ height → height ≤ 31 → index < 2 ^ (31 - height) → 2 * index + 1 < 2 ^ (31 - (height - 1))
+child_within height some h within =
     let below : 31 - (height - 1) ≡ suc (31 - height) = omega arith in
     rw (below, pow-succ') (omega arith)
 
-pub left-even : (index : ℕ) → index % 2 ≡ 0 → isLeft index ≡ true
-unfolding isLeft
-left-even index e = eq-eqb (index % 2) 0 e
+pub left_even : (index : ℕ) → index % 2 ≡ 0 → is_left index ≡ true
+unfolding is_left
+left_even index e = eq-eqb (index % 2) 0 e
 
-pub right-odd : (index : ℕ) → (index % 2 ≡ 0 → ⊥) → isLeft index ≡ false
-unfolding isLeft
-right-odd index e = ne_eqb (index % 2) 0 e
+pub right_odd : (index : ℕ) → (index % 2 ≡ 0 → ⊥) → is_left index ≡ false
+unfolding is_left
+right_odd index e = ne_eqb (index % 2) 0 e
 
 -- two siblings are below the same even number
 sibling-within : (m index : ℕ) → index < 2 * m → sibling index < 2 * m
-unfolding sibling isLeft
-sibling-within m index h = by (isLeft index) refl
+unfolding sibling is_left
+sibling-within m index h = by (is_left index) refl
   where
-    by : (left : Bool) → isLeft index ≡ left → cond left (index + 1) (index - 1) < 2 * m
+    by : (left : Bool) → is_left index ≡ left → cond left (index + 1) (index - 1) < 2 * m
     by true e = omega (arith, eqb-true (index % 2) 0 e)
     by false e = omega arith
 

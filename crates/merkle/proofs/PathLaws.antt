@@ -5,8 +5,8 @@ use Prim.Native.Nat.{ℕ, ◌+◌, ◌*◌, ◌/◌, ◌^◌, ◌≤◌, ◌<◌
 use native.Mathlib.Nat.{zero-add}
 use native.Mathlib.Omega.{arith}
 use lib.ListN.{length, take, drop}
-use Rattle.lists.specs.Joined.{joinTo}
-use Rattle.lists.proofs.Joins.{write-next}
+use Rattle.lists.specs.Joined.{join_to}
+use Rattle.lists.proofs.Joins.{write_next}
 use Rattle.tweak.specs.declared.Domain.{Domain}
 use Rattle.merkle.specs.Nodes.{node, sibling, path}
 use Rattle.merkle.proofs.NodeLaws.{length-node}
@@ -14,7 +14,7 @@ use Rattle.merkle.proofs.NodeLaws.{length-node}
 module _ (d : Domain) (leaves : ℕ → List ℕ) (leaf : ℕ) (o : List ℕ) where
   -- before the first turn
   pub path-start : o ≡ path d leaves 0 leaf ++ drop (16 * 0) o
-  unfolding path joinTo
+  unfolding path join_to
   path-start = refl
 
   -- a turn
@@ -27,4 +27,4 @@ module _ (d : Domain) (leaves : ℕ → List ℕ) (leaf : ℕ) (o : List ℕ) wh
       let here : v ≡ f k = s ∙ rw (q, p) in
       let long : (j : ℕ) → j < h → length (f j) ≡ 16 = λ j _. length-node d leaves each j (sibling (leaf / 2 ^ j)) in
       rw zero-add at
-      (write-next f 16 h long 0 o (omega arith) k {v = v} {out = out} {out' = out'} low here (rw zero-add e) (rw zero-add put))
+      (write_next f 16 h long 0 o (omega arith) k {v = v} {out = out} {out' = out'} low here (rw zero-add e) (rw zero-add put))

@@ -1,7 +1,8 @@
 // Hash trees over any leaves of 16 bytes: a node from its children, and the climb from a leaf along siblings.
+#![tactic(auto)]
 ghost use Rattle.std.specs.Prelude.{◌≡◌, ◌*◌, ◌^◌, ◌≤◌, ◌<◌, length};
 ghost use Rattle.tweak.specs.Tweak.{Seeded};
-ghost use Rattle.merkle.specs.Nodes.{parent_of, sibling as siblingOf, climbedOnce, climbed};
+ghost use Rattle.merkle.specs.Nodes.{parent_of, sibling as siblingOf, climbed_once, climbed};
 
 use octets::read_16;
 use tweak::{Hasher, absorb, begin, end, node_address};
@@ -29,7 +30,7 @@ pub fn sibling(index: u32) -> u32
 // One step of the climb: from a node and its sibling to the node above, which has the height `height`.
 fn climb_once(hasher: Hasher, height: u32, index: u32, own: [u8; 16], other: [u8; 16]) -> [u8; 16]
     requires { Seeded hasher }
-    ensures { result ≡ climbedOnce hasher.domain height index own other }
+    ensures { result ≡ climbed_once hasher.domain height index own other }
 {
     if index % 2 == 0 {
         parent(hasher, height, index / 2, own, other)

@@ -1,10 +1,11 @@
 // The digest of an order, and its number.
+#![tactic(auto)]
 ghost use Rattle.std.specs.Prelude.{◌≡◌, cond, ◌++◌, ◌≤◌, eqb, length, take};
-ghost use Rattle.octets.specs.Bytes.{fromBytes, firstBits};
+ghost use Rattle.octets.specs.Bytes.{from_bytes, first_bits};
 ghost use Rattle.numbers.specs.Number.{value};
 ghost use Rattle.sha256.specs.Digest.{digest};
 ghost use Rattle.counts.specs.Counts as counts;
-ghost use Rattle.message.specs.Message.{messageDigest, numberBits, messageNumber, countTooSmall};
+ghost use Rattle.message.specs.Message.{message_digest, number_bits, message_number, count_too_small};
 
 use numbers::number::less;
 use numbers::powers::{log2, shift_right};
@@ -48,7 +49,7 @@ fn message_digest(
     message: &[u8],
 ) -> [u8; 32]
     requires { length message.now ≤ 200 }
-    ensures { result ≡ messageDigest edition leaf r seed root message.now }
+    ensures { result ≡ message_digest edition leaf r seed root message.now }
 {
     let bytes = word_bytes(leaf);
     let taken = leaf_bytes(edition);
@@ -57,14 +58,14 @@ fn message_digest(
 
 // Whether a count is too small for a number of 8 bits.
 pub fn count_too_small(count: [u32; 5]) -> bool
-    ensures { result ≡ countTooSmall (value count) }
+    ensures { result ≡ count_too_small (value count) }
 {
     less(count, [256, 0, 0, 0, 0])
 }
 
 // How many bits of the digest a count takes.
 pub fn number_bits(count: [u32; 5]) -> u32
-    ensures { result ≡ numberBits (value count) }
+    ensures { result ≡ number_bits (value count) }
 {
     let log = log2(count);
     if log < 128 { log } else { 128 }
@@ -72,7 +73,7 @@ pub fn number_bits(count: [u32; 5]) -> u32
 
 // The number that the first 16 bytes of a digest are, in five words.
 fn first_words(digest: [u8; 32]) -> [u32; 5]
-    ensures { value result ≡ fromBytes (take 16 digest) }
+    ensures { value result ≡ from_bytes (take 16 digest) }
 {
     [
         word_at(&digest, 12),
@@ -86,7 +87,7 @@ fn first_words(digest: [u8; 32]) -> [u32; 5]
 // The number that the first bits of a digest are.
 pub fn number_of_digest(digest: [u8; 32], bits: u32) -> [u32; 5]
     requires { bits ≤ 128 }
-    ensures { value result ≡ firstBits bits digest }
+    ensures { value result ≡ first_bits bits digest }
 {
     shift_right(first_words(digest), 128 - bits)
 }
@@ -103,7 +104,7 @@ pub fn message_number(
 ) -> [u32; 5]
     requires count_value { value count ≡ counts.count p.shape }
     requires message_len_bound { length message.now ≤ 200 }
-    ensures { value result ≡ messageNumber p leaf r seed root message.now }
+    ensures { value result ≡ message_number p leaf r seed root message.now }
 {
     let bits = number_bits(count);
     let edition = p.edition;

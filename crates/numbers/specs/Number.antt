@@ -7,6 +7,6 @@ value [] = 0
 value (x ∷ xs) = x + 2 ^ 32 * value xs
 
 -- n in k words, least word first; of a larger n, its lowest k words
-unfoldable pub toWords : ℕ → ℕ → List ℕ
-toWords zero n = []
-toWords (suc k) n = n % 2 ^ 32 ∷ toWords k (n / 2 ^ 32)
+unfoldable pub to_words : ℕ → ℕ → List ℕ
+to_words zero n = []
+to_words (suc k) n = n % 2 ^ 32 ∷ to_words k (n / 2 ^ 32)

@@ -1,7 +1,7 @@
 // Numbers of five words in three limbs, the two lowest words, the two above them and the highest, so that a 64-bit machine
 // adds and subtracts them in few instructions.
 ghost use Rattle.std.specs.Prelude.{◌≡◌, ◌+◌, ◌*◌, ◌^◌, ◌<◌, ◌≤◌};
-ghost use Rattle.numbers.specs.Number.{value, toWords};
+ghost use Rattle.numbers.specs.Number.{value, to_words};
 ghost use Rattle.numbers.specs.inner.Limbs.{number};
 
 use std::num::{wrapping_add_u64, wrapping_sub_u64};
@@ -112,7 +112,7 @@ pub fn from_words(n: [u32; 5]) -> Limbs
 
 // The number in limbs, as five words.
 pub fn to_words(n: Limbs) -> [u32; 5]
-    ensures { result ≡ toWords 5 (number n) }
+    ensures { result ≡ to_words 5 (number n) }
 {
     [
         (n.low % 4294967296) as u32,

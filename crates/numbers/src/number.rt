@@ -1,7 +1,7 @@
 // Numbers of five 32-bit words, least word first: sums, differences and the order.
 ghost use Rattle.std.specs.Prelude.{◌≡◌, ◌+◌, ◌-◌, ◌^◌, ◌<◌, ◌≤◌, nat_lt};
-ghost use Rattle.numbers.specs.Number.{value, toWords};
-ghost use Rattle.numbers.specs.Order.{orderCode, order_of, Compares};
+ghost use Rattle.numbers.specs.Number.{value, to_words};
+ghost use Rattle.numbers.specs.Order.{order_code, order_of, Compares};
 
 use super::limbs;
 use super::limbs::{from_words, to_words};
@@ -9,7 +9,7 @@ use super::limbs::{from_words, to_words};
 // a + b, which fits five words.
 pub fn add(a: [u32; 5], b: [u32; 5]) -> [u32; 5]
     requires { value a + value b < 2 ^ 160 }
-    ensures { result ≡ toWords 5 (value a + value b) }
+    ensures { result ≡ to_words 5 (value a + value b) }
 {
     to_words(limbs::add(from_words(a), from_words(b)))
 }
@@ -17,7 +17,7 @@ pub fn add(a: [u32; 5], b: [u32; 5]) -> [u32; 5]
 // a - b, which is not below zero.
 pub fn subtract(a: [u32; 5], b: [u32; 5]) -> [u32; 5]
     requires { value b ≤ value a }
-    ensures { result ≡ toWords 5 (value a - value b) }
+    ensures { result ≡ to_words 5 (value a - value b) }
 {
     to_words(limbs::subtract(from_words(a), from_words(b)))
 }
@@ -32,7 +32,7 @@ pub enum Order {
 
 // The number of an order: 0, 1, 2.
 pub fn order_code(o: Order) -> u32
-    ensures { result ≡ orderCode o }
+    ensures { result ≡ order_code o }
 {
     match o {
         Order::Less => 0,
@@ -50,7 +50,7 @@ pub struct Compared {
 
 // The order of two words.
 fn word_order(x: u32, y: u32) -> Order
-    ensures { orderCode result ≡ order_of x y }
+    ensures { order_code result ≡ order_of x y }
 {
     if x < y {
         Order::Less

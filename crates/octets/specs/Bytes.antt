@@ -3,9 +3,9 @@
 use Rattle.std.specs.Prelude.{List, [], ◌∷◌, ℕ, zero, suc, ◌+◌, ◌-◌, ◌*◌, ◌/◌, ◌%◌, ◌^◌, length}
 
 -- the number that the bytes are, most significant first
-unfoldable pub fromBytes : List ℕ → ℕ
-fromBytes [] = 0
-fromBytes (b ∷ bs) = b * 256 ^ length bs + fromBytes bs
+unfoldable pub from_bytes : List ℕ → ℕ
+from_bytes [] = 0
+from_bytes (b ∷ bs) = b * 256 ^ length bs + from_bytes bs
 
 -- x in n bytes, most significant first; of a larger x, its lowest n bytes
 unfoldable pub to_bytes : ℕ → ℕ → List ℕ
@@ -13,5 +13,5 @@ to_bytes zero x = []
 to_bytes (suc n) x = x / 256 ^ n % 256 ∷ to_bytes n x
 
 -- "the first b bits", read as a number: the number that the bytes are, without its bits behind them
-unfoldable pub firstBits : (b : ℕ) (bytes : List ℕ) → ℕ
-firstBits b bytes = fromBytes bytes / 2 ^ (8 * length bytes - b)
+unfoldable pub first_bits : (b : ℕ) (bytes : List ℕ) → ℕ
+first_bits b bytes = from_bytes bytes / 2 ^ (8 * length bytes - b)

@@ -1,11 +1,13 @@
 // Bytes that are copied, and 32-bit words in bytes, most significant byte first.
+#![tactic(auto)]
+
 ghost use Rattle.std.specs.Prelude.{◌≡◌, [], ◌∷◌, ◌++◌, ◌+◌, ◌≤◌, length, take, drop};
 ghost use Rattle.std.proofs.Math.Seq.{paste};
-ghost use Rattle.octets.specs.Bytes.{fromBytes, to_bytes};
+ghost use Rattle.octets.specs.Bytes.{from_bytes, to_bytes};
 
 // The word that four bytes are.
 fn word_of(a: u8, b: u8, c: u8, d: u8) -> u32
-    ensures { result ≡ fromBytes (a ∷ b ∷ c ∷ d ∷ []) }
+    ensures { result ≡ from_bytes (a ∷ b ∷ c ∷ d ∷ []) }
 {
     let high = a as u32 * 256 + b as u32;
     let low = c as u32 * 256 + d as u32;
@@ -15,7 +17,7 @@ fn word_of(a: u8, b: u8, c: u8, d: u8) -> u32
 // The word that stands in four bytes from index `at` on.
 pub fn word_at(bytes: &[u8], at: usize) -> u32
     requires { at + 4 ≤ length bytes.now }
-    ensures { result ≡ fromBytes (take 4 (drop at bytes.now)) }
+    ensures { result ≡ from_bytes (take 4 (drop at bytes.now)) }
 {
     word_of(bytes[at], bytes[at + 1], bytes[at + 2], bytes[at + 3])
 }
@@ -23,7 +25,7 @@ pub fn word_at(bytes: &[u8], at: usize) -> u32
 // The number that at most four bytes are.
 fn number_of(bytes: &[u8]) -> u32
     requires { length bytes.now ≤ 4 }
-    ensures { result ≡ fromBytes bytes.now }
+    ensures { result ≡ from_bytes bytes.now }
 {
     let mut number: u32 = 0;
     let mut i = 0;
@@ -36,7 +38,7 @@ fn number_of(bytes: &[u8]) -> u32
 
 // The number that the first four bytes are, or all of them where they are fewer.
 pub fn front_word(bytes: &[u8]) -> u32
-    ensures { result ≡ fromBytes (take 4 bytes.now) }
+    ensures { result ≡ from_bytes (take 4 bytes.now) }
 {
     if bytes.len() < 4 {
         return number_of(bytes);

@@ -1,9 +1,10 @@
 // The one-time signatures of a leaf: Leaf key, Reveal and Recover.
+#![tactic(auto)]
 ghost use Rattle.std.specs.Prelude.{◌≡◌, false, length};
-ghost use Rattle.refusal.specs.Code.{code, outcomeCode, thenFirst};
+ghost use Rattle.refusal.specs.Code.{code, outcome_code, then_first};
 ghost use Rattle.numbers.specs.Number.{value};
-ghost use Rattle.counts.specs.Table.{leavesTable};
-ghost use Rattle.one_time.specs.Operations.{leafKeyCode, LeafKeys, ownCauses, Reveals, Recovers};
+ghost use Rattle.counts.specs.Table.{leaves_table};
+ghost use Rattle.one_time.specs.Operations.{leaf_key_code, LeafKeys, own_causes, Reveals, Recovers};
 ghost use Rattle.one_time.specs.inner.Placing.{Places};
 
 use chains::chains_of;
@@ -31,7 +32,7 @@ pub struct Recovered {
 
 // The causes of Leaf key.
 fn leaf_key_outcome(p: Profile, leaf: u32) -> Outcome
-    ensures { outcomeCode result ≡ leafKeyCode p leaf }
+    ensures { outcome_code result ≡ leaf_key_code p leaf }
 {
     let height = p.height;
     check_profile(p).then(leaf_beyond(height, leaf), Refusal::LeafOutOfRange)
@@ -40,7 +41,7 @@ fn leaf_key_outcome(p: Profile, leaf: u32) -> Outcome
 // The causes of Reveal and Recover between 5 and 7, behind an outcome: `refusal` where the size of the values is wrong, and
 // 11.
 fn early_outcome(checked: Outcome, height: u32, leaf: u32, wrong: bool, refusal: Refusal) -> Outcome
-    ensures { outcomeCode result ≡ thenFirst (outcomeCode checked) (ownCauses height leaf wrong (code refusal)) }
+    ensures { outcome_code result ≡ then_first (outcome_code checked) (own_causes height leaf wrong (code refusal)) }
 {
     let beyond = leaf_beyond(height, leaf);
     checked
@@ -59,7 +60,7 @@ fn place_row(
     table: &mut [u32],
     row: &mut [u8],
 ) -> Outcome
-    requires { (leavesTable (code refusal) ≡ false) × (length row.old ≡ 40) }
+    requires { (leaves_table (code refusal) ≡ false) × (length row.old ≡ 40) }
     ensures { Places p leaf (value number) wrong (code refusal)
         table.old row.old table.new row.new result }
 {

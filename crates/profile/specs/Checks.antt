@@ -8,8 +8,8 @@ abbrev pub outside : ℕ → ℕ → ℕ → Bool
 outside low high x = ltb x low || ltb high x
 
 -- "l chains, 1 to 40. Width w, 2 to 16 … Sum s, 0 to l × (w − 1)"
-unfoldable pub shapeCauses : Shape → List (Bool × ℕ)
-shapeCauses shape =
+unfoldable pub shape_causes : Shape → List (Bool × ℕ)
+shape_causes shape =
     (outside 1 40 shape.chains, 1) ∷ (outside 2 16 shape.width, 2)
     ∷ (outside 0 (shape.chains * (shape.width - 1)) shape.sum, 3) ∷ []
 
@@ -22,13 +22,13 @@ pub record InLimits (shape : Shape) : Type 0 where
   pub reached : shape.sum ≤ shape.chains * (shape.width - 1)
 
 -- "Tree height h, 0 to 10"; "A profile names edition 1 or 2 … 22 when the edition is neither, after 4"
-unfoldable pub profileCauses : Profile → List (Bool × ℕ)
-profileCauses p = shapeCauses p.shape ++ ((outside 0 10 p.height, 4) ∷ (outside 1 2 p.edition, 22) ∷ [])
+unfoldable pub profile_causes : Profile → List (Bool × ℕ)
+profile_causes p = shape_causes p.shape ++ ((outside 0 10 p.height, 4) ∷ (outside 1 2 p.edition, 22) ∷ [])
 
 -- 2^h, as far as a 32-bit leaf tells: the code counts leaves in 64 bits
-unfoldable pub countedLeaves : (h : ℕ) → ℕ
-countedLeaves h = cond (ltb h 32) (2 ^ h) (2 ^ 32)
+unfoldable pub counted_leaves : (h : ℕ) → ℕ
+counted_leaves h = cond (ltb h 32) (2 ^ h) (2 ^ 32)
 
 -- 11: "leaf not below 2^h"
-unfoldable pub leafBeyond : (h leaf : ℕ) → Bool
-leafBeyond h leaf = leb (2 ^ h) leaf
+unfoldable pub leaf_beyond : (h leaf : ℕ) → Bool
+leaf_beyond h leaf = leb (2 ^ h) leaf

@@ -1,7 +1,8 @@
 // A profile and its checks.
+#![tactic(auto)]
 ghost use Rattle.std.specs.Prelude.{◌≡◌, ◌-◌, ◌*◌};
-ghost use Rattle.refusal.specs.Code.{outcomeCode, firstCause};
-ghost use Rattle.profile.specs.Checks.{outside as outsideOf, shapeCauses, profileCauses, leafBeyond, countedLeaves};
+ghost use Rattle.refusal.specs.Code.{outcome_code, first_cause};
+ghost use Rattle.profile.specs.Checks.{outside as outsideOf, shape_causes, profile_causes, leaf_beyond, counted_leaves};
 
 use refusal::{Outcome, Refusal};
 
@@ -41,7 +42,7 @@ fn largest_sum(chains: u32, width: u32) -> u64
 
 // The checks 1, 2 and 3.
 pub fn check_shape(shape: Shape) -> Outcome
-    ensures { outcomeCode result ≡ firstCause (shapeCauses shape) }
+    ensures { outcome_code result ≡ first_cause (shape_causes shape) }
 {
     let chains = shape.chains as u64;
     let width = shape.width as u64;
@@ -55,7 +56,7 @@ pub fn check_shape(shape: Shape) -> Outcome
 
 // The checks 1, 2, 3 and 4, and then 22.
 pub fn check_profile(p: Profile) -> Outcome
-    ensures { outcomeCode result ≡ firstCause (profileCauses p) }
+    ensures { outcome_code result ≡ first_cause (profile_causes p) }
 {
     let shape = p.shape;
     let height = p.height as u64;
@@ -67,14 +68,14 @@ pub fn check_profile(p: Profile) -> Outcome
 
 // How many leaves a tree has, as far as a 32-bit leaf tells: 2^h, and from a height of 32 on room for every one.
 pub fn leaf_count(height: u32) -> u64
-    ensures { result ≡ countedLeaves height }
+    ensures { result ≡ counted_leaves height }
 {
     if height < 32 { 1 << height } else { 1 << 32 }
 }
 
 // Whether a leaf is not below 2^h.
 pub fn leaf_beyond(height: u32, leaf: u32) -> bool
-    ensures { result ≡ leafBeyond height leaf }
+    ensures { result ≡ leaf_beyond height leaf }
 {
     leaf_count(height) <= leaf as u64
 }

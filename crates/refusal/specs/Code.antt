@@ -77,20 +77,20 @@ code PlaceEmpty = 32
 code ValueZero = 33
 
 -- 0 for granted, else the code of the cause
-abbrev pub outcomeCode : Outcome → ℕ
-outcomeCode Granted = 0
-outcomeCode (Refused r) = code r
+abbrev pub outcome_code : Outcome → ℕ
+outcome_code Granted = 0
+outcome_code (Refused r) = code r
 
 -- "refused exactly for the causes …, the first in its order giving the number": of causes in order, each a test with its code, the code of
 -- the first that holds, or 0
-abbrev pub firstCause : List (Bool × ℕ) → ℕ
-firstCause [] = 0
-firstCause (cause ∷ more) = cond cause.0 cause.1 (firstCause more)
+abbrev pub first_cause : List (Bool × ℕ) → ℕ
+first_cause [] = 0
+first_cause (cause ∷ more) = cond cause.0 cause.1 (first_cause more)
 
 -- causes behind others: the code so far, or where that is 0 that of the first of them that holds
-abbrev pub thenFirst : (so_far : ℕ) → List (Bool × ℕ) → ℕ
-thenFirst so_far causes = cond (eqb so_far 0) (firstCause causes) so_far
+abbrev pub then_first : (so_far : ℕ) → List (Bool × ℕ) → ℕ
+then_first so_far causes = cond (eqb so_far 0) (first_cause causes) so_far
 
 -- one cause after another
-abbrev pub thenCode : (so_far : ℕ) → (holds : Bool) → (next : ℕ) → ℕ
-thenCode so_far holds next = thenFirst so_far ((holds, next) ∷ [])
+abbrev pub then_code : (so_far : ℕ) → (holds : Bool) → (next : ℕ) → ℕ
+then_code so_far holds next = then_first so_far ((holds, next) ∷ [])

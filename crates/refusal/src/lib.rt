@@ -1,6 +1,8 @@
 // The causes for which a call is refused, their codes, and how one cause is looked at after another.
+#![tactic(auto)]
+
 ghost use Rattle.std.specs.Prelude.{◌≡◌};
-ghost use Rattle.refusal.specs.Code.{code, outcomeCode, thenCode};
+ghost use Rattle.refusal.specs.Code.{code, outcome_code, then_code};
 
 // Every cause of documents 01 and 02, in the order of their codes, which are the documents' numbers. Those from 23 on belong to
 // points of document 02 that are still to come.
@@ -91,7 +93,7 @@ pub fn code(r: Refusal) -> u8
 
 // The code of an outcome: 0 for granted, else the code of its cause.
 pub fn outcome_code(o: Outcome) -> u8
-    ensures { result ≡ outcomeCode o }
+    ensures { result ≡ outcome_code o }
 {
     match o {
         Outcome::Granted => 0,
@@ -103,7 +105,7 @@ impl Outcome {
     // Goes on with the next cause: what is refused so far stays refused, and otherwise the cause is looked at. So causes in
     // their order read from top to bottom.
     pub fn then(self, holds: bool, cause: Refusal) -> Outcome
-        ensures { outcomeCode result ≡ thenCode (outcomeCode self) holds (code cause) }
+        ensures { outcome_code result ≡ then_code (outcome_code self) holds (code cause) }
     {
         match self {
             Outcome::Refused(_) => self,

@@ -8,7 +8,7 @@ use lib.Seq.{length-take-le, paste}
 use Rattle.lists.proofs.Fill.{pasted}
 use Rattle.sha256_block.specs.Compression.{compress}
 use Rattle.sha256_block.specs.declared.compression.HashWords.{HashWords}
-use Rattle.sha256.specs.Digest.{compressAll}
+use Rattle.sha256.specs.Digest.{compress_all}
 use Rattle.sha256.specs.Running.{pending, rest, extended}
 use Rattle.sha256.specs.declared.running.Hash.{Hash}
 use Rattle.sha256.proofs.Blocks.{all_short, all_append, rest-short, rest-append}
@@ -26,15 +26,15 @@ module _ (s : Hash) (bytes : List ℕ) (e : length (pending s) ≡ s.total % 64)
       rw (words, left, q, long)
 
   -- the bytes fill the block, and go on behind it
-  past-block : (first : List ℕ) → 64 ≤ s.total % 64 + length bytes → first ≡ pending s ++ take (64 - s.total % 64) bytes
+  past_block : (first : List ℕ) → 64 ≤ s.total % 64 + length bytes → first ≡ pending s ++ take (64 - s.total % 64) bytes
       → record {
-        words = compressAll (compress s.words first) (drop (64 - s.total % 64) bytes);
+        words = compress_all (compress s.words first) (drop (64 - s.total % 64) bytes);
         block = rest (drop (64 - s.total % 64) bytes);
         total =
             s.total + length bytes;
       } ≡ extended s bytes
   unfolding extended
-  past-block first h q =
+  past_block first h q =
       let room = 64 - s.total % 64 in
       let more = drop room bytes in
       let whole : first ++ more ≡ pending s ++ bytes = rw (q, append_assoc, take-append-drop) in
@@ -51,7 +51,7 @@ module _ (s : Hash) (bytes : List ℕ) (e : length (pending s) ≡ s.total % 64)
   pub past-made : {held first more block : List ℕ} {v w : HashWords} → 64 - s.total % 64 ≤ length bytes
       → held ≡ pending s ++ replicate (64 - s.total % 64) 0
       → first ≡ paste held (s.total % 64) (take (64 - s.total % 64) bytes) (length (take (64 - s.total % 64) bytes))
-      → v ≡ compress s.words first → more ≡ drop (64 - s.total % 64) bytes → w ≡ compressAll v more → block ≡ rest more
+      → v ≡ compress s.words first → more ≡ drop (64 - s.total % 64) bytes → w ≡ compress_all v more → block ≡ rest more
       → record { words = w; block = block; total = s.total + length bytes } ≡ extended s bytes
   past-made {held} {first} h k p ev em ew eb =
       let filler = take (64 - s.total % 64) bytes in
@@ -59,4 +59,4 @@ module _ (s : Hash) (bytes : List ℕ) (e : length (pending s) ≡ s.total % 64)
       let none : 64 - (s.total % 64 + length filler) ≡ 0 = omega (arith, long) in
       let whole : first ≡ pending s ++ filler =
       pasted (pending s) 0 filler (s.total % 64) 64 e (omega (arith, long)) k p ∙ rw none (append-nil (pending s ++ filler)) in
-      rw (ew, ev, eb, em) (past-block first (omega arith) whole)
+      rw (ew, ev, eb, em) (past_block first (omega arith) whole)

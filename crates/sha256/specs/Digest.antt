@@ -10,17 +10,17 @@ unfoldable pub padding : ℕ → List ℕ
 padding n = 128 ∷ replicate ((119 - n % 64) % 64) 0 ++ to_bytes 8 (8 * n)
 
 -- 6.2.2: the hash value after the first n blocks of the bytes
-unfoldable pub compressBlocks : ℕ → HashWords → List ℕ → HashWords
-compressBlocks zero v bytes = v
-compressBlocks (suc n) v bytes = compressBlocks n (compress v (take 64 bytes)) (drop 64 bytes)
+unfoldable pub compress_blocks : ℕ → HashWords → List ℕ → HashWords
+compress_blocks zero v bytes = v
+compress_blocks (suc n) v bytes = compress_blocks n (compress v (take 64 bytes)) (drop 64 bytes)
 
 -- the hash value after every whole block of the bytes
-unfoldable pub compressAll : HashWords → List ℕ → HashWords
-compressAll v bytes = compressBlocks (length bytes / 64) v bytes
+unfoldable pub compress_all : HashWords → List ℕ → HashWords
+compress_all v bytes = compress_blocks (length bytes / 64) v bytes
 
 -- 6.2: the final hash value of a message
-unfoldable pub finalWords : List ℕ → HashWords
-finalWords message = compressAll initial (message ++ padding (length message))
+unfoldable pub final_words : List ℕ → HashWords
+final_words message = compress_all initial (message ++ padding (length message))
 
 -- the 32 bytes of a hash value
 unfoldable pub word_bytes : HashWords → List ℕ
@@ -30,4 +30,4 @@ word_bytes v =
 
 -- 6.2: the message digest
 unfoldable pub digest : List ℕ → List ℕ
-digest message = word_bytes (finalWords message)
+digest message = word_bytes (final_words message)

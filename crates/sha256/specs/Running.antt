@@ -1,9 +1,9 @@
 -- Document 01, Hashing and "Hash, as start, add and finish": the running hash and its operations, for any state.
 use Rattle.std.specs.Prelude.{◌≡◌, cond, List, [], ◌∷◌, ◌++◌, ℕ, ◌+◌, ◌-◌, ◌*◌, ◌/◌, ◌%◌, ltb, length, take, drop, replicate}
-use Rattle.refusal.specs.Code.{outcomeCode}
+use Rattle.refusal.specs.Code.{outcome_code}
 use Rattle.sha256_block.specs.Compression.{initial}
 use Rattle.sha256_block.specs.declared.compression.HashWords.{HashWords}
-use Rattle.sha256.specs.Digest.{padding, compressAll, word_bytes, digest}
+use Rattle.sha256.specs.Digest.{padding, compress_all, word_bytes, digest}
 use Rattle.sha256.specs.declared.running.Hash.{Hash}
 use Rattle.sha256.specs.declared.running.Added.{Added}
 
@@ -27,38 +27,38 @@ started = fresh initial
 unfoldable pub extended : Hash → List ℕ → Hash
 extended s bytes =
     let all = pending s ++ bytes in
-    record { words = compressAll s.words all; block = rest all; total = s.total + length bytes }
+    record { words = compress_all s.words all; block = rest all; total = s.total + length bytes }
 
 -- "only add refuses, by 18, if the total with the new bytes is over 65,535"
-unfoldable pub addCode : Hash → List ℕ → ℕ
-addCode s bytes = cond (ltb 65535 (s.total + length bytes)) 18 0
+unfoldable pub add_code : Hash → List ℕ → ℕ
+add_code s bytes = cond (ltb 65535 (s.total + length bytes)) 18 0
 
 -- "the state is returned the same"
-unfoldable pub addState : Hash → List ℕ → Hash
-addState s bytes = cond (ltb 65535 (s.total + length bytes)) s (extended s bytes)
+unfoldable pub add_state : Hash → List ℕ → Hash
+add_state s bytes = cond (ltb 65535 (s.total + length bytes)) s (extended s bytes)
 
 -- what add answers
 pub record Adds (s : Hash) (bytes : List ℕ) (r : Added) : Type 0 where
-  pub code : outcomeCode r.outcome ≡ addCode s bytes
-  pub state : r.hash ≡ addState s bytes
+  pub code : outcome_code r.outcome ≡ add_code s bytes
+  pub state : r.hash ≡ add_state s bytes
 
 -- finish: the words of the digest, in a state that has taken no bytes
 unfoldable pub finished : Hash → Hash
-finished s = fresh (compressAll s.words (pending s ++ padding s.total))
+finished s = fresh (compress_all s.words (pending s ++ padding s.total))
 
 -- a running hash that was started and has taken the bytes
 unfoldable pub hashed : List ℕ → Hash
-hashed bytes = record { words = compressAll initial bytes; block = rest bytes; total = length bytes }
+hashed bytes = record { words = compress_all initial bytes; block = rest bytes; total = length bytes }
 
 -- a list of adds, each on the state that the one before handed back: the last state
-unfoldable pub addAll : Hash → List (List ℕ) → Hash
-addAll s [] = s
-addAll s (bytes ∷ more) = addAll (addState s bytes) more
+unfoldable pub add_all : Hash → List (List ℕ) → Hash
+add_all s [] = s
+add_all s (bytes ∷ more) = add_all (add_state s bytes) more
 
 -- each add of the list is granted
 abbrev pub AllGranted : Hash → List (List ℕ) → Type 0
 AllGranted s [] = Unit {0}
-AllGranted s (bytes ∷ more) = (addCode s bytes ≡ 0) × AllGranted (addState s bytes) more
+AllGranted s (bytes ∷ more) = (add_code s bytes ≡ 0) × AllGranted (add_state s bytes) more
 
 -- the bytes of the adds, joined
 unfoldable pub joined : List (List ℕ) → List ℕ
@@ -68,4 +68,4 @@ joined (bytes ∷ more) = bytes ++ joined more
 -- start, any list of granted adds and finish give the digest of the bytes joined
 abbrev pub RunningHash : Type 0
 RunningHash = (parts : List (List ℕ)) → AllGranted started parts
-    → word_bytes (finished (addAll started parts)).words ≡ digest (joined parts)
+    → word_bytes (finished (add_all started parts)).words ≡ digest (joined parts)

@@ -1,4 +1,5 @@
 // SHA-256 as a running hash.
+#![tactic(auto)]
 mod running;
 
 pub use running::{Added, Hash, put};

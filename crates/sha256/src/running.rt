@@ -2,7 +2,7 @@
 ghost use Rattle.std.specs.Prelude.{◌≡◌, ◌++◌, ◌+◌, ◌-◌, ◌*◌, ◌≤◌, length, take, replicate};
 ghost use Rattle.std.proofs.Math.Seq.{paste};
 ghost use Rattle.octets.specs.Bytes.{to_bytes};
-ghost use Rattle.sha256.specs.Digest.{compressAll, word_bytes};
+ghost use Rattle.sha256.specs.Digest.{compress_all, word_bytes};
 ghost use Rattle.sha256.specs.Running as spec;
 
 use octets::{copy, write_word};
@@ -112,7 +112,7 @@ pub fn put(block: [u8; 64], at: usize, bytes: &[u8]) -> [u8; 64]
 
 // The hash value after every whole block of the bytes.
 fn absorb(words: HashWords, bytes: &[u8]) -> HashWords
-    ensures { result ≡ compressAll words bytes.now }
+    ensures { result ≡ compress_all words bytes.now }
 {
     let mut v = words;
     let mut at = 0;

@@ -29,14 +29,14 @@ choose x y z = bit_xor z (bit_and x (bit_xor y z))
 abbrev chosen : ℕ → ℕ → ℕ → ℕ → ℕ
 chosen x n y z = bit_xor (bit_and x y) (bit_and n z)
 
-choose-half : (x y z : ℕ) → choose x y z / 2 ≡ choose (x / 2) (y / 2) (z / 2)
-choose-half x y z = xor_shr z (bit_and x (bit_xor y z)) 1 ∙ rw (and_shr x (bit_xor y z) 1, xor_shr y z 1)
+choose_half : (x y z : ℕ) → choose x y z / 2 ≡ choose (x / 2) (y / 2) (z / 2)
+choose_half x y z = xor_shr z (bit_and x (bit_xor y z)) 1 ∙ rw (and_shr x (bit_xor y z) 1, xor_shr y z 1)
 
 choose-last : (x y z : ℕ) → choose x y z % 2 ≡ choose (x % 2) (y % 2) (z % 2)
 choose-last x y z = xor_mod z (bit_and x (bit_xor y z)) 1 ∙ rw (and_mod x (bit_xor y z) 1, xor_mod y z 1)
 
-chosen-half : (x n y z : ℕ) → chosen x n y z / 2 ≡ chosen (x / 2) (n / 2) (y / 2) (z / 2)
-chosen-half x n y z = xor_shr (bit_and x y) (bit_and n z) 1 ∙ rw (and_shr x y 1, and_shr n z 1)
+chosen_half : (x n y z : ℕ) → chosen x n y z / 2 ≡ chosen (x / 2) (n / 2) (y / 2) (z / 2)
+chosen_half x n y z = xor_shr (bit_and x y) (bit_and n z) 1 ∙ rw (and_shr x y 1, and_shr n z 1)
 
 chosen_last : (x n y z : ℕ) → chosen x n y z % 2 ≡ chosen (x % 2) (n % 2) (y % 2) (z % 2)
 chosen_last x n y z = xor_mod (bit_and x y) (bit_and n z) 1 ∙ rw (and_mod x y 1, and_mod n z 1)
@@ -48,8 +48,8 @@ complement_half p x h = omega arith
 complement-last : (p x : ℕ) → x < p * 2 → (p * 2 - 1 - x) % 2 ≡ 1 - x % 2
 complement-last p x h = omega arith
 
-half-below : (p x : ℕ) → x < p * 2 → x / 2 < p
-half-below p x h = omega arith
+half_below : (p x : ℕ) → x < p * 2 → x / 2 < p
+half_below p x h = omega arith
 
 -- (4.2) on words of k digits
 pub choice : (k x y z : ℕ) → x < 2 ^ k → z < 2 ^ k → choose x y z ≡ chosen x (2 ^ k - 1 - x) y z
@@ -64,7 +64,7 @@ choice (suc k) x y z hx hz =
     let e : n / 2 ≡ 2 ^ k - 1 - x / 2 = rw (pow-suc 2 k) (complement_half (2 ^ k) x lx) in
     let f : n % 2 ≡ 1 - x % 2 = rw (pow-suc 2 k) (complement-last (2 ^ k) x lx) in
     join (choose x y z) (chosen x n y z)
-    (choose-half x y z ∙ choice k (x / 2) (y / 2) (z / 2) (half-below (2 ^ k) x lx) (half-below (2 ^ k) z lz) ∙ rw (← e) (sym (chosen-half x n y z)))
+    (choose_half x y z ∙ choice k (x / 2) (y / 2) (z / 2) (half_below (2 ^ k) x lx) (half_below (2 ^ k) z lz) ∙ rw (← e) (sym (chosen_half x n y z)))
     (choose-last x y z
     ∙ digits choose (λ a b c. chosen a (1 - a) b c) refl refl refl refl refl refl refl refl (x % 2) (y % 2) (z % 2) (omega arith) (omega arith) (omega arith)
     ∙ rw (← f) (sym (chosen_last x n y z)))
@@ -75,14 +75,14 @@ vote x y z = bit_xor y (bit_and (bit_xor x y) (bit_xor y z))
 abbrev most : ℕ → ℕ → ℕ → ℕ
 most x y z = bit_xor (bit_xor (bit_and x y) (bit_and x z)) (bit_and y z)
 
-vote-half : (x y z : ℕ) → vote x y z / 2 ≡ vote (x / 2) (y / 2) (z / 2)
-vote-half x y z = xor_shr y (bit_and (bit_xor x y) (bit_xor y z)) 1 ∙ rw (and_shr (bit_xor x y) (bit_xor y z) 1, xor_shr x y 1, xor_shr y z 1)
+vote_half : (x y z : ℕ) → vote x y z / 2 ≡ vote (x / 2) (y / 2) (z / 2)
+vote_half x y z = xor_shr y (bit_and (bit_xor x y) (bit_xor y z)) 1 ∙ rw (and_shr (bit_xor x y) (bit_xor y z) 1, xor_shr x y 1, xor_shr y z 1)
 
 vote-last : (x y z : ℕ) → vote x y z % 2 ≡ vote (x % 2) (y % 2) (z % 2)
 vote-last x y z = xor_mod y (bit_and (bit_xor x y) (bit_xor y z)) 1 ∙ rw (and_mod (bit_xor x y) (bit_xor y z) 1, xor_mod x y 1, xor_mod y z 1)
 
-most-half : (x y z : ℕ) → most x y z / 2 ≡ most (x / 2) (y / 2) (z / 2)
-most-half x y z = xor_shr (bit_xor (bit_and x y) (bit_and x z)) (bit_and y z) 1
+most_half : (x y z : ℕ) → most x y z / 2 ≡ most (x / 2) (y / 2) (z / 2)
+most_half x y z = xor_shr (bit_xor (bit_and x y) (bit_and x z)) (bit_and y z) 1
     ∙ rw (xor_shr (bit_and x y) (bit_and x z) 1, and_shr x y 1, and_shr x z 1, and_shr y z 1)
 
 most-last : (x y z : ℕ) → most x y z % 2 ≡ most (x % 2) (y % 2) (z % 2)
@@ -96,9 +96,9 @@ majority zero x y z hx hy =
     let ey : y ≡ 0 = omega arith in
     rw (ex, ey)
 majority (suc k) x y z hx hy =
-    let lx = half-below (2 ^ k) x (rw (pow-suc 2 k) at hx) in
-    let ly = half-below (2 ^ k) y (rw (pow-suc 2 k) at hy) in
-    join (vote x y z) (most x y z) (vote-half x y z ∙ majority k (x / 2) (y / 2) (z / 2) lx ly ∙ sym (most-half x y z))
+    let lx = half_below (2 ^ k) x (rw (pow-suc 2 k) at hx) in
+    let ly = half_below (2 ^ k) y (rw (pow-suc 2 k) at hy) in
+    join (vote x y z) (most x y z) (vote_half x y z ∙ majority k (x / 2) (y / 2) (z / 2) lx ly ∙ sym (most_half x y z))
     (vote-last x y z
     ∙ digits vote most refl refl refl refl refl refl refl refl (x % 2) (y % 2) (z % 2) (omega arith) (omega arith) (omega arith)
     ∙ sym (most-last x y z))

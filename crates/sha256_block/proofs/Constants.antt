@@ -1,14 +1,14 @@
--- The constants keep the rule of FIPS 180-4: the primes are the first sixty-four, and each word is from the whole part of a root of its prime.
+-- The constants keep the rule of FIPS 180-4: the primes are the first sixty_four, and each word is from the whole part of a root of its prime.
 use Rattle.std.proofs.Common.{◌≡◌, ℕ, zero, suc, ◌+◌, ◌*◌, ◌^◌, ◌<◌, ◌≤◌, Bool, true, false, cond, leb, List, [], ◌∷◌, length, get_or, take, refl, ap, ◌∙◌, pow-suc, arith, length-take-le, get_or-take, leb-false, leb-true}
 use lib.ListN.{length-map, get_or-map}
-use Rattle.lists.proofs.Lists.{Below, below-by-test}
-use Rattle.sha256_block.specs.Constants.{hasDivisor, isPrime, primesFrom, primes, IsPrime, IsWholeRoot, IsRootWord, rootFrom, wholeRoot, rootWord}
-use Rattle.sha256_block.specs.Constants.{roundWords, initialWords, FirstPrimes, RootWords}
-use Rattle.sha256_block.proofs.Primes.{PrimesFrom, primes-rise, each-prime, rising-primes, none-missed}
+use Rattle.lists.proofs.Lists.{Below, below-by_test}
+use Rattle.sha256_block.specs.Constants.{has_divisor, is_prime, primes_from, primes, IsPrime, IsWholeRoot, IsRootWord, root_from, whole_root, root_word}
+use Rattle.sha256_block.specs.Constants.{round_words, initial_words, FirstPrimes, RootWords}
+use Rattle.sha256_block.proofs.Primes.{PrimesFrom, primes-rise, each_prime, rising-primes, none_missed}
 
 -- the search keeps r^e ≤ n < (r + 2^b)^e while b falls
-root-from : (e n b r : ℕ) → r ^ e ≤ n → n < (r + 2 ^ b) ^ e → IsWholeRoot e n (rootFrom e n b r)
-unfolding rootFrom
+root-from : (e n b r : ℕ) → r ^ e ≤ n → n < (r + 2 ^ b) ^ e → IsWholeRoot e n (root_from e n b r)
+unfolding root_from
 root-from e n zero r low high = record { least = low; most = high }
 root-from e n (suc b) r low high =
     step (leb ((r + 2 ^ b) ^ e) n) refl
@@ -19,16 +19,16 @@ root-from e n (suc b) r low high =
     double = rw pow-suc (omega arith)
 
     step : (t : Bool) → leb ((r + 2 ^ b) ^ e) n ≡ t
-        → ((r + 2 ^ b) ^ e ≤ n → IsWholeRoot e n (rootFrom e n b (r + 2 ^ b)))
-        → (n < (r + 2 ^ b) ^ e → IsWholeRoot e n (rootFrom e n b r))
-        → IsWholeRoot e n (rootFrom e n b (cond t (r + 2 ^ b) r))
+        → ((r + 2 ^ b) ^ e ≤ n → IsWholeRoot e n (root_from e n b (r + 2 ^ b)))
+        → (n < (r + 2 ^ b) ^ e → IsWholeRoot e n (root_from e n b r))
+        → IsWholeRoot e n (root_from e n b (cond t (r + 2 ^ b) r))
     step true q up stay = up (leb-true ((r + 2 ^ b) ^ e) n q)
     step false q up stay = stay (leb-false ((r + 2 ^ b) ^ e) n q)
 
 -- the definition finds the word
-root-word : (e p : ℕ) → 0 ^ e ≤ p * 2 ^ (32 * e) → p * 2 ^ (32 * e) < (2 ^ 35) ^ e → IsRootWord e p (rootWord e p)
-unfolding rootWord wholeRoot
-root-word e p low high = record { root = wholeRoot e (p * 2 ^ (32 * e)); whole = root-from e (p * 2 ^ (32 * e)) 35 0 low high; word = refl }
+root-word : (e p : ℕ) → 0 ^ e ≤ p * 2 ^ (32 * e) → p * 2 ^ (32 * e) < (2 ^ 35) ^ e → IsRootWord e p (root_word e p)
+unfolding root_word whole_root
+root-word e p low high = record { root = whole_root e (p * 2 ^ (32 * e)); whole = root-from e (p * 2 ^ (32 * e)) 35 0 low high; word = refl }
 
 -- the primes, computed once
 unfoldable pub listed : List ℕ
@@ -38,32 +38,32 @@ listed =
     251 ∷ 257 ∷ 263 ∷ 269 ∷ 271 ∷ 277 ∷ 281 ∷ 283 ∷ 293 ∷ 307 ∷ 311 ∷ []
 
 pub primes-listed : primes ≡ listed
-unfolding listed primes primesFrom isPrime hasDivisor
+unfolding listed primes primes_from is_prime has_divisor
 primes-listed = refl
 
 small : Below 512 primes
 unfolding listed
-small = rw primes-listed (below-by-test 512 listed tt)
+small = rw primes-listed (below-by_test 512 listed tt)
 
-small-eight : Below 64 (take 8 primes)
+small_eight : Below 64 (take 8 primes)
 unfolding listed
-small-eight = rw primes-listed (below-by-test 64 (take 8 listed) tt)
+small_eight = rw primes-listed (below-by_test 64 (take 8 listed) tt)
 
 -- each round word is from the cube root of its prime
-round-word-rule : (k : ℕ) → IsRootWord 3 (get_or primes k 0) (get_or roundWords k 0)
-unfolding roundWords rootWord wholeRoot rootFrom
-round-word-rule k = rw (get_or-map (rootWord 3) primes k 0) (root-word 3 (get_or primes k 0) (omega arith) (omega (arith, small k)))
+round-word_rule : (k : ℕ) → IsRootWord 3 (get_or primes k 0) (get_or round_words k 0)
+unfolding round_words root_word whole_root root_from
+round-word_rule k = rw (get_or-map (root_word 3) primes k 0) (root-word 3 (get_or primes k 0) (omega arith) (omega (arith, small k)))
 
 -- each of the eight initial words is from the square root of its prime
-initial-word-rule : (k : ℕ) → k < 8 → IsRootWord 2 (get_or primes k 0) (get_or initialWords k 0)
-unfolding initialWords rootWord wholeRoot rootFrom
-initial-word-rule k h =
+initial-word_rule : (k : ℕ) → k < 8 → IsRootWord 2 (get_or primes k 0) (get_or initial_words k 0)
+unfolding initial_words root_word whole_root root_from
+initial-word_rule k h =
     let same = get_or-take 8 primes k 0 h in
-    rw (get_or-map (rootWord 2) (take 8 primes) k 0, same) (root-word 2 (get_or primes k 0) (omega arith) (omega (arith, rw same at (small-eight k))))
+    rw (get_or-map (root_word 2) (take 8 primes) k 0, same) (root-word 2 (get_or primes k 0) (omega arith) (omega (arith, rw same at (small_eight k))))
 
-sixty-four : length primes ≡ 64
+sixty_four : length primes ≡ 64
 unfolding listed
-sixty-four = ap length primes-listed
+sixty_four = ap length primes-listed
 
 last : get_or primes 63 0 ≡ 311
 unfolding listed
@@ -75,26 +75,26 @@ rise = primes-rise 0 312
 
 place : (q : ℕ) → q < 312 → IsPrime q → (i : ℕ) × (i < length primes) × (get_or primes i 0 ≡ q)
 unfolding primes
-place q h prime = none-missed 0 312 q (omega arith) h prime
+place q h prime = none_missed 0 312 q (omega arith) h prime
 
 first-primes : FirstPrimes 64 primes
 first-primes =
     record {
-      many = sixty-four;
-      each = λ i h. (each-prime 0 primes rise i (rw sixty-four h)).1;
-      rising = λ i j less h. rising-primes 0 primes rise i j less (rw sixty-four h);
-      none-missed = λ q prime most.
+      many = sixty_four;
+      each = λ i h. (each_prime 0 primes rise i (rw sixty_four h)).1;
+      rising = λ i j less h. rising-primes 0 primes rise i j less (rw sixty_four h);
+      none_missed = λ q prime most.
           let found = place q (omega (arith, last)) prime in
-          (found.0, rw sixty-four at found.1, found.2);
+          (found.0, rw sixty_four at found.1, found.2);
     }
 
 pub root-words : RootWords
-unfolding roundWords initialWords
+unfolding round_words initial_words
 root-words =
     record {
       first-primes = first-primes;
-      many-rounds = length-map primes (rootWord 3) ∙ sixty-four;
-      round-word = λ i h. round-word-rule i;
-      many-initial = length-map (take 8 primes) (rootWord 2) ∙ length-take-le 8 primes (omega (arith, sixty-four));
-      initial-word = initial-word-rule;
+      many-rounds = length-map primes (root_word 3) ∙ sixty_four;
+      round-word = λ i h. round-word_rule i;
+      many-initial = length-map (take 8 primes) (root_word 2) ∙ length-take-le 8 primes (omega (arith, sixty_four));
+      initial-word = initial-word_rule;
     }

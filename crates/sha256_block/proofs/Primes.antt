@@ -2,38 +2,38 @@
 use Rattle.std.proofs.Common.{◌≡◌, ℕ, zero, suc, ◌+◌, ◌-◌, ◌%◌, ◌<◌, ◌≤◌, Bool, true, false, cond, not, eqb, leb, List, [], ◌∷◌, length, get_or, sym, refl, ap, ◌∙◌, ⊎_elim, le_of_suc-le-suc, eq-or-lt_of_le, arith, ne_eqb, le-leb, leb-true}
 use borrow.Author.Tests.{not-true, eqb-false}
 use Rattle.lists.proofs.Tests.{both, neither}
-use Rattle.sha256_block.specs.Constants.{hasDivisor, isPrime, primesFrom, IsPrime}
+use Rattle.sha256_block.specs.Constants.{has_divisor, is_prime, primes_from, IsPrime}
 
 -- the test finds every divisor from 2 to d
-divisor-found : (n d : ℕ) → hasDivisor n d ≡ false → (c : ℕ) → 2 ≤ c → c ≤ d → n % c ≡ 0 → ⊥
-unfolding hasDivisor
-divisor-found n zero e c low high divides = omega arith
-divisor-found n (suc zero) e c low high divides = omega arith
-divisor-found n (suc (suc d)) e c low high divides =
-    let none = neither (eqb (n % suc (suc d)) 0) (hasDivisor n (suc d)) e in
+divisor_found : (n d : ℕ) → has_divisor n d ≡ false → (c : ℕ) → 2 ≤ c → c ≤ d → n % c ≡ 0 → ⊥
+unfolding has_divisor
+divisor_found n zero e c low high divides = omega arith
+divisor_found n (suc zero) e c low high divides = omega arith
+divisor_found n (suc (suc d)) e c low high divides =
+    let none = neither (eqb (n % suc (suc d)) 0) (has_divisor n (suc d)) e in
     ⊎_elim
     (λ same. eqb-false (n % suc (suc d)) 0 none.0 (ap (λ k. n % k) (sym same) ∙ divides))
-    (λ less. divisor-found n (suc d) none.1 c low (le_of_suc-le-suc less) divides)
+    (λ less. divisor_found n (suc d) none.1 c low (le_of_suc-le-suc less) divides)
     (eq-or-lt_of_le high)
 
 -- and no other number
-divisor-real : (n d : ℕ) → ((c : ℕ) → 2 ≤ c → c ≤ d → n % c ≡ 0 → ⊥) → hasDivisor n d ≡ false
-unfolding hasDivisor
-divisor-real n zero none = refl
-divisor-real n (suc zero) none = refl
-divisor-real n (suc (suc d)) none =
-    rw (ne_eqb (n % suc (suc d)) 0 (none (suc (suc d)) (omega arith) (omega arith))) (divisor-real n (suc d) (λ c low high. none c low (omega arith)))
+divisor_real : (n d : ℕ) → ((c : ℕ) → 2 ≤ c → c ≤ d → n % c ≡ 0 → ⊥) → has_divisor n d ≡ false
+unfolding has_divisor
+divisor_real n zero none = refl
+divisor_real n (suc zero) none = refl
+divisor_real n (suc (suc d)) none =
+    rw (ne_eqb (n % suc (suc d)) 0 (none (suc (suc d)) (omega arith) (omega arith))) (divisor_real n (suc d) (λ c low high. none c low (omega arith)))
 
-prime-by-test : (n : ℕ) → isPrime n ≡ true → IsPrime n
-unfolding isPrime
-prime-by-test n e =
-    let parts = both (leb 2 n) (not (hasDivisor n (n - 1))) e in
+prime_by_test : (n : ℕ) → is_prime n ≡ true → IsPrime n
+unfolding is_prime
+prime_by_test n e =
+    let parts = both (leb 2 n) (not (has_divisor n (n - 1))) e in
     let two = leb-true 2 n parts.0 in
-    record { above-one = two; undivided = λ d low high. divisor-found n (n - 1) (not-true (hasDivisor n (n - 1)) parts.1) d low (omega arith) }
+    record { above-one = two; undivided = λ d low high. divisor_found n (n - 1) (not-true (has_divisor n (n - 1)) parts.1) d low (omega arith) }
 
-prime-passes : (n : ℕ) → IsPrime n → isPrime n ≡ true
-unfolding isPrime
-prime-passes n p = rw (le-leb 2 n p.above-one, divisor-real n (n - 1) (λ c low high. p.undivided c low (omega (arith, p.above-one))))
+prime_passes : (n : ℕ) → IsPrime n → is_prime n ≡ true
+unfolding is_prime
+prime_passes n p = rw (le-leb 2 n p.above-one, divisor_real n (n - 1) (λ c low high. p.undivided c low (omega (arith, p.above-one))))
 
 -- primes, rising from n on
 abbrev pub PrimesFrom : ℕ → List ℕ → Type 0
@@ -44,39 +44,39 @@ from-before : (n : ℕ) (ps : List ℕ) → PrimesFrom (suc n) ps → PrimesFrom
 from-before n [] r = tt
 from-before n (p ∷ ps) r = (omega (arith, r.0), r.1, r.2)
 
-pub primes-rise : (n k : ℕ) → PrimesFrom n (primesFrom n k)
-unfolding primesFrom
+pub primes-rise : (n k : ℕ) → PrimesFrom n (primes_from n k)
+unfolding primes_from
 primes-rise n zero = tt
-primes-rise n (suc k) = by (isPrime n) refl (primes-rise (suc n) k)
+primes-rise n (suc k) = by (is_prime n) refl (primes-rise (suc n) k)
   where
-    by : (t : Bool) → isPrime n ≡ t → PrimesFrom (suc n) (primesFrom (suc n) k) → PrimesFrom n (cond t (n ∷ primesFrom (suc n) k) (primesFrom (suc n) k))
-    by true e r = (omega arith, prime-by-test n e, r)
-    by false e r = from-before n (primesFrom (suc n) k) r
+    by : (t : Bool) → is_prime n ≡ t → PrimesFrom (suc n) (primes_from (suc n) k) → PrimesFrom n (cond t (n ∷ primes_from (suc n) k) (primes_from (suc n) k))
+    by true e r = (omega arith, prime_by_test n e, r)
+    by false e r = from-before n (primes_from (suc n) k) r
 
-pub each-prime : (n : ℕ) (ps : List ℕ) → PrimesFrom n ps → (i : ℕ) → i < length ps → (n ≤ get_or ps i 0) × IsPrime (get_or ps i 0)
-each-prime n [] r i h = absurd (omega arith)
-each-prime n (p ∷ ps) r zero h = (r.0, r.1)
-each-prime n (p ∷ ps) r (suc i) h =
-    let rest = each-prime (suc p) ps r.2 i (le_of_suc-le-suc h) in
+pub each_prime : (n : ℕ) (ps : List ℕ) → PrimesFrom n ps → (i : ℕ) → i < length ps → (n ≤ get_or ps i 0) × IsPrime (get_or ps i 0)
+each_prime n [] r i h = absurd (omega arith)
+each_prime n (p ∷ ps) r zero h = (r.0, r.1)
+each_prime n (p ∷ ps) r (suc i) h =
+    let rest = each_prime (suc p) ps r.2 i (le_of_suc-le-suc h) in
     (omega (arith, r.0, rest.0), rest.1)
 
 pub rising-primes : (n : ℕ) (ps : List ℕ) → PrimesFrom n ps → (i j : ℕ) → i < j → j < length ps → get_or ps i 0 < get_or ps j 0
 rising-primes n [] r i j less h = absurd (omega arith)
 rising-primes n (p ∷ ps) r i zero less h = absurd (omega arith)
-rising-primes n (p ∷ ps) r zero (suc j) less h = (each-prime (suc p) ps r.2 j (le_of_suc-le-suc h)).0
+rising-primes n (p ∷ ps) r zero (suc j) less h = (each_prime (suc p) ps r.2 j (le_of_suc-le-suc h)).0
 rising-primes n (p ∷ ps) r (suc i) (suc j) less h = rising-primes (suc p) ps r.2 i j (le_of_suc-le-suc less) (le_of_suc-le-suc h)
 
-pub none-missed : (n k q : ℕ) → n ≤ q → q < n + k → IsPrime q → (i : ℕ) × (i < length (primesFrom n k)) × (get_or (primesFrom n k) i 0 ≡ q)
-unfolding primesFrom
-none-missed n zero q low high p = absurd (omega arith)
-none-missed n (suc k) q low high p =
+pub none_missed : (n k q : ℕ) → n ≤ q → q < n + k → IsPrime q → (i : ℕ) × (i < length (primes_from n k)) × (get_or (primes_from n k) i 0 ≡ q)
+unfolding primes_from
+none_missed n zero q low high p = absurd (omega arith)
+none_missed n (suc k) q low high p =
     ⊎_elim
-    (λ (same : n ≡ q). let here : isPrime n ≡ true = rw same (prime-passes q p) in rw here (0, omega arith, same))
-    (λ less. later (isPrime n) (none-missed (suc n) k q less (omega arith) p))
+    (λ (same : n ≡ q). let here : is_prime n ≡ true = rw same (prime_passes q p) in rw here (0, omega arith, same))
+    (λ less. later (is_prime n) (none_missed (suc n) k q less (omega arith) p))
     (eq-or-lt_of_le low)
   where
-    later : (t : Bool) → (i : ℕ) × (i < length (primesFrom (suc n) k)) × (get_or (primesFrom (suc n) k) i 0 ≡ q)
-        → (i : ℕ) × (i < length (cond t (n ∷ primesFrom (suc n) k) (primesFrom (suc n) k)))
-        × (get_or (cond t (n ∷ primesFrom (suc n) k) (primesFrom (suc n) k)) i 0 ≡ q)
+    later : (t : Bool) → (i : ℕ) × (i < length (primes_from (suc n) k)) × (get_or (primes_from (suc n) k) i 0 ≡ q)
+        → (i : ℕ) × (i < length (cond t (n ∷ primes_from (suc n) k) (primes_from (suc n) k)))
+        × (get_or (cond t (n ∷ primes_from (suc n) k) (primes_from (suc n) k)) i 0 ≡ q)
     later true found = (suc found.0, omega (arith, found.1), found.2)
     later false found = found

@@ -2,9 +2,9 @@
 use Rattle.std.proofs.Common.{◌≡◌, ℕ, zero, suc, ◌+◌, ◌-◌, ◌*◌, ◌<◌, ◌≤◌, List, [], ◌∷◌, ◌++◌, length, get_or, take, drop, sym, refl, ap, ◌∙◌, ⊎_elim, add-zero, eq-or-lt_of_le, arith, length-append, length-drop, take-append-drop, get_or-drop, take_all, take-suc, drop-drop, take-add, drop_at}
 use lib.ListN.{get_or-append}
 use lib.Seq.{take-append-le, get_or_at}
-use Rattle.octets.specs.Bytes.{fromBytes}
+use Rattle.octets.specs.Bytes.{from_bytes}
 use Rattle.lists.proofs.Lists.{length_part}
-use Rattle.sha256_block.specs.Compression.{words_of, nextWord, extend}
+use Rattle.sha256_block.specs.Compression.{words_of, next_word, extend}
 
 pub length-words : (n : ℕ) (bytes : List ℕ) → length (words_of n bytes) ≡ n
 unfolding words_of
@@ -12,24 +12,24 @@ length-words zero bytes = refl
 length-words (suc n) bytes = ap suc (length-words n (drop 4 bytes))
 
 -- one word more, from the bytes behind those of the first n
-pub words-next : (n : ℕ) (bytes : List ℕ) → words_of (suc n) bytes ≡ words_of n bytes ++ (fromBytes (take 4 (drop (4 * n) bytes)) ∷ [])
+pub words-next : (n : ℕ) (bytes : List ℕ) → words_of (suc n) bytes ≡ words_of n bytes ++ (from_bytes (take 4 (drop (4 * n) bytes)) ∷ [])
 unfolding words_of
 words-next zero bytes = refl
 words-next (suc n) bytes =
     let e : 4 + 4 * n ≡ 4 * suc n = omega arith in
-    ap (λ ws. fromBytes (take 4 bytes) ∷ ws) (words-next n (drop 4 bytes)
-    ∙ ap (λ rest. words_of n (drop 4 bytes) ++ (fromBytes (take 4 rest) ∷ [])) (drop-drop (4 * n) 4 bytes ∙ ap (λ k. drop k bytes) e))
+    ap (λ ws. from_bytes (take 4 bytes) ∷ ws) (words-next n (drop 4 bytes)
+    ∙ ap (λ rest. words_of n (drop 4 bytes) ++ (from_bytes (take 4 rest) ∷ [])) (drop-drop (4 * n) 4 bytes ∙ ap (λ k. drop k bytes) e))
 
 pub length-extend : (n : ℕ) (ws : List ℕ) → length (extend n ws) ≡ length ws + n
 unfolding extend
 length-extend zero ws = sym (add-zero (length ws))
 length-extend (suc n) ws =
     let before = extend n ws in
-    length-append before (nextWord (length before) before ∷ []) ∙ omega (arith, length-extend n ws)
+    length-append before (next_word (length before) before ∷ []) ∙ omega (arith, length-extend n ws)
 
 -- W_t does not depend on what stands behind W_0, …, W_(t − 1)
-next-of-append : (t : ℕ) (ws more : List ℕ) → 16 ≤ t → t ≤ length ws → nextWord t (ws ++ more) ≡ nextWord t ws
-unfolding nextWord
+next-of-append : (t : ℕ) (ws more : List ℕ) → 16 ≤ t → t ≤ length ws → next_word t (ws ++ more) ≡ next_word t ws
+unfolding next_word
 next-of-append t ws more low long =
     let e₂ = get_or-append ws more 0 (t - 2) (omega arith) in
     let e₇ = get_or-append ws more 0 (t - 7) (omega arith) in
@@ -38,8 +38,8 @@ next-of-append t ws more low long =
     cc
 
 -- nor on what stands before W_(t − 16)
-pub next-of-drop : (t k : ℕ) (ws : List ℕ) → 16 ≤ t → nextWord t (drop k ws) ≡ nextWord (k + t) ws
-unfolding nextWord
+pub next-of-drop : (t k : ℕ) (ws : List ℕ) → 16 ≤ t → next_word t (drop k ws) ≡ next_word (k + t) ws
+unfolding next_word
 next-of-drop t k ws low =
     let e₂ = back 2 (omega arith) in
     let e₇ = back 7 (omega arith) in
@@ -52,17 +52,17 @@ next-of-drop t k ws low =
 
 module _ (ws : List ℕ) (sixteen : length ws ≡ 16) where
   -- each word that is added keeps the rule
-  by-rule : (n t : ℕ) → 16 ≤ t → t < 16 + n → get_or (extend n ws) t 0 ≡ nextWord t (extend n ws)
+  by_rule : (n t : ℕ) → 16 ≤ t → t < 16 + n → get_or (extend n ws) t 0 ≡ next_word t (extend n ws)
   unfolding extend
-  by-rule zero t low high = absurd (omega arith)
-  by-rule (suc n) t low high =
+  by_rule zero t low high = absurd (omega arith)
+  by_rule (suc n) t low high =
       let before = extend n ws in
-      let last = nextWord (length before) before in
+      let last = next_word (length before) before in
       let long = length-extend n ws in
-      let same : nextWord t (before ++ (last ∷ [])) ≡ nextWord t before = next-of-append t before (last ∷ []) low (omega arith) in
+      let same : next_word t (before ++ (last ∷ [])) ≡ next_word t before = next-of-append t before (last ∷ []) low (omega arith) in
       ⊎_elim
-      (λ e. let at-end : length before ≡ t = omega arith in get_or_at before last [] 0 t at-end ∙ ap (λ k. nextWord k before) at-end ∙ sym same)
-      (λ h. get_or-append before (last ∷ []) 0 t (omega arith) ∙ by-rule n t low (omega arith) ∙ sym same)
+      (λ e. let at-end : length before ≡ t = omega arith in get_or_at before last [] 0 t at-end ∙ ap (λ k. next_word k before) at-end ∙ sym same)
+      (λ h. get_or-append before (last ∷ []) 0 t (omega arith) ∙ by_rule n t low (omega arith) ∙ sym same)
       (eq-or-lt_of_le (let h : t ≤ 16 + n = omega arith in h))
 
   -- the words that were there stay
@@ -71,16 +71,16 @@ module _ (ws : List ℕ) (sixteen : length ws ≡ 16) where
   first-words zero = take_all 16 ws (omega arith)
   first-words (suc n) =
       let before = extend n ws in
-      take-append-le 16 before (nextWord (length before) before ∷ []) (omega (arith, length-extend n ws)) ∙ first-words n
+      take-append-le 16 before (next_word (length before) before ∷ []) (omega (arith, length-extend n ws)) ∙ first-words n
 
   -- word n of a part of the schedule, from the words of the part before it
-  part-word : (t n : ℕ) → 16 ≤ n → t + n < 64 → nextWord n (take n (drop t (extend 48 ws))) ≡ get_or (drop t (extend 48 ws)) n 0
+  part-word : (t n : ℕ) → 16 ≤ n → t + n < 64 → next_word n (take n (drop t (extend 48 ws))) ≡ get_or (drop t (extend 48 ws)) n 0
   part-word t n low high =
       let all = extend 48 ws in
       let rest = drop t all in
       let count : length (take n rest) ≡ n = length_part all t n (omega (arith, length-extend 48 ws)) in
-      sym (next-of-append n (take n rest) (drop n rest) low (omega arith)) ∙ ap (nextWord n) (take-append-drop n rest) ∙ next-of-drop n t all low
-      ∙ sym (by-rule 48 (t + n) (omega arith) (omega arith)) ∙ sym (get_or-drop t all n 0)
+      sym (next-of-append n (take n rest) (drop n rest) low (omega arith)) ∙ ap (next_word n) (take-append-drop n rest) ∙ next-of-drop n t all low
+      ∙ sym (by_rule 48 (t + n) (omega arith) (omega arith)) ∙ sym (get_or-drop t all n 0)
 
   -- sixteen words of the schedule, and i more, are the words that stand there
   extend-part : (t i : ℕ) → t + 16 + i ≤ 64 → extend i (take 16 (drop t (extend 48 ws))) ≡ take (16 + i) (drop t (extend 48 ws))

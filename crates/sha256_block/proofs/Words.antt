@@ -2,7 +2,7 @@
 use Rattle.std.proofs.Common.{◌≡◌, ℕ}
 use lib.Bits.{bit_xor}
 use Rattle.sha256_block.specs.Functions.{◌⊞◌, Ch, Maj, Σ₀, Σ₁}
-use Rattle.sha256_block.specs.Compression.{round, addWords}
+use Rattle.sha256_block.specs.Compression.{round, add_words}
 use Rattle.sha256_block.specs.declared.compression.HashWords.{HashWords}
 
 pub xored : {a b c x y z : ℕ} → a ≡ x → b ≡ y → c ≡ z → bit_xor (bit_xor a b) c ≡ bit_xor (bit_xor x y) z
@@ -16,6 +16,6 @@ round-made v k w es₁ ex ec ey ez et₁ es₀ em et₂ ea ee = rw (ea, ee, et�
 
 pub words-added : (x y : HashWords) {a b c d e f g h : ℕ} → a ≡ x.a ⊞ y.a → b ≡ x.b ⊞ y.b → c ≡ x.c ⊞ y.c → d ≡ x.d ⊞ y.d
     → e ≡ x.e ⊞ y.e → f ≡ x.f ⊞ y.f → g ≡ x.g ⊞ y.g → h ≡ x.h ⊞ y.h
-    → ◌≡◌ {A = HashWords} (record { a = a; b = b; c = c; d = d; e = e; f = f; g = g; h = h }) (addWords x y)
-unfolding addWords
+    → ◌≡◌ {A = HashWords} (record { a = a; b = b; c = c; d = d; e = e; f = f; g = g; h = h }) (add_words x y)
+unfolding add_words
 words-added x y ea eb ec ed ee ef eg eh = rw (ea, eb, ec, ed, ee, ef, eg, eh)

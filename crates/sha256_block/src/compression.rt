@@ -1,6 +1,6 @@
 // FIPS 180-4, 6.2.2: one block, and the constants of 4.2.2 and 5.3.3.
 ghost use Rattle.std.specs.Prelude.{◌≡◌, ℕ, ◌+◌, ◌<◌, ◌≤◌, List, ◌++◌, length, take, drop, slice_index, slice_set};
-ghost use Rattle.sha256_block.specs.Constants.{roundWords};
+ghost use Rattle.sha256_block.specs.Constants.{round_words};
 ghost use Rattle.sha256_block.specs.Compression as spec;
 
 use super::functions::{big_sigma0, big_sigma1, ch, maj, small_sigma0, small_sigma1};
@@ -33,7 +33,7 @@ const ROUND_WORDS: [u32; 64] = [
 
 // The table as a value, so that a loop reads it without making it anew in each turn.
 fn round_words() -> [u32; 64]
-    ensures { result ≡ roundWords }
+    ensures { result ≡ round_words }
 {
     ROUND_WORDS
 }
@@ -72,7 +72,7 @@ fn block_words(block: &[u8]) -> [u32; 16]
 // W_t from the sixteen words before it, which stand from index `i` on and then from 0 on.
 fn next_word(ws: [u32; 16], i: usize) -> u32
     requires { i < 16 }
-    ensures { result ≡ spec.nextWord 16 (drop i ws ++ take i ws) }
+    ensures { result ≡ spec.next_word 16 (drop i ws ++ take i ws) }
 {
     let x = wrapping_add_u32(small_sigma1(ws[(i + 14) % 16]), ws[(i + 9) % 16]);
     let y = wrapping_add_u32(x, small_sigma0(ws[(i + 1) % 16]));
@@ -82,7 +82,7 @@ fn next_word(ws: [u32; 16], i: usize) -> u32
 // The words with W_t in the place of the oldest, which no later word needs.
 fn replace_word(mut ws: [u32; 16], i: usize) -> [u32; 16]
     requires { i < 16 }
-    ensures { result ≡ slice_set ws i (spec.nextWord 16 (drop i ws ++ take i ws)) }
+    ensures { result ≡ slice_set ws i (spec.next_word 16 (drop i ws ++ take i ws)) }
 {
     let w = next_word(ws, i);
     ws[i] = w;
@@ -142,15 +142,15 @@ fn round(v: HashWords, k: u32, w: u32) -> HashWords
 
 // Round `t + i`, with word `i` of a turn that starts with round `t`.
 fn round_at(v: HashWords, table: &[u32; 64], t: usize, ws: &[u32; 16], i: usize) -> HashWords
-    requires { ((table.now ≡ roundWords) × (t + 16 ≤ 64)) × (i < 16) }
-    ensures { result ≡ spec.round v (slice_index roundWords (t + i)) (slice_index ws.now i) }
+    requires { ((table.now ≡ round_words) × (t + 16 ≤ 64)) × (i < 16) }
+    ensures { result ≡ spec.round v (slice_index round_words (t + i)) (slice_index ws.now i) }
 {
     round(v, table[t + i], ws[i])
 }
 
 // Rounds `t` to `t + 15`. Written out, so that no round moves the working variables.
 fn sixteen_rounds(v: HashWords, table: &[u32; 64], t: usize, ws: &[u32; 16]) -> HashWords
-    requires { (table.now ≡ roundWords) × (t + 16 ≤ 64) }
+    requires { (table.now ≡ round_words) × (t + 16 ≤ 64) }
     ensures { (v₀ : HashWords) (all : List ℕ) → v ≡ spec.rounds t v₀ all → ws.now ≡ take 16 (drop t all)
         → result ≡ spec.rounds (t + 16) v₀ all }
 {
@@ -193,7 +193,7 @@ fn rounds(v: HashWords, block: &[u8]) -> HashWords
 }
 
 fn add_words(x: HashWords, y: HashWords) -> HashWords
-    ensures { result ≡ spec.addWords x y }
+    ensures { result ≡ spec.add_words x y }
 {
     HashWords {
         a: wrapping_add_u32(x.a, y.a),

@@ -6,11 +6,11 @@ use mathlib.Core.List.{List, [], ◌∷◌, ◌++◌}
 use Prim.Native.Nat.{ℕ}
 use lib.ListN.{replicate, take, drop}
 use Rattle.octets.specs.Bytes.{to_bytes}
-use Rattle.hex.specs.Hex.{hexOf, hexDigit, digitOf, behind, lineEnd, line_of, readLine}
+use Rattle.hex_lines.specs.Hex.{hex_of, hex_digit, digit_of, behind, line_end, line_of, read_line}
 use Rattle.profile.specs.declared.Profile.{Profile}
-use Rattle.frames.specs.Frames.{firstCharacters, editionByte, profileFrame, numbered, frames}
-use Rattle.frames.specs.Lines.{lines_of, sheetOf, without, within, readFrame}
-use Rattle.sheet_reader.specs.Sheet.{wrongLine, read, inFront, followed, ended, readFrames, readSheet}
+use Rattle.frames.specs.Frames.{first_characters, edition_byte, profile_frame, numbered, frames}
+use Rattle.frames.specs.Lines.{lines_of, sheet_of, without, within, read_frame}
+use Rattle.sheet_reader.specs.Sheet.{wrong_line, read, in_front, followed, ended, read_frames, read_sheet}
 
 abbrev small : (edition : ℕ) → Profile
 small edition = record { shape = record { chains = 2; width = 3; sum = 259 }; height = 1; edition = edition }
@@ -22,23 +22,23 @@ abbrev text : List ℕ
 text = 72 ∷ 10 ∷ []
 
 abbrev sheet : (edition : ℕ) → List ℕ
-sheet edition = sheetOf (small edition) signature text
+sheet edition = sheet_of (small edition) signature text
 
 -- the profile's line in edition 1
 abbrev line : List ℕ
 line = 48 ∷ 49 ∷ 48 ∷ 50 ∷ 48 ∷ 51 ∷ 48 ∷ 49 ∷ 48 ∷ 49 ∷ 48 ∷ 51 ∷ []
 
 -- 010203010103 is the profile's line, with 02 behind it in edition 2: s = 259 is 01 03 (hex)
-example : (take 7 (sheet 1) ≡ firstCharacters ++ (lineEnd ∷ []))
-    × (take 13 (drop 7 (sheet 1)) ≡ line ++ (lineEnd ∷ []))
-    × (readSheet (small 1) (sheet 1) ≡ read signature text)
-    × (readSheet (small 1) (sheet 1 ++ (lineEnd ∷ [])) ≡ wrongLine 9)
-    × (readSheet (small 1) (take 66 (sheet 1)) ≡ wrongLine 5)
-    × (readSheet (small 1) (take 65 (sheet 1)) ≡ wrongLine 4)
-    × (take 15 (drop 7 (sheet 2)) ≡ line ++ (48 ∷ 50 ∷ lineEnd ∷ []))
-    × (readSheet (small 2) (sheet 2) ≡ read signature text)
-    × (readSheet (small 1) (sheet 2) ≡ wrongLine 2)
-    × (readSheet (small 2) (sheet 1) ≡ wrongLine 2)
-unfolding readSheet readFrames ended followed inFront readFrame within without readLine behind digitOf sheetOf lines_of frames numbered profileFrame editionByte
-    to_bytes line_of hexOf hexDigit
+example : (take 7 (sheet 1) ≡ first_characters ++ (line_end ∷ []))
+    × (take 13 (drop 7 (sheet 1)) ≡ line ++ (line_end ∷ []))
+    × (read_sheet (small 1) (sheet 1) ≡ read signature text)
+    × (read_sheet (small 1) (sheet 1 ++ (line_end ∷ [])) ≡ wrong_line 9)
+    × (read_sheet (small 1) (take 66 (sheet 1)) ≡ wrong_line 5)
+    × (read_sheet (small 1) (take 65 (sheet 1)) ≡ wrong_line 4)
+    × (take 15 (drop 7 (sheet 2)) ≡ line ++ (48 ∷ 50 ∷ line_end ∷ []))
+    × (read_sheet (small 2) (sheet 2) ≡ read signature text)
+    × (read_sheet (small 1) (sheet 2) ≡ wrong_line 2)
+    × (read_sheet (small 2) (sheet 1) ≡ wrong_line 2)
+unfolding read_sheet read_frames ended followed in_front read_frame within without read_line behind digit_of sheet_of lines_of frames numbered profile_frame edition_byte
+    to_bytes line_of hex_of hex_digit
 example = (refl, refl, refl, refl, refl, refl, refl, refl, refl, refl)

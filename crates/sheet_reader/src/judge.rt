@@ -1,7 +1,7 @@
 // A whole sheet, judged.
 ghost use Rattle.std.specs.Prelude.{◌≡◌};
 ghost use Rattle.frames.specs.Frames.{SizesInLimits};
-ghost use Rattle.sheet_reader.specs.Sheet.{readSheet};
+ghost use Rattle.sheet_reader.specs.Sheet.{read_sheet};
 ghost use Rattle.sheet_reader.specs.inner.Judging.{judgement};
 
 use frame_reader::take_frames;
@@ -18,7 +18,7 @@ pub struct Judged {
 // The frames, the text, and the end of the sheet.
 pub fn judge(sheet: &[u8], p: Profile) -> Judged
     requires { SizesInLimits p }
-    ensures { result ≡ judgement (readSheet p sheet.now) }
+    ensures { result ≡ judgement (read_sheet p sheet.now) }
 {
     let count = frame_count(p);
     let size = frame_size(p, count);

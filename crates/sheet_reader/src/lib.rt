@@ -1,7 +1,8 @@
 // Read sheet: the signature and the text that a sheet carries.
+#![tactic(auto)]
 ghost use Rattle.std.specs.Prelude.{◌≡◌};
-ghost use Rattle.refusal.specs.Code.{firstCause};
-ghost use Rattle.profile.specs.Checks.{profileCauses};
+ghost use Rattle.refusal.specs.Code.{first_cause};
+ghost use Rattle.profile.specs.Checks.{profile_causes};
 ghost use Rattle.sheet_reader.specs.Operations.{ReadsSheet};
 
 mod judge;
@@ -23,7 +24,7 @@ pub struct SheetRead {
 
 // Read sheet for a profile within its limits.
 fn read_checked(p: Profile, sheet: &[u8], signature: &mut [u8], message: &mut [u8]) -> SheetRead
-    requires { firstCause (profileCauses p) ≡ 0 }
+    requires { first_cause (profile_causes p) ≡ 0 }
     ensures { ReadsSheet p sheet.now signature.old message.old
         signature.new message.new result }
 {

@@ -1,18 +1,18 @@
 // The bytes that a sheet carries, copied into slices.
 ghost use Rattle.std.specs.Prelude.{◌≡◌, ◌++◌, ◌+◌, ◌*◌, ◌^◌, ◌≤◌, ◌<◌, length, drop};
-ghost use Rattle.hex.specs.inner.Digits.{byte_at, between};
-ghost use Rattle.signature.specs.Signature.{signatureLength};
-ghost use Rattle.frames.specs.Frames.{SizesInLimits, frames, textFrame};
-ghost use Rattle.frames.specs.inner.Size.{behindAll};
-ghost use Rattle.sheet_reader.specs.inner.Payload.{byteOr, bytesIn, payloads};
+ghost use Rattle.hex_lines.specs.inner.Digits.{byte_at, between};
+ghost use Rattle.signature.specs.Signature.{signature_length};
+ghost use Rattle.frames.specs.Frames.{SizesInLimits, frames, text_frame};
+ghost use Rattle.frames.specs.inner.Size.{behind_all};
+ghost use Rattle.sheet_reader.specs.inner.Payload.{byte_or, bytes_in, payloads};
 
 use frames::{frame_count, frame_size};
-use hex::{Digits, byte_at};
+use hex_lines::{Digits, byte_at};
 use profile::Profile;
 
 // The byte at an index; 0 where none stands.
 fn byte_or_zero(sheet: &[u8], at: usize) -> u8
-    ensures { result ≡ byteOr (byte_at sheet.now at) }
+    ensures { result ≡ byte_or (byte_at sheet.now at) }
 {
     match byte_at(sheet, at) {
         Digits::Wrong => 0,
@@ -23,7 +23,7 @@ fn byte_or_zero(sheet: &[u8], at: usize) -> u8
 // Copies n bytes that stand from an index of the sheet on to an index of a slice.
 pub fn copy(sheet: &[u8], at: usize, n: usize, out: &mut [u8], from: usize)
     requires { (at + 2 * n < 2 ^ 64) × (from + n ≤ length out.old) }
-    ensures { out.new ≡ between out.old from (bytesIn sheet.now at n) (from + n) }
+    ensures { out.new ≡ between out.old from (bytes_in sheet.now at n) (from + n) }
 {
     let mut i = 0;
     while i < n {
@@ -34,9 +34,9 @@ pub fn copy(sheet: &[u8], at: usize, n: usize, out: &mut [u8], from: usize)
 
 // Copies the bytes behind the fixed ones of all frames in front of the text, and gives the place behind those frames.
 pub fn copy_signature(sheet: &[u8], p: Profile, signature: &mut [u8]) -> usize
-    requires { SizesInLimits p × (signatureLength p ≤ length signature.old) }
-    ensures { (result ≡ behindAll 0 (frames p))
-        × (signature.new ≡ payloads sheet.now 0 (frames p) ++ drop (signatureLength p) signature.old) }
+    requires { SizesInLimits p × (signature_length p ≤ length signature.old) }
+    ensures { (result ≡ behind_all 0 (frames p))
+        × (signature.new ≡ payloads sheet.now 0 (frames p) ++ drop (signature_length p) signature.old) }
 {
     let count = frame_count(p);
     let mut at = 0;
@@ -56,9 +56,9 @@ pub fn copy_signature(sheet: &[u8], p: Profile, signature: &mut [u8]) -> usize
 
 // Copies a text of n bytes, whose frame begins at an index.
 pub fn copy_text(sheet: &[u8], p: Profile, at: usize, n: usize, message: &mut [u8])
-    requires { (at + 2 * (length textFrame.head + n) < 2 ^ 64) × (n ≤ length message.old) }
+    requires { (at + 2 * (length text_frame.head + n) < 2 ^ 64) × (n ≤ length message.old) }
     ensures { message.new
-        ≡ bytesIn sheet.now (at + 2 * length textFrame.head) n ++ drop n message.old }
+        ≡ bytes_in sheet.now (at + 2 * length text_frame.head) n ++ drop n message.old }
 {
     let size = frame_size(p, frame_count(p));
     let fixed = size.fixed;

@@ -1,7 +1,7 @@
 // Write sheet: the causes of refusal in order, and then the whole sheet.
 ghost use Rattle.std.specs.Prelude.{◌≡◌};
-ghost use Rattle.refusal.specs.Code.{firstCause};
-ghost use Rattle.sheet_writer.specs.Operations.{carriedCauses, WritesSheet};
+ghost use Rattle.refusal.specs.Code.{first_cause};
+ghost use Rattle.sheet_writer.specs.Operations.{carried_causes, WritesSheet};
 
 use super::lines::{write_frame, write_frames};
 use frames::{frame_count, lines_length};
@@ -19,7 +19,7 @@ pub struct SheetWritten {
 // Write sheet for a signature and a text that a sheet can carry: nothing is written unless all of it has room. The text's
 // line has two characters for its kind, two a byte, and its ending.
 fn write_carried(p: Profile, signature: &[u8], message: &[u8], sheet: &mut [u8]) -> SheetWritten
-    requires { firstCause (carriedCauses p signature.now message.now) ≡ 0 }
+    requires { first_cause (carried_causes p signature.now message.now) ≡ 0 }
     ensures { WritesSheet p signature.now message.now sheet.old sheet.new result }
 {
     let length = lines_length(p) + 2 * message.len() + 3;

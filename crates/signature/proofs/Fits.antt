@@ -2,9 +2,9 @@
 use mathlib.Core.Path.{◌≡◌}
 use mathlib.Core.Bool.{false}
 use Prim.Native.Nat.{ℕ, ◌≤◌}
-use Rattle.profile.proofs.Limits.{not-outside}
-use Rattle.signature.specs.Signature.{outsideText}
+use Rattle.profile.proofs.Limits.{not_outside}
+use Rattle.signature.specs.Signature.{outside_text}
 
-pub short-text : (bytes : ℕ) → outsideText bytes ≡ false → bytes ≤ 200
-unfolding outsideText
-short-text bytes within = (not-outside 1 200 bytes within).1
+pub short-text : (bytes : ℕ) → outside_text bytes ≡ false → bytes ≤ 200
+unfolding outside_text
+short-text bytes within = (not_outside 1 200 bytes within).1

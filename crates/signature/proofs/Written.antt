@@ -6,10 +6,10 @@ use native.Mathlib.Nat.{zero-add}
 use lib.ListN.{length, take, drop, length-append}
 use lib.Seq.{take_at, length-take-le, paste}
 use Rattle.octets.specs.Bytes.{to_bytes}
-use Rattle.octets.proofs.ByteLaws.{length-toBytes}
+use Rattle.octets.proofs.ByteLaws.{length-to_bytes}
 use Rattle.lists.proofs.Joins.{written_behind}
 use Rattle.profile.specs.declared.Profile.{Profile}
-use Rattle.signature.specs.Signature.{joinedParts, signatureLength}
+use Rattle.signature.specs.Signature.{joined_parts, signature_length}
 
 -- the length of a front with a part more
 longer : (front v : List ℕ) {m k : ℕ} → length front ≡ m → length v ≡ k → length (front ++ v) ≡ m + k
@@ -24,12 +24,12 @@ module _ (p : Profile) (leaf : ℕ) (r values siblings o : List ℕ) where
 
   pub signature-made : {o₁ o₂ o₃ o₄ : List ℕ} → length r ≡ 16 → length values ≡ 16 * l → 16 * h ≤ length siblings
       → o₁ ≡ take 0 o ++ to_bytes 4 leaf ++ drop (0 + 4) o → o₂ ≡ take 4 o₁ ++ r ++ drop (4 + 16) o₁ → o₃ ≡ take 20 o₂ ++ values ++ drop (20 + 16 * l) o₂
-      → o₄ ≡ paste o₃ (20 + 16 * l) siblings (16 * h) → take (signatureLength p) o₄ ≡ joinedParts leaf r values (take (16 * h) siblings)
-  unfolding joinedParts signatureLength
+      → o₄ ≡ paste o₃ (20 + 16 * l) siblings (16 * h) → take (signature_length p) o₄ ≡ joined_parts leaf r values (take (16 * h) siblings)
+  unfolding joined_parts signature_length
   signature-made sixteen long room e₁ e₂ e₃ e₄ =
       let first = to_bytes 4 leaf in
       let last = take (16 * h) siblings in
-      let four = length-toBytes 4 leaf in
+      let four = length-to_bytes 4 leaf in
       let twenty = longer first r four sixteen in
       let front = longer (first ++ r) values twenty long in
       let second = written_behind first r o 4 16 four (e₁ ∙ rw zero-add) e₂ in

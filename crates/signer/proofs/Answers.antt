@@ -9,127 +9,127 @@ use borrow.Author.Tests.{ltb-false, not-false}
 use lib.Dec.{ltb}
 use lib.ListN.{length, take}
 use lib.Seq.{paste}
-use Rattle.refusal.specs.Code.{outcomeCode, firstCause, thenFirst, thenCode}
+use Rattle.refusal.specs.Code.{outcome_code, first_cause, then_first, then_code}
 use Rattle.refusal.specs.declared.Refusal.{Refusal}
 use Rattle.refusal.specs.declared.Outcome.{Outcome}
 use Rattle.refusal.specs.declared.Outcome.TheVariants.{Refused}
-use Rattle.refusal.proofs.Causes.{Avoids, none_here, refused-number, code-kept, then-means}
+use Rattle.refusal.proofs.Causes.{Avoids, none_here, refused-number, code-kept, then_means}
 use Rattle.numbers.specs.Number.{value}
 use Rattle.profile.specs.Checks.{InLimits}
 use Rattle.profile.specs.declared.Shape.{Shape}
-use Rattle.signature.specs.Signature.{outsideText, joinedParts, signatureLength}
+use Rattle.signature.specs.Signature.{outside_text, joined_parts, signature_length}
 use Rattle.signature.proofs.Fits.{short-text}
-use Rattle.signing_key.specs.Counter.{markCounts, cleared}
+use Rattle.signing_key.specs.Counter.{mark_counts, cleared}
 use Rattle.signing_key.specs.Key.{recounted}
 use Rattle.signing_key.specs.declared.SigningKey.{SigningKey}
 use Rattle.signing_key.proofs.CounterLaws.{mark-within}
 use Rattle.counts.specs.Counts.{count}
-use Rattle.counts.specs.Table.{tableLength, tableCauses, leavesTable, tableAfter}
+use Rattle.counts.specs.Table.{table_length, table_causes, leaves_table, table_after}
 use Rattle.counts.specs.inner.Filling.{FillsPast}
 use Rattle.counts.proofs.Answer.{count-value, table-held}
 use Rattle.counts.proofs.Room.{table-early, table-passed}
 use Rattle.codewords.specs.Operations.{row_of}
-use Rattle.codewords.proofs.RowLaws.{row-front}
+use Rattle.codewords.proofs.RowLaws.{row_front}
 use Rattle.codewords.proofs.TableOperation.{early-code, none_before, answer-after, table-after, granted-before}
-use Rattle.tweak.specs.Tweak.{firstDomain}
+use Rattle.tweak.specs.Tweak.{first_domain}
 use Rattle.tweak.specs.declared.Domain.{Domain}
-use Rattle.chains.specs.Leaves.{chainsOf, revealed}
+use Rattle.chains.specs.Leaves.{chains_of, revealed}
 use Rattle.chains.specs.declared.Chains.{Chains}
 use Rattle.chains.proofs.RowFront.{revealed-front}
-use Rattle.tree.specs.Tree.{rootAt, rootOf, siblingsOf}
-use Rattle.message.specs.Message.{messageNumber, countTooSmall}
+use Rattle.tree.specs.Tree.{root_at, root_of, siblings_of}
+use Rattle.message.specs.Message.{message_number, count_too_small}
 use Rattle.message.proofs.NumberLaws.{number_fits}
-use Rattle.signer.specs.Signing.{leafToSign, keyNumber, signature_of, keySignature}
+use Rattle.signer.specs.Signing.{leaf_to_sign, key_number, signature_of, key_signature}
 use Rattle.signer.specs.inner.Making.{ReadyToSign}
-use Rattle.signer.specs.Operations.{SigningCall, signCauses, sign_code, keyAfter, outputAfter, Signs}
+use Rattle.signer.specs.Operations.{SigningCall, sign_causes, sign_code, key_after, output_after, Signs}
 
 -- the message number, with the root that the key's seeds give
-pub number_is : (key : SigningKey) (r message : List ℕ) {d : Domain} {chains : Chains} {root : List ℕ} {n : ℕ} → d ≡ firstDomain key.seed
-    → chains ≡ chainsOf key.profile.shape → root ≡ rootAt d chains key.secret key.profile.height
-    → n ≡ messageNumber key.profile (leafToSign key) r key.seed root message → n ≡ keyNumber key r message
-unfolding keyNumber
+pub number_is : (key : SigningKey) (r message : List ℕ) {d : Domain} {chains : Chains} {root : List ℕ} {n : ℕ} → d ≡ first_domain key.seed
+    → chains ≡ chains_of key.profile.shape → root ≡ root_at d chains key.secret key.profile.height
+    → n ≡ message_number key.profile (leaf_to_sign key) r key.seed root message → n ≡ key_number key r message
+unfolding key_number
 number_is key r message domain all above e = e ∙ rw (above, domain, all)
 
 -- below the count, where that is not too small
-pub key-number-fits : (key : SigningKey) (r message : List ℕ) → countTooSmall (count key.profile.shape) ≡ false
-    → keyNumber key r message < count key.profile.shape
-unfolding keyNumber
+pub key-number-fits : (key : SigningKey) (r message : List ℕ) → count_too_small (count key.profile.shape) ≡ false
+    → key_number key r message < count key.profile.shape
+unfolding key_number
 key-number-fits key r message =
-    number_fits key.profile (leafToSign key) r key.seed (rootOf (firstDomain key.seed) key.profile key.secret) message
+    number_fits key.profile (leaf_to_sign key) r key.seed (root_of (first_domain key.seed) key.profile key.secret) message
 
 -- the codeword in the row, in front of what else it has, and the signature made of it
-pub signature-is : (key : SigningKey) (r message : List ℕ) → countTooSmall (count key.profile.shape) ≡ false
-    → (more made : List ℕ) {d : Domain} {chains : Chains} {row siblings : List ℕ} {k : ℕ} → d ≡ firstDomain key.seed
-    → chains ≡ chainsOf key.profile.shape → k ≡ keyNumber key r message → row ≡ row_of key.profile.shape k ++ more
-    → siblings ≡ siblingsOf d chains key.secret key.profile.height (leafToSign key)
-    → take (signatureLength key.profile) made
-    ≡ joinedParts (leafToSign key) r (revealed d (chainsOf key.profile.shape) key.secret (leafToSign key) row) siblings
-    → take (signatureLength key.profile) made ≡ keySignature key r message
-unfolding keySignature signature_of
+pub signature-is : (key : SigningKey) (r message : List ℕ) → count_too_small (count key.profile.shape) ≡ false
+    → (more made : List ℕ) {d : Domain} {chains : Chains} {row siblings : List ℕ} {k : ℕ} → d ≡ first_domain key.seed
+    → chains ≡ chains_of key.profile.shape → k ≡ key_number key r message → row ≡ row_of key.profile.shape k ++ more
+    → siblings ≡ siblings_of d chains key.secret key.profile.height (leaf_to_sign key)
+    → take (signature_length key.profile) made
+    ≡ joined_parts (leaf_to_sign key) r (revealed d (chains_of key.profile.shape) key.secret (leaf_to_sign key) row) siblings
+    → take (signature_length key.profile) made ≡ key_signature key r message
+unfolding key_signature signature_of
 signature-is key r message large more made {d} {chains} {row} domain all number placed way parts =
     let shape = key.profile.shape in
-    let n = keyNumber key r message in
-    let front : take shape.chains row ≡ row_of shape n = rw (placed, number) (row-front shape n (key-number-fits key r message large) more) in
-    parts ∙ rw (revealed-front (chainsOf shape) row front d key.secret (leafToSign key), way, all, domain)
+    let n = key_number key r message in
+    let front : take shape.chains row ≡ row_of shape n = rw (placed, number) (row_front shape n (key-number-fits key r message large) more) in
+    parts ∙ rw (revealed-front (chains_of shape) row front d key.secret (leaf_to_sign key), way, all, domain)
 
 -- the causes before 19: those of the table, then those of the order
-module _ (key : SigningKey) (call : SigningCall) {n m : ℕ} (checked : n ≡ firstCause (tableCauses key.profile (length call.work)))
-    (e : m ≡ thenFirst n (signCauses key (length call.message) (length call.out))) where
+module _ (key : SigningKey) (call : SigningCall) {n m : ℕ} (checked : n ≡ first_cause (table_causes key.profile (length call.work)))
+    (e : m ≡ then_first n (sign_causes key (length call.message) (length call.out))) where
   abbrev shape : Shape
   shape = key.profile.shape
 
   abbrev first : List (Bool × ℕ)
-  first = tableCauses key.profile (length call.work)
+  first = table_causes key.profile (length call.work)
 
   abbrev own : List (Bool × ℕ)
-  own = signCauses key (length call.message) (length call.out)
+  own = sign_causes key (length call.message) (length call.out)
 
-  early : Avoids leavesTable first
+  early : Avoids leaves_table first
   early = table-early key.profile (length call.work)
 
-  between : Avoids leavesTable own
+  between : Avoids leaves_table own
   between = (refl, (refl, (refl, tt)))
 
-  before : m ≡ firstCause (first ++ own)
+  before : m ≡ first_cause (first ++ own)
   before = early-code first own early between checked e
 
   -- the table may be filled
-  pub sign-filled : m ≡ 0 → InLimits shape × (tableLength shape ≤ length call.work)
-  sign-filled q =
+  pub sign_filled : m ≡ 0 → InLimits shape × (table_length shape ≤ length call.work)
+  sign_filled q =
       let passed = table-passed key.profile (length call.work) (none_before first own early between before q).0 in
       (passed.limits, passed.room)
 
   -- the cause behind the table
   abbrev after : List (Bool × ℕ)
-  after = (countTooSmall (count shape), 19) ∷ []
+  after = (count_too_small (count shape), 19) ∷ []
 
   -- all causes
-  causes : sign_code key call ≡ firstCause (first ++ (own ++ after))
+  causes : sign_code key call ≡ first_cause (first ++ (own ++ after))
   unfolding sign_code
   causes = refl
 
   -- the table is filled past the causes before 19, and the count is looked at
   module _ {left counted : List ℕ} {small : Bool} (fills : FillsPast m shape call.work left counted)
-      (tested : small ≡ countTooSmall (value counted)) (o : Outcome) (looked : outcomeCode o ≡ thenCode m small 19) where
+      (tested : small ≡ count_too_small (value counted)) (o : Outcome) (looked : outcome_code o ≡ then_code m small 19) where
     number : m ≡ 0 → value counted ≡ count shape
-    number none = count-value shape (sign-filled none).0 (rw none at fills.counted)
+    number none = count-value shape (sign_filled none).0 (rw none at fills.counted)
 
-    answer : outcomeCode o ≡ sign_code key call
+    answer : outcome_code o ≡ sign_code key call
     answer =
-        looked ∙ then-means 19 (λ none. tested ∙ ap countTooSmall (number none))
+        looked ∙ then_means 19 (λ none. tested ∙ ap count_too_small (number none))
         ∙ answer-after first own early between before after (refl, tt) causes
 
     -- granted, none of them holds, and the count is large enough; the output has room
-    pub sign-ready : outcomeCode o ≡ 0 → ReadyToSign key counted call.message left × (signatureLength key.profile ≤ length call.out)
-    sign-ready zero =
-        let kept = code-kept m (outcomeCode o) ((small, 19) ∷ []) looked in
+    pub sign_ready : outcome_code o ≡ 0 → ReadyToSign key counted call.message left × (signature_length key.profile ≤ length call.out)
+    sign_ready zero =
+        let kept = code-kept m (outcome_code o) ((small, 19) ∷ []) looked in
         let none : m ≡ 0 = omega (arith, kept, zero) in
-        let last : firstCause after ≡ 0 = sym (granted-before first own early between before after (refl, tt) causes none) ∙ sym answer ∙ zero in
+        let last : first_cause after ≡ 0 = sym (granted-before first own early between before after (refl, tt) causes none) ∙ sym answer ∙ zero in
         let each = none_before first own early between before none in
         let passed = table-passed key.profile (length call.work) each.0 in
-        let unmarked : Bool = not (markCounts (2 ^ key.profile.height) key.counter) in
-        let size = ltb (length call.out) (signatureLength key.profile) in
-        let text = none_here (outsideText (length call.message)) 16 ((size, 6) ∷ (unmarked, 20) ∷ []) refl each.1 in
+        let unmarked : Bool = not (mark_counts (2 ^ key.profile.height) key.counter) in
+        let size = ltb (length call.out) (signature_length key.profile) in
+        let text = none_here (outside_text (length call.message)) 16 ((size, 6) ∷ (unmarked, 20) ∷ []) refl each.1 in
         let room = none_here size 6 ((unmarked, 20) ∷ []) refl text.1 in
         let leaf = mark-within (2 ^ key.profile.height) key.counter (not-false _ (none_here unmarked 20 [] refl room.1).0) in
         let known : ReadyToSign key counted call.message left =
@@ -141,25 +141,25 @@ module _ (key : SigningKey) (call : SigningCall) {n m : ℕ} (checked : n ≡ fi
           in_tree = omega arith;
           held = table-held shape call.work (rw none at fills.table);
           number = number none;
-          large = (none_here (countTooSmall (count shape)) 19 [] refl last).0;
+          large = (none_here (count_too_small (count shape)) 19 [] refl last).0;
         } in
-        (known, ltb-false (length call.out) (signatureLength key.profile) room.0)
+        (known, ltb-false (length call.out) (signature_length key.profile) room.0)
 
-    table : left ≡ tableAfter (sign_code key call) shape call.work
+    table : left ≡ table_after (sign_code key call) shape call.work
     table = table-after first own early between before after (refl, tt) causes shape call.work fills.table
 
     pub sign-refused : {x : Refusal} → o ≡ Refused x → Signs key call left call.out (record { outcome = o; key = key })
-    unfolding keyAfter outputAfter
+    unfolding key_after output_after
     sign-refused {x} q =
         let some = refused-number o (sign_code key call) x answer q in
         record { code = answer; key' = rw some; table = table; written = rw some }
 
     -- the signature made, and copied to the output
-    pub sign-granted : {out' : List ℕ} {after' : SigningKey} {bytes : ℕ} (made : List ℕ) → outcomeCode o ≡ 0
-        → take (signatureLength key.profile) made ≡ keySignature key call.r call.message
-        → bytes ≡ signatureLength key.profile → out' ≡ paste call.out 0 made bytes → after' ≡ recounted key (cleared key.counter)
+    pub sign-granted : {out' : List ℕ} {after' : SigningKey} {bytes : ℕ} (made : List ℕ) → outcome_code o ≡ 0
+        → take (signature_length key.profile) made ≡ key_signature key call.r call.message
+        → bytes ≡ signature_length key.profile → out' ≡ paste call.out 0 made bytes → after' ≡ recounted key (cleared key.counter)
         → Signs key call left out' (record { outcome = o; key = after' })
-    unfolding keyAfter outputAfter
+    unfolding key_after output_after
     sign-granted made zero is long w a =
         let none : sign_code key call ≡ 0 = sym answer ∙ zero in
         record { code = answer; key' = rw none a; table = table; written = rw none (w ∙ rw (long, zero-add, is)) }

@@ -1,12 +1,13 @@
 // Sign: the signature of a message, with the leaf that the key has marked.
+#![tactic(auto)]
 ghost use Rattle.std.specs.Prelude.{◌≡◌, ◌*◌, ◌≤◌, take};
-ghost use Rattle.refusal.specs.Code.{outcomeCode, thenFirst};
+ghost use Rattle.refusal.specs.Code.{outcome_code, then_first};
 ghost use Rattle.profile.specs.Checks.{InLimits};
 ghost use Rattle.tweak.specs.Tweak.{Seeded};
-ghost use Rattle.chains.specs.Leaves.{chainsOf, revealed};
-ghost use Rattle.signature.specs.Signature.{joinedParts, signatureLength};
-ghost use Rattle.signer.specs.Signing.{keySignature};
-ghost use Rattle.signer.specs.Operations.{SigningCall, signCauses, Signs};
+ghost use Rattle.chains.specs.Leaves.{chains_of, revealed};
+ghost use Rattle.signature.specs.Signature.{joined_parts, signature_length};
+ghost use Rattle.signer.specs.Signing.{key_signature};
+ghost use Rattle.signer.specs.Operations.{SigningCall, sign_causes, Signs};
 ghost use Rattle.signer.specs.inner.Making.{ReadyToSign};
 
 use chains::chains_of;
@@ -24,7 +25,7 @@ use tweak::{Hasher, Leaf, first_hasher};
 
 // The causes of Sign between 5 and 19, behind an outcome.
 fn sign_outcome(checked: Outcome, key: SigningKey, text: usize, bytes: usize) -> Outcome
-    ensures { outcomeCode result ≡ thenFirst (outcomeCode checked) (signCauses key text bytes) }
+    ensures { outcome_code result ≡ then_first (outcome_code checked) (sign_causes key text bytes) }
 {
     let p = key.profile;
     let outside = outside_text(text);
@@ -49,8 +50,8 @@ fn make_signature(
 ) -> [u8; 820]
     requires seeded { Seeded hasher }
     requires in_limits { InLimits p.shape × (p.height ≤ 10) }
-    ensures { take (signatureLength p) result
-        ≡ joinedParts leaf r (revealed hasher.domain (chainsOf p.shape) secret.now leaf row)
+    ensures { take (signature_length p) result
+        ≡ joined_parts leaf r (revealed hasher.domain (chains_of p.shape) secret.now leaf row)
         (take (16 * p.height) siblings) }
 {
     let shape = p.shape;
@@ -79,7 +80,7 @@ fn key_signature(
     table: &[u32],
 ) -> [u8; 820]
     requires { ReadyToSign key count message.now table.now }
-    ensures { take (signatureLength key.profile) result ≡ keySignature key r message.now }
+    ensures { take (signature_length key.profile) result ≡ key_signature key r message.now }
 {
     let p = key.profile;
     let shape = p.shape;

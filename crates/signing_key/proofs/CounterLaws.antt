@@ -6,16 +6,16 @@ use Prim.Native.Nat.{ℕ, zero, suc, ◌+◌, ◌^◌, ◌≤◌, ◌<◌}
 use native.Mathlib.Omega.{arith}
 use borrow.Author.Tests.{leb-true, leb-false, le-leb, lt-leb, ne_eqb}
 use lib.Dec.{leb}
-use Rattle.refusal.specs.Code.{outcomeCode, firstCause, thenFirst}
+use Rattle.refusal.specs.Code.{outcome_code, first_cause, then_first}
 use Rattle.refusal.specs.declared.Refusal.{Refusal}
 use Rattle.refusal.specs.declared.Outcome.{Outcome}
 use Rattle.refusal.specs.declared.Outcome.TheVariants.{Granted, Refused}
-use Rattle.refusal.proofs.Causes.{none_here, none_then, none-of-append, refused-number, code-then}
-use Rattle.profile.specs.Checks.{outside, profileCauses, countedLeaves}
+use Rattle.refusal.proofs.Causes.{none_here, none_then, none-of-append, refused-number, code_then}
+use Rattle.profile.specs.Checks.{outside, profile_causes, counted_leaves}
 use Rattle.profile.specs.declared.Profile.{Profile}
-use Rattle.profile.proofs.Limits.{outside_high, inside, not-outside, profile-numbered, counted-leaves}
-use Rattle.signing_key.specs.Counter.{markCounts, spent, reserved, cleared, counterCauses, counterAfter, AnswersWith}
-use Rattle.signing_key.specs.Operations.{reserveCode}
+use Rattle.profile.proofs.Limits.{outside_high, inside, not_outside, profile-numbered, counted-leaves}
+use Rattle.signing_key.specs.Counter.{mark_counts, spent, reserved, cleared, counter_causes, counter_after, AnswersWith}
+use Rattle.signing_key.specs.Operations.{reserve_code}
 use Rattle.signing_key.specs.declared.Counter.{Counter}
 
 -- from the low limit on, a number is within the limits where the high one is not below it
@@ -27,98 +27,98 @@ from_low low high x some = by (leb x high) refl
     by false e = sym (ap not (outside_high low high x some (leb-false x high e)))
 
 -- where neither the code so far nor the causes behind it refuse, each of them is 0
-pub none-of-then : (n : ℕ) (more : List (Bool × ℕ)) → thenFirst n more ≡ 0 → (n ≡ 0) × (firstCause more ≡ 0)
-none-of-then zero more e = (refl, e)
-none-of-then (suc n) more e = absurd (omega (arith, rw (ne_eqb (suc n) 0 (λ z. omega arith)) at e))
+pub none-of_then : (n : ℕ) (more : List (Bool × ℕ)) → then_first n more ≡ 0 → (n ≡ 0) × (first_cause more ≡ 0)
+none-of_then zero more e = (refl, e)
+none-of_then (suc n) more e = absurd (omega (arith, rw (ne_eqb (suc n) 0 (λ z. omega arith)) at e))
 
 module _ (leaves : ℕ) (c : Counter) where
   -- a mark that counts: the marked leaf is one of so many
-  pub mark-within : markCounts leaves c ≡ true → (1 ≤ c.next) × (c.next ≤ leaves)
-  unfolding markCounts
+  pub mark-within : mark_counts leaves c ≡ true → (1 ≤ c.next) × (c.next ≤ leaves)
+  unfolding mark_counts
   mark-within e = by c.mark (outside 1 leaves c.next) refl e
     where
       by : (m o : Bool) → outside 1 leaves c.next ≡ o → (m && not o) ≡ true → (1 ≤ c.next) × (c.next ≤ leaves)
-      by m false q h = not-outside 1 leaves c.next q
+      by m false q h = not_outside 1 leaves c.next q
       by true true q h = absurd (true≢false (sym h))
       by false true q h = absurd (true≢false (sym h))
 
   -- a counter without its mark has none that counts
-  pub cleared-unmarked : markCounts leaves (cleared c) ≡ false
-  unfolding markCounts
+  pub cleared-unmarked : mark_counts leaves (cleared c) ≡ false
+  unfolding mark_counts
   cleared-unmarked = refl
 
   -- a leaf that is left is marked once it is reserved
-  pub reserved-marked : c.next < leaves → markCounts leaves (reserved c) ≡ true
-  unfolding markCounts
+  pub reserved-marked : c.next < leaves → mark_counts leaves (reserved c) ≡ true
+  unfolding mark_counts
   reserved-marked left = rw (inside 1 leaves (c.next + 1) (omega arith) (omega arith))
 
   -- past the counter's causes there is no mark that counts, and a leaf is left
   pub record LeafLeft : Type 0 where
-    pub no-mark : markCounts leaves c ≡ false
+    pub no_mark : mark_counts leaves c ≡ false
     pub left : c.next < leaves
 
-  pub leaf-left : firstCause (counterCauses leaves c) ≡ 0 → LeafLeft
+  pub leaf_left : first_cause (counter_causes leaves c) ≡ 0 → LeafLeft
   unfolding spent
-  leaf-left e =
-      let free = none_here (markCounts leaves c) 21 ((spent leaves c, 12) ∷ []) refl e in
-      record { no-mark = free.0; left = leb-false leaves c.next (none_here (spent leaves c) 12 [] refl free.1).0 }
+  leaf_left e =
+      let free = none_here (mark_counts leaves c) 21 ((spent leaves c, 12) ∷ []) refl e in
+      record { no_mark = free.0; left = leb-false leaves c.next (none_here (spent leaves c) 12 [] refl free.1).0 }
 
 -- the leaves that the code counts tell as 2^h does
 module _ (h : ℕ) (c : Counter) (word : c.next < 2 ^ 32) where
-  pub mark-counted : markCounts (countedLeaves h) c ≡ markCounts (2 ^ h) c
-  unfolding markCounts
+  pub mark-counted : mark_counts (counted_leaves h) c ≡ mark_counts (2 ^ h) c
+  unfolding mark_counts
   mark-counted = rw (counted-leaves h c.next word).1
 
-  pub causes-counted : counterCauses (countedLeaves h) c ≡ counterCauses (2 ^ h) c
+  pub causes-counted : counter_causes (counted_leaves h) c ≡ counter_causes (2 ^ h) c
   unfolding spent
   causes-counted = rw (mark-counted, (counted-leaves h c.next word).0)
 
 -- what Reserve answers with a number
-module _ (c : Counter) (number : ℕ) (o : Outcome) (e : outcomeCode o ≡ number) where
+module _ (c : Counter) (number : ℕ) (o : Outcome) (e : outcome_code o ≡ number) where
   pub answer-refused : (r : Refusal) → o ≡ Refused r → AnswersWith number c (record { outcome = o; counter = c })
-  unfolding counterAfter
+  unfolding counter_after
   answer-refused r q = record { code = e; counter = rw (refused-number o number r e q) }
 
   pub answer-granted : {after : Counter} → o ≡ Granted → after ≡ reserved c → AnswersWith number c (record { outcome = o; counter = after })
-  unfolding counterAfter
-  answer-granted q a = let none : number ≡ 0 = sym e ∙ ap outcomeCode q in record { code = e; counter = a ∙ rw none }
+  unfolding counter_after
+  answer-granted q a = let none : number ≡ 0 = sym e ∙ ap outcome_code q in record { code = e; counter = a ∙ rw none }
 
 module _ (p : Profile) (c : Counter) where
   -- the causes of the counter behind those of the profile
-  pub reserve-code : {n : ℕ} → n ≡ firstCause (profileCauses p) → thenFirst n (counterCauses (2 ^ p.height) c) ≡ reserveCode p c
-  unfolding reserveCode
-  reserve-code e = code-then (profileCauses p) (counterCauses (2 ^ p.height) c) (profile-numbered p) e
+  pub reserve-code : {n : ℕ} → n ≡ first_cause (profile_causes p) → then_first n (counter_causes (2 ^ p.height) c) ≡ reserve_code p c
+  unfolding reserve_code
+  reserve-code e = code_then (profile_causes p) (counter_causes (2 ^ p.height) c) (profile-numbered p) e
 
   -- past the causes of Reserve the profile is within its limits, and a leaf is left
-  pub can-reserve : reserveCode p c ≡ 0 → (firstCause (profileCauses p) ≡ 0) × LeafLeft (2 ^ p.height) c
-  unfolding reserveCode
-  can-reserve e =
-      let both = none-of-append (profileCauses p) (counterCauses (2 ^ p.height) c) (profile-numbered p) e in
-      (both.0, leaf-left (2 ^ p.height) c both.1)
+  pub can_reserve : reserve_code p c ≡ 0 → (first_cause (profile_causes p) ≡ 0) × LeafLeft (2 ^ p.height) c
+  unfolding reserve_code
+  can_reserve e =
+      let both = none-of-append (profile_causes p) (counter_causes (2 ^ p.height) c) (profile-numbered p) e in
+      (both.0, leaf_left (2 ^ p.height) c both.1)
 
   -- of a profile that passes its checks
-  module _ (passed : firstCause (profileCauses p) ≡ 0) where
-    reserve-counted : reserveCode p c ≡ firstCause (counterCauses (2 ^ p.height) c)
-    unfolding reserveCode
-    reserve-counted = none_then (profileCauses p) (counterCauses (2 ^ p.height) c) passed (profile-numbered p)
+  module _ (passed : first_cause (profile_causes p) ≡ 0) where
+    reserve-counted : reserve_code p c ≡ first_cause (counter_causes (2 ^ p.height) c)
+    unfolding reserve_code
+    reserve-counted = none_then (profile_causes p) (counter_causes (2 ^ p.height) c) passed (profile-numbered p)
 
-    pub reserve-granted : LeafLeft (2 ^ p.height) c → reserveCode p c ≡ 0
+    pub reserve-granted : LeafLeft (2 ^ p.height) c → reserve_code p c ≡ 0
     unfolding spent
-    reserve-granted free = reserve-counted ∙ rw (free.no-mark, lt-leb (2 ^ p.height) c.next free.left)
+    reserve-granted free = reserve-counted ∙ rw (free.no_mark, lt-leb (2 ^ p.height) c.next free.left)
 
-    pub reserve-spent : markCounts (2 ^ p.height) c ≡ false → 2 ^ p.height ≤ c.next → reserveCode p c ≡ 12
+    pub reserve-spent : mark_counts (2 ^ p.height) c ≡ false → 2 ^ p.height ≤ c.next → reserve_code p c ≡ 12
     unfolding spent
-    reserve-spent no-mark used = reserve-counted ∙ rw (no-mark, le-leb (2 ^ p.height) c.next used)
+    reserve-spent no_mark used = reserve-counted ∙ rw (no_mark, le-leb (2 ^ p.height) c.next used)
 
     -- unless the key is spent, a leaf is marked once Reserve has answered: by it, or before
-    pub reserve-marks : (reserveCode p c ≡ 12 → ⊥) → markCounts (2 ^ p.height) (counterAfter (reserveCode p c) c) ≡ true
-    unfolding counterAfter spent
-    reserve-marks unspent = by (markCounts (2 ^ p.height) c) (leb (2 ^ p.height) c.next) refl refl
+    pub reserve-marks : (reserve_code p c ≡ 12 → ⊥) → mark_counts (2 ^ p.height) (counter_after (reserve_code p c) c) ≡ true
+    unfolding counter_after spent
+    reserve-marks unspent = by (mark_counts (2 ^ p.height) c) (leb (2 ^ p.height) c.next) refl refl
       where
-        by : (mark used : Bool) → markCounts (2 ^ p.height) c ≡ mark → leb (2 ^ p.height) c.next ≡ used
-            → markCounts (2 ^ p.height) (counterAfter (reserveCode p c) c) ≡ true
-        by true used m u = let code : reserveCode p c ≡ 21 = reserve-counted ∙ rw m in rw code m
+        by : (mark used : Bool) → mark_counts (2 ^ p.height) c ≡ mark → leb (2 ^ p.height) c.next ≡ used
+            → mark_counts (2 ^ p.height) (counter_after (reserve_code p c) c) ≡ true
+        by true used m u = let code : reserve_code p c ≡ 21 = reserve-counted ∙ rw m in rw code m
         by false true m u = absurd (unspent (reserve-spent m (leb-true (2 ^ p.height) c.next u)))
         by false false m u =
             let left = leb-false (2 ^ p.height) c.next u in
-            rw (reserve-granted (record { no-mark = m; left = left })) (reserved-marked (2 ^ p.height) c left)
+            rw (reserve-granted (record { no_mark = m; left = left })) (reserved-marked (2 ^ p.height) c left)

@@ -1,22 +1,22 @@
 -- Document 02, point 5: "Reserve marks the next leaf and advances the key". What of a key counts its leaves, and what Reserve does to it,
 -- over any number of leaves.
 use Rattle.std.specs.Prelude.{◌≡◌, Bool, true, false, not, ◌&&◌, cond, List, [], ◌∷◌, ℕ, ◌+◌, ◌-◌, eqb, leb}
-use Rattle.refusal.specs.Code.{outcomeCode}
+use Rattle.refusal.specs.Code.{outcome_code}
 use Rattle.profile.specs.Checks.{outside}
 use Rattle.signing_key.specs.declared.Counter.{Counter}
 use Rattle.signing_key.specs.declared.Reserved.{Reserved}
 
 -- "Fresh means 0 in that field", the next leaf; "A fresh key has no mark"
-abbrev pub freshCounter : Counter
-freshCounter = record { next = 0; mark = false }
+abbrev pub fresh_counter : Counter
+fresh_counter = record { next = 0; mark = false }
 
 -- "A mark counts only with a next leaf of 1 to 2^h", and otherwise is "met as none": of so many leaves
-unfoldable pub markCounts : (leaves : ℕ) → Counter → Bool
-markCounts leaves c = c.mark && not (outside 1 leaves c.next)
+unfoldable pub mark_counts : (leaves : ℕ) → Counter → Bool
+mark_counts leaves c = c.mark && not (outside 1 leaves c.next)
 
 -- the marked leaf: Reserve has advanced the key past it
-abbrev pub markedLeaf : Counter → ℕ
-markedLeaf c = c.next - 1
+abbrev pub marked_leaf : Counter → ℕ
+marked_leaf c = c.next - 1
 
 -- "12 next leaf not below 2^h"
 unfoldable pub spent : (leaves : ℕ) → Counter → Bool
@@ -31,14 +31,14 @@ abbrev pub cleared : Counter → Counter
 cleared c = record { next = c.next; mark = false }
 
 -- "21 when reserve finds a mark, before 12"
-abbrev pub counterCauses : (leaves : ℕ) → Counter → List (Bool × ℕ)
-counterCauses leaves c = (markCounts leaves c, 21) ∷ (spent leaves c, 12) ∷ []
+abbrev pub counter_causes : (leaves : ℕ) → Counter → List (Bool × ℕ)
+counter_causes leaves c = (mark_counts leaves c, 21) ∷ (spent leaves c, 12) ∷ []
 
 -- the counter that comes back with the number of a cause, or 0: refused, as it came, an idle mark included
-unfoldable pub counterAfter : (number : ℕ) → Counter → Counter
-counterAfter number c = cond (eqb number 0) (reserved c) c
+unfoldable pub counter_after : (number : ℕ) → Counter → Counter
+counter_after number c = cond (eqb number 0) (reserved c) c
 
 -- the answer with that number, and the counter that comes back with it
 pub record AnswersWith (number : ℕ) (c : Counter) (answer : Reserved) : Type 0 where
-  pub code : outcomeCode answer.outcome ≡ number
-  pub counter : answer.counter ≡ counterAfter number c
+  pub code : outcome_code answer.outcome ≡ number
+  pub counter : answer.counter ≡ counter_after number c

@@ -1,8 +1,9 @@
 // A key, the counter of its leaves, and Reserve.
+#![tactic(auto)]
 ghost use Rattle.std.specs.Prelude.{◌≡◌, ◌+◌, ◌^◌, ◌<◌};
-ghost use Rattle.refusal.specs.Code.{outcomeCode, thenFirst};
+ghost use Rattle.refusal.specs.Code.{outcome_code, then_first};
 ghost use Rattle.signing_key.specs.Counter as spec;
-ghost use Rattle.signing_key.specs.Key.{recounted, restartedKey};
+ghost use Rattle.signing_key.specs.Key.{recounted, restarted_key};
 ghost use Rattle.signing_key.specs.Operations.{Reserves};
 
 use profile::{Profile, check_profile, leaf_count};
@@ -26,7 +27,7 @@ pub struct SigningKey {
 
 // Whether a leaf is reserved: there is a mark, and it counts.
 fn mark_counts(leaves: u64, c: Counter) -> bool
-    ensures { result ≡ spec.markCounts leaves c }
+    ensures { result ≡ spec.mark_counts leaves c }
 {
     let next = c.next as u64;
     if c.mark {
@@ -38,7 +39,7 @@ fn mark_counts(leaves: u64, c: Counter) -> bool
 
 // Whether a leaf of a profile's tree is reserved.
 pub fn mark_stands(p: Profile, c: Counter) -> bool
-    ensures { result ≡ spec.markCounts (2 ^ p.height) c }
+    ensures { result ≡ spec.mark_counts (2 ^ p.height) c }
 {
     let height = p.height;
     mark_counts(leaf_count(height), c)
@@ -53,7 +54,7 @@ fn spent(leaves: u64, c: Counter) -> bool
 
 // The causes of Reserve behind the outcome of the checks: 21, then 12.
 fn reserve_outcome(checked: Outcome, leaves: u64, c: Counter) -> Outcome
-    ensures { outcomeCode result ≡ thenFirst (outcomeCode checked) (spec.counterCauses leaves c) }
+    ensures { outcome_code result ≡ then_first (outcome_code checked) (spec.counter_causes leaves c) }
 {
     let standing = mark_counts(leaves, c);
     let used = spent(leaves, c);
@@ -82,8 +83,8 @@ pub struct Reserved {
 
 // Reserve over a number of leaves, behind the outcome of a key's checks.
 pub fn reserve_leaf(checked: Outcome, leaves: u64, c: Counter) -> Reserved
-    requires { outcomeCode checked ≡ 0 → leaves < 2 ^ 32 }
-    ensures { spec.AnswersWith (thenFirst (outcomeCode checked) (spec.counterCauses leaves c)) c result }
+    requires { outcome_code checked ≡ 0 → leaves < 2 ^ 32 }
+    ensures { spec.AnswersWith (then_first (outcome_code checked) (spec.counter_causes leaves c)) c result }
 {
     let outcome = reserve_outcome(checked, leaves, c);
     match outcome {
@@ -137,7 +138,7 @@ pub fn with_counter(key: SigningKey, c: Counter) -> SigningKey
 // The key with which a desk goes on after a restart, from the one that was stored: without a mark, since the stored key
 // does not tell whether the marked leaf has signed.
 pub fn restart(key: SigningKey) -> SigningKey
-    ensures { result ≡ restartedKey key }
+    ensures { result ≡ restarted_key key }
 {
     let found = key.counter;
     let cleared = clear(found);

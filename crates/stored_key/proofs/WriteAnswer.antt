@@ -7,147 +7,147 @@ use native.Mathlib.Omega.{arith}
 use borrow.Author.Tests.{le-ltb, ltb-false}
 use lib.Dec.{ltb}
 use lib.ListN.{length, take, drop, length-append}
-use Rattle.refusal.specs.Code.{outcomeCode, firstCause, thenCode}
+use Rattle.refusal.specs.Code.{outcome_code, first_cause, then_code}
 use Rattle.refusal.specs.declared.Refusal.{Refusal}
 use Rattle.refusal.specs.declared.Outcome.{Outcome}
 use Rattle.refusal.specs.declared.Outcome.TheVariants.{Refused}
-use Rattle.refusal.proofs.Causes.{none_then, none-of-append, none_here, refused-number, chain-begins, chain_next}
+use Rattle.refusal.proofs.Causes.{none_then, none-of-append, none_here, refused-number, chain_begins, chain_next}
 use Rattle.octets.specs.Bytes.{to_bytes}
 use Rattle.lists.proofs.Joins.{written_behind}
-use Rattle.hex.specs.Hex.{hexOf, lineEnd, line_of}
-use Rattle.hex.proofs.HexLaws.{length-hexOf, hexOf-append}
-use Rattle.hex.proofs.Writing.{length-lineOf}
-use Rattle.profile.specs.Checks.{profileCauses}
+use Rattle.hex_lines.specs.Hex.{hex_of, line_end, line_of}
+use Rattle.hex_lines.proofs.HexLaws.{length-hex_of, hex_of-append}
+use Rattle.hex_lines.proofs.Writing.{length-line_of}
+use Rattle.profile.specs.Checks.{profile_causes}
 use Rattle.profile.specs.declared.Profile.{Profile}
 use Rattle.profile.proofs.Limits.{profile-numbered}
-use Rattle.frames.specs.Frames.{editionByte}
+use Rattle.frames.specs.Frames.{edition_byte}
 use Rattle.frames.proofs.FrameLaws.{line-long}
-use Rattle.frames.proofs.FrameNumbers.{edition-byte}
-use Rattle.signing_key.specs.Counter.{markCounts}
+use Rattle.frames.proofs.FrameNumbers.{edition_byte_lem}
+use Rattle.signing_key.specs.Counter.{mark_counts}
 use Rattle.signing_key.specs.declared.SigningKey.{SigningKey}
-use Rattle.stored_key.specs.KeyFields.{seedField, secretField, nextField}
-use Rattle.stored_key.specs.KeyFrame.{keyBytes, withoutIdleMark, storedKey}
-use Rattle.stored_key.specs.Operations.{writeKeyCode, bytesWritten, frameAfter, WritesKey}
-use Rattle.stored_key.specs.inner.Parts.{fieldPlace, frameLength, lastLength, frontBytes, lastBytes}
+use Rattle.stored_key.specs.KeyFields.{seed_field, secret_field, next_field}
+use Rattle.stored_key.specs.KeyFrame.{key_bytes, without_idle_mark, stored_key}
+use Rattle.stored_key.specs.Operations.{write_key_code, bytes_written, frame_after, WritesKey}
+use Rattle.stored_key.specs.inner.Parts.{field_place, frame_length, last_length, front_bytes, last_bytes}
 use Rattle.stored_key.specs.declared.writer.KeyWritten.{KeyWritten}
-use Rattle.stored_key.proofs.KeyLaws.{key-parts, key-bytes-long}
+use Rattle.stored_key.proofs.KeyLaws.{key_parts, key-bytes-long}
 
 -- bytes that are written behind others, and a line
-module _ (front bytes o : List ℕ) (at : ℕ) {out out' : List ℕ} (long : 2 * length front ≡ at) (e : out ≡ hexOf front ++ drop at o) where
-  bytes-behind : out' ≡ take at out ++ hexOf bytes ++ drop (at + 2 * length bytes) out → out' ≡ hexOf (front ++ bytes) ++ drop (at + 2 * length bytes) o
-  bytes-behind w = written_behind (hexOf front) (hexOf bytes) o at (2 * length bytes) (length-hexOf front ∙ long) e w ∙ rw (hexOf-append front bytes)
+module _ (front bytes o : List ℕ) (at : ℕ) {out out' : List ℕ} (long : 2 * length front ≡ at) (e : out ≡ hex_of front ++ drop at o) where
+  bytes-behind : out' ≡ take at out ++ hex_of bytes ++ drop (at + 2 * length bytes) out → out' ≡ hex_of (front ++ bytes) ++ drop (at + 2 * length bytes) o
+  bytes-behind w = written_behind (hex_of front) (hex_of bytes) o at (2 * length bytes) (length-hex_of front ∙ long) e w ∙ rw (hex_of-append front bytes)
 
   line-behind : {end : ℕ} → end ≡ at + length (line_of bytes) → out' ≡ take at out ++ line_of bytes ++ drop end out → out' ≡ line_of (front ++ bytes) ++ drop end o
   unfolding line_of
   line-behind {end} q w =
-      written_behind (hexOf front) (line_of bytes) o at (length (line_of bytes)) (length-hexOf front ∙ long) e (w ∙ rw q)
-      ∙ rw (← q, hexOf-append front bytes) (ap (λ l. l ++ drop end o) (sym (append_assoc (hexOf front) (hexOf bytes) (lineEnd ∷ []))))
+      written_behind (hex_of front) (line_of bytes) o at (length (line_of bytes)) (length-hex_of front ∙ long) e (w ∙ rw q)
+      ∙ rw (← q, hex_of-append front bytes) (ap (λ l. l ++ drop end o) (sym (append_assoc (hex_of front) (hex_of bytes) (line_end ∷ []))))
 
 -- what stands in front of the seeds, of a head with the byte of edition 2
-pub front-taken : (p : Profile) {head : List ℕ} → head ≡ 7 ∷ p.shape.chains ∷ p.shape.width ∷ p.height ∷ (to_bytes 2 p.shape.sum ++ editionByte 2)
-    → take (fieldPlace seedField) head ≡ frontBytes p
+pub front-taken : (p : Profile) {head : List ℕ} → head ≡ 7 ∷ p.shape.chains ∷ p.shape.width ∷ p.height ∷ (to_bytes 2 p.shape.sum ++ edition_byte 2)
+    → take (field_place seed_field) head ≡ front_bytes p
 unfolding to_bytes
-front-taken p e = ap (take (fieldPlace seedField)) e
+front-taken p e = ap (take (field_place seed_field)) e
 
-pub front_long : (p : Profile) → length (frontBytes p) ≡ fieldPlace seedField
+pub front_long : (p : Profile) → length (front_bytes p) ≡ field_place seed_field
 unfolding to_bytes
 front_long p = refl
 
 -- what stands in front of the last bytes
 pub front-written : (p : Profile) (seed secret o : List ℕ) {o₁ o₂ o₃ : List ℕ} → length seed ≡ 16 → length secret ≡ 16
-    → o₁ ≡ take 0 o ++ hexOf (frontBytes p) ++ drop (0 + 2 * length (frontBytes p)) o
-    → o₂ ≡ take (2 * fieldPlace seedField) o₁ ++ hexOf seed ++ drop (2 * fieldPlace seedField + 2 * length seed) o₁
-    → o₃ ≡ take (2 * fieldPlace secretField) o₂ ++ hexOf secret ++ drop (2 * fieldPlace secretField + 2 * length secret) o₂
-    → o₃ ≡ hexOf (frontBytes p ++ seed ++ secret) ++ drop (2 * fieldPlace nextField) o
+    → o₁ ≡ take 0 o ++ hex_of (front_bytes p) ++ drop (0 + 2 * length (front_bytes p)) o
+    → o₂ ≡ take (2 * field_place seed_field) o₁ ++ hex_of seed ++ drop (2 * field_place seed_field + 2 * length seed) o₁
+    → o₃ ≡ take (2 * field_place secret_field) o₂ ++ hex_of secret ++ drop (2 * field_place secret_field + 2 * length secret) o₂
+    → o₃ ≡ hex_of (front_bytes p ++ seed ++ secret) ++ drop (2 * field_place next_field) o
 unfolding to_bytes
-front-written p seed secret o seed-long secret-long e₁ e₂ e₃ =
-    let front : List ℕ = frontBytes p in
-    let second = rw seed-long at (bytes-behind front seed o (2 * fieldPlace seedField) refl e₁ e₂) in
-    let long : 2 * length (front ++ seed) ≡ 2 * fieldPlace secretField = omega (arith, length-append front seed) in
-    bytes-behind (front ++ seed) secret o (2 * fieldPlace secretField) long second e₃ ∙ rw secret-long
+front-written p seed secret o seed_long secret_long e₁ e₂ e₃ =
+    let front : List ℕ = front_bytes p in
+    let second = rw seed_long at (bytes-behind front seed o (2 * field_place seed_field) refl e₁ e₂) in
+    let long : 2 * length (front ++ seed) ≡ 2 * field_place secret_field = omega (arith, length-append front seed) in
+    bytes-behind (front ++ seed) secret o (2 * field_place secret_field) long second e₃ ∙ rw secret_long
 
-pub last-long : (next : ℕ) (mark : Bool) (edition : ℕ) → length (lastBytes next mark edition) ≡ lastLength + length (editionByte edition)
+pub last-long : (next : ℕ) (mark : Bool) (edition : ℕ) → length (last_bytes next mark edition) ≡ last_length + length (edition_byte edition)
 unfolding to_bytes
 last-long next mark edition = omega arith
 
 -- the last bytes of edition 2, as far as another edition has them
-pub last_taken : (next : ℕ) (mark : Bool) (edition count : ℕ) {last : List ℕ} → count ≡ lastLength + length (editionByte edition) → last ≡ lastBytes next mark 2
-    → take count last ≡ lastBytes next mark edition
-unfolding to_bytes editionByte
+pub last_taken : (next : ℕ) (mark : Bool) (edition count : ℕ) {last : List ℕ} → count ≡ last_length + length (edition_byte edition) → last ≡ last_bytes next mark 2
+    → take count last ≡ last_bytes next mark edition
+unfolding to_bytes edition_byte
 last_taken next mark edition count e w =
-    rw (e, w) (edition-byte (λ ending. take (lastLength + length ending) (lastBytes next mark 2) ≡ to_bytes 4 next
+    rw (e, w) (edition_byte_lem (λ ending. take (last_length + length ending) (last_bytes next mark 2) ≡ to_bytes 4 next
     ++ (cond mark 1 0 ∷ ending)) edition refl refl)
 
-module _ (key : SigningKey) (seed-long : length key.seed ≡ 16) (secret-long : length key.secret ≡ 16) where
+module _ (key : SigningKey) (seed_long : length key.seed ≡ 16) (secret_long : length key.secret ≡ 16) where
   -- how long the frame is
-  pub stored-long : length (storedKey key) ≡ 2 * (frameLength + length (editionByte key.profile.edition)) + 1
-  unfolding storedKey withoutIdleMark
-  stored-long = line-long (7 ∷ []) (keyBytes (withoutIdleMark key)) ∙ omega (arith, key-bytes-long (withoutIdleMark key) seed-long secret-long)
+  pub stored-long : length (stored_key key) ≡ 2 * (frame_length + length (edition_byte key.profile.edition)) + 1
+  unfolding stored_key without_idle_mark
+  stored-long = line-long (7 ∷ []) (key_bytes (without_idle_mark key)) ∙ omega (arith, key-bytes-long (without_idle_mark key) seed_long secret_long)
 
   -- the whole frame
-  pub frame-written : (o : List ℕ) {o₁ o₂ last : List ℕ} {end : ℕ}
-      → o₁ ≡ hexOf (frontBytes key.profile ++ key.seed ++ key.secret) ++ drop (2 * fieldPlace nextField) o
-      → last ≡ lastBytes key.counter.next (markCounts (2 ^ key.profile.height) key.counter) key.profile.edition
-      → end ≡ 2 * fieldPlace nextField + length (line_of last) → o₂ ≡ take (2 * fieldPlace nextField) o₁ ++ line_of last ++ drop end o₁
-      → (end ≡ length (storedKey key))
-      × (o₂ ≡ storedKey key ++ drop end o)
-  unfolding storedKey withoutIdleMark to_bytes
-  frame-written o {end} e₁ l q e₂ =
-      let front : List ℕ = frontBytes key.profile in
+  pub frame_written : (o : List ℕ) {o₁ o₂ last : List ℕ} {end : ℕ}
+      → o₁ ≡ hex_of (front_bytes key.profile ++ key.seed ++ key.secret) ++ drop (2 * field_place next_field) o
+      → last ≡ last_bytes key.counter.next (mark_counts (2 ^ key.profile.height) key.counter) key.profile.edition
+      → end ≡ 2 * field_place next_field + length (line_of last) → o₂ ≡ take (2 * field_place next_field) o₁ ++ line_of last ++ drop end o₁
+      → (end ≡ length (stored_key key))
+      × (o₂ ≡ stored_key key ++ drop end o)
+  unfolding stored_key without_idle_mark to_bytes
+  frame_written o {end} e₁ l q e₂ =
+      let front : List ℕ = front_bytes key.profile in
       let seeds : List ℕ = front ++ key.seed ++ key.secret in
-      let last : List ℕ = lastBytes key.counter.next (markCounts (2 ^ key.profile.height) key.counter) key.profile.edition in
-      let long : 2 * length seeds ≡ 2 * fieldPlace nextField = omega
+      let last : List ℕ = last_bytes key.counter.next (mark_counts (2 ^ key.profile.height) key.counter) key.profile.edition in
+      let long : 2 * length seeds ≡ 2 * field_place next_field = omega
       (arith, length-append (front ++ key.seed) key.secret, length-append front key.seed) in (
-        omega (arith, stored-long, length-lineOf last, ap (λ l. length (line_of l)) l),
-        line-behind seeds last o (2 * fieldPlace nextField) long e₁ (q ∙ rw l) (e₂ ∙ rw l)
-            ∙ ap (λ l. line_of l ++ drop end o) (sym (key-parts (withoutIdleMark key))),
+        omega (arith, stored-long, length-line_of last, ap (λ l. length (line_of l)) l),
+        line-behind seeds last o (2 * field_place next_field) long e₁ (q ∙ rw l) (e₂ ∙ rw l)
+            ∙ ap (λ l. line_of l ++ drop end o) (sym (key_parts (without_idle_mark key))),
       )
 
 -- the causes one after another, and the answer behind them
 module _ (key : SigningKey) (frame : List ℕ) where
   abbrev late : List (Bool × ℕ)
-  late = (ltb (length frame) (length (storedKey key)), 6) ∷ []
+  late = (ltb (length frame) (length (stored_key key)), 6) ∷ []
 
-  pub write-code : {n m : ℕ} {short : Bool} → n ≡ firstCause (profileCauses key.profile) → short ≡ ltb (length frame) (length (storedKey key))
-      → m ≡ thenCode n short 6 → m ≡ writeKeyCode key frame
-  unfolding writeKeyCode
-  write-code checked means e = (chain_next 6 refl (chain-begins (profileCauses key.profile) (profile-numbered key.profile) checked) means e).answer
+  pub write_code : {n m : ℕ} {short : Bool} → n ≡ first_cause (profile_causes key.profile) → short ≡ ltb (length frame) (length (stored_key key))
+      → m ≡ then_code n short 6 → m ≡ write_key_code key frame
+  unfolding write_key_code
+  write_code checked means e = (chain_next 6 refl (chain_begins (profile_causes key.profile) (profile-numbered key.profile) checked) means e).answer
 
   -- granted, none of them holds
-  none-held : writeKeyCode key frame ≡ 0 → (firstCause (profileCauses key.profile) ≡ 0) × (firstCause late ≡ 0)
-  unfolding writeKeyCode
-  none-held zero = none-of-append (profileCauses key.profile) late (profile-numbered key.profile) zero
+  none-held : write_key_code key frame ≡ 0 → (first_cause (profile_causes key.profile) ≡ 0) × (first_cause late ≡ 0)
+  unfolding write_key_code
+  none-held zero = none-of-append (profile_causes key.profile) late (profile-numbered key.profile) zero
 
-  pub granted-passed : writeKeyCode key frame ≡ 0 → firstCause (profileCauses key.profile) ≡ 0
+  pub granted-passed : write_key_code key frame ≡ 0 → first_cause (profile_causes key.profile) ≡ 0
   granted-passed zero = (none-held zero).0
 
-  pub granted-room : writeKeyCode key frame ≡ 0 → length (storedKey key) ≤ length frame
+  pub granted-room : write_key_code key frame ≡ 0 → length (stored_key key) ≤ length frame
   granted-room zero =
-      ltb-false (length frame) (length (storedKey key)) (none_here (ltb (length frame) (length (storedKey key))) 6 [] refl (none-held zero).1).0
+      ltb-false (length frame) (length (stored_key key)) (none_here (ltb (length frame) (length (stored_key key))) 6 [] refl (none-held zero).1).0
 
   -- and where there is room, none behind the profile's
-  pub room-granted : firstCause (profileCauses key.profile) ≡ 0 → length (storedKey key) ≤ length frame → writeKeyCode key frame ≡ 0
-  unfolding writeKeyCode
+  pub room-granted : first_cause (profile_causes key.profile) ≡ 0 → length (stored_key key) ≤ length frame → write_key_code key frame ≡ 0
+  unfolding write_key_code
   room-granted none room =
-      none_then (profileCauses key.profile) late none (profile-numbered key.profile)
-      ∙ rw (le-ltb (length frame) (length (storedKey key)) room)
+      none_then (profile_causes key.profile) late none (profile-numbered key.profile)
+      ∙ rw (le-ltb (length frame) (length (stored_key key)) room)
 
   -- what is left where nothing is refused
-  pub granted-written : {frame' : List ℕ} {made : KeyWritten} → WritesKey key frame frame' made → writeKeyCode key frame ≡ 0
-      → (made.length ≡ length (storedKey key)) × (frame' ≡ storedKey key ++ drop (length (storedKey key)) frame)
-  unfolding bytesWritten frameAfter
+  pub granted-written : {frame' : List ℕ} {made : KeyWritten} → WritesKey key frame frame' made → write_key_code key frame ≡ 0
+      → (made.length ≡ length (stored_key key)) × (frame' ≡ stored_key key ++ drop (length (stored_key key)) frame)
+  unfolding bytes_written frame_after
   granted-written w zero = (rw zero at w.bytes, rw zero at w.written)
 
-  module _ (o : Outcome) (answer : outcomeCode o ≡ writeKeyCode key frame) where
+  module _ (o : Outcome) (answer : outcome_code o ≡ write_key_code key frame) where
     pub key-refused : (r : Refusal) → o ≡ Refused r → WritesKey key frame frame (record { outcome = o; length = 0 })
-    unfolding bytesWritten frameAfter
+    unfolding bytes_written frame_after
     key-refused r q =
-        let some = refused-number o (writeKeyCode key frame) r answer q in
+        let some = refused-number o (write_key_code key frame) r answer q in
         record { code = answer; bytes = rw some; written = rw some }
 
-    pub key-written : {frame' : List ℕ} {end : ℕ} → outcomeCode o ≡ 0 → end ≡ length (storedKey key) → frame' ≡ storedKey key ++ drop end frame
+    pub key-written : {frame' : List ℕ} {end : ℕ} → outcome_code o ≡ 0 → end ≡ length (stored_key key) → frame' ≡ stored_key key ++ drop end frame
         → WritesKey key frame frame' (record { outcome = o; length = end })
-    unfolding bytesWritten frameAfter
+    unfolding bytes_written frame_after
     key-written zero e w =
-        let none : writeKeyCode key frame ≡ 0 = sym answer ∙ zero in
+        let none : write_key_code key frame ≡ 0 = sym answer ∙ zero in
         record { code = answer; bytes = rw none e; written = rw none (w ∙ rw e) }

@@ -3,40 +3,40 @@
 use Rattle.std.specs.Prelude.{List, [], ◌∷◌, ℕ, ◌+◌, get_or, take, drop}
 
 -- how many bytes each field has, in their order
-abbrev pub fieldSizes : List ℕ
-fieldSizes = 1 ∷ 1 ∷ 1 ∷ 2 ∷ 16 ∷ 16 ∷ 4 ∷ 1 ∷ []
+abbrev pub field_sizes : List ℕ
+field_sizes = 1 ∷ 1 ∷ 1 ∷ 2 ∷ 16 ∷ 16 ∷ 4 ∷ 1 ∷ []
 
 -- the fields by their numbers in the list: "l"
-abbrev pub chainsField : ℕ
-chainsField = 0
+abbrev pub chains_field : ℕ
+chains_field = 0
 
 -- "w"
-abbrev pub widthField : ℕ
-widthField = 1
+abbrev pub width_field : ℕ
+width_field = 1
 
 -- "h"
-abbrev pub heightField : ℕ
-heightField = 2
+abbrev pub height_field : ℕ
+height_field = 2
 
 -- "s (2)"
-abbrev pub sumField : ℕ
-sumField = 3
+abbrev pub sum_field : ℕ
+sum_field = 3
 
 -- "public seed"
-abbrev pub seedField : ℕ
-seedField = 4
+abbrev pub seed_field : ℕ
+seed_field = 4
 
 -- "secret seed"
-abbrev pub secretField : ℕ
-secretField = 5
+abbrev pub secret_field : ℕ
+secret_field = 5
 
 -- "next leaf (4)"
-abbrev pub nextField : ℕ
-nextField = 6
+abbrev pub next_field : ℕ
+next_field = 6
 
 -- "mark (00 or 01)"
-abbrev pub markField : ℕ
-markField = 7
+abbrev pub mark_field : ℕ
+mark_field = 7
 
 -- how many bytes fields have together
 abbrev pub bytes_of : List ℕ → ℕ
@@ -45,16 +45,16 @@ bytes_of (n ∷ more) = n + bytes_of more
 
 -- where a field begins: behind the bytes of those before it
 abbrev pub offset : (field : ℕ) → ℕ
-offset field = bytes_of (take field fieldSizes)
+offset field = bytes_of (take field field_sizes)
 
 -- how many bytes the fields have; behind them stands the edition's byte, where there is one
-abbrev pub keyLength : ℕ
-keyLength = bytes_of fieldSizes
+abbrev pub key_length : ℕ
+key_length = bytes_of field_sizes
 
 -- the bytes of a field
-abbrev pub fieldIn : (field : ℕ) (bytes : List ℕ) → List ℕ
-fieldIn field bytes = take (get_or fieldSizes field 0) (drop (offset field) bytes)
+abbrev pub field_in : (field : ℕ) (bytes : List ℕ) → List ℕ
+field_in field bytes = take (get_or field_sizes field 0) (drop (offset field) bytes)
 
 -- the byte of a field that has one
-abbrev pub byteIn : (field : ℕ) (bytes : List ℕ) → ℕ
-byteIn field bytes = get_or bytes (offset field) 0
+abbrev pub byte_in : (field : ℕ) (bytes : List ℕ) → ℕ
+byte_in field bytes = get_or bytes (offset field) 0

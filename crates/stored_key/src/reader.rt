@@ -1,15 +1,15 @@
 // Read key: the key of a frame.
 ghost use Rattle.std.specs.Prelude.{◌≡◌, cond, ◌+◌, ◌*◌, ◌≤◌, eqb, length, drop};
-ghost use Rattle.stored_key.specs.KeyFields.{keyLength};
-ghost use Rattle.stored_key.specs.KeyFrame.{keyIn, withoutIdleMark};
+ghost use Rattle.stored_key.specs.KeyFields.{key_length};
+ghost use Rattle.stored_key.specs.KeyFrame.{key_in, without_idle_mark};
 ghost use Rattle.stored_key.specs.Operations.{ReadsKey};
-ghost use Rattle.stored_key.specs.inner.Parts.{frameLength, framedTest, RefusesFrame};
+ghost use Rattle.stored_key.specs.inner.Parts.{frame_length, framed_test, RefusesFrame};
 
 use super::fields::{
     CHAINS_AT, FRAME_BYTES, HEIGHT_AT, LINE_LENGTH, MARK_AT, NEXT_AT, SECRET_AT, SEED_AT, SUM_AT,
     WIDTH_AT,
 };
-use hex::read_line;
+use hex_lines::read_line;
 use octets::{read_16, word_at};
 use profile::{Profile, Shape, check_profile};
 use refusal::{Outcome, Refusal};
@@ -52,8 +52,8 @@ fn refused() -> KeyRead
 
 // Whether the kind, the mark and the edition's byte of a frame's bytes are right. The last stands in edition 2 alone.
 fn is_framed(bytes: &[u8]) -> bool
-    requires { frameLength ≤ length bytes.now }
-    ensures { result ≡ framedTest bytes.now }
+    requires { frame_length ≤ length bytes.now }
+    ensures { result ≡ framed_test bytes.now }
 {
     if bytes[0] != 7 {
         return false;
@@ -69,15 +69,15 @@ fn is_framed(bytes: &[u8]) -> bool
 
 // The edition of a frame with so many bytes behind its kind: in edition 2 one more than the fields have.
 fn edition_of(behind: usize) -> u32
-    ensures { result ≡ cond (eqb behind (keyLength + 1)) 2 1 }
+    ensures { result ≡ cond (eqb behind (key_length + 1)) 2 1 }
 {
     if behind == FRAME_BYTES { 2 } else { 1 }
 }
 
 // The profile in a frame's bytes.
 fn profile_in(bytes: &[u8]) -> Profile
-    requires { frameLength ≤ length bytes.now }
-    ensures { result ≡ (keyIn (drop 1 bytes.now)).profile }
+    requires { frame_length ≤ length bytes.now }
+    ensures { result ≡ (key_in (drop 1 bytes.now)).profile }
 {
     let edition = edition_of(bytes.len() - 1);
     let sum = 256 * bytes[SUM_AT] as u32 + bytes[SUM_AT + 1] as u32;
@@ -94,8 +94,8 @@ fn profile_in(bytes: &[u8]) -> Profile
 
 // The key in a frame's bytes. A mark that does not count is read as none.
 fn key_in(bytes: &[u8]) -> SigningKey
-    requires { frameLength ≤ length bytes.now }
-    ensures { result ≡ withoutIdleMark (keyIn (drop 1 bytes.now)) }
+    requires { frame_length ≤ length bytes.now }
+    ensures { result ≡ without_idle_mark (key_in (drop 1 bytes.now)) }
 {
     let p = profile_in(bytes);
     let seed = read_16(bytes, SEED_AT);
@@ -119,7 +119,7 @@ fn key_in(bytes: &[u8]) -> SigningKey
 
 // Read key for a frame as long as a line of so many bytes as the slice has, into which it is read.
 fn read_sized(frame: &[u8], bytes: &mut [u8]) -> KeyRead
-    requires { (frameLength ≤ length bytes.old) × (length bytes.old ≤ frameLength + 1)
+    requires { (frame_length ≤ length bytes.old) × (length bytes.old ≤ frame_length + 1)
         × (length frame.now ≡ 2 * length bytes.old + 1) }
     ensures { ReadsKey frame.now result }
 {

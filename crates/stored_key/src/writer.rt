@@ -1,16 +1,16 @@
 // Write key: the frame of a key.
 ghost use Rattle.std.specs.Prelude.{◌≡◌, cond, ◌++◌, ◌+◌, ◌*◌, ◌^◌, ◌≤◌, length, drop};
-ghost use Rattle.hex.specs.Hex.{hexOf};
-ghost use Rattle.frames.specs.Frames.{SizesInLimits, editionByte};
+ghost use Rattle.hex_lines.specs.Hex.{hex_of};
+ghost use Rattle.frames.specs.Frames.{SizesInLimits, edition_byte};
 ghost use Rattle.signing_key.specs.Counter as counting;
-ghost use Rattle.stored_key.specs.KeyFields.{nextField};
-ghost use Rattle.stored_key.specs.KeyFrame.{storedKey};
+ghost use Rattle.stored_key.specs.KeyFields.{next_field};
+ghost use Rattle.stored_key.specs.KeyFrame.{stored_key};
 ghost use Rattle.stored_key.specs.Operations.{WritesKey};
-ghost use Rattle.stored_key.specs.inner.Parts.{fieldPlace, frameLength, frontBytes, lastBytes};
+ghost use Rattle.stored_key.specs.inner.Parts.{field_place, frame_length, front_bytes, last_bytes};
 
 use super::fields::{LAST_BYTES, LINE_LENGTH, NEXT_AT, SECRET_AT, SEED_AT};
 use frames::{edition_bytes, profile_head};
-use hex::{write_bytes, write_line};
+use hex_lines::{write_bytes, write_line};
 use octets::word_bytes;
 use profile::{Profile, check_profile};
 use refusal::{Outcome, Refusal};
@@ -32,7 +32,7 @@ fn mark_byte(mark: bool) -> u8
 
 // The bytes behind the seeds, as in edition 2: in edition 1 the last is left out. A mark that does not count is written as none.
 fn last_bytes(p: Profile, counter: Counter) -> [u8; 6]
-    ensures { result ≡ lastBytes counter.next (counting.markCounts (2 ^ p.height) counter) 2 }
+    ensures { result ≡ last_bytes counter.next (counting.mark_counts (2 ^ p.height) counter) 2 }
 {
     let next = word_bytes(counter.next);
     let mark = mark_byte(mark_stands(p, counter));
@@ -41,8 +41,8 @@ fn last_bytes(p: Profile, counter: Counter) -> [u8; 6]
 
 // Writes the frame of a key up to behind its seeds.
 fn write_front(p: Profile, seed: [u8; 16], secret: [u8; 16], frame: &mut [u8])
-    requires { SizesInLimits p × (2 * fieldPlace nextField ≤ length frame.old) }
-    ensures { frame.new ≡ hexOf (frontBytes p ++ seed ++ secret) ++ drop (2 * fieldPlace nextField) frame.old }
+    requires { SizesInLimits p × (2 * field_place next_field ≤ length frame.old) }
+    ensures { frame.new ≡ hex_of (front_bytes p ++ seed ++ secret) ++ drop (2 * field_place next_field) frame.old }
 {
     let front = profile_head(7, p);
     write_bytes(frame, 0, &front[..SEED_AT]);
@@ -53,8 +53,8 @@ fn write_front(p: Profile, seed: [u8; 16], secret: [u8; 16], frame: &mut [u8])
 // Writes the frame of a key, and gives the index behind it.
 fn write_frame(key: SigningKey, frame: &mut [u8]) -> usize
     requires { SizesInLimits key.profile
-        × (2 * (frameLength + length (editionByte key.profile.edition)) + 1 ≤ length frame.old) }
-    ensures { (result ≡ length (storedKey key)) × (frame.new ≡ storedKey key ++ drop result frame.old) }
+        × (2 * (frame_length + length (edition_byte key.profile.edition)) + 1 ≤ length frame.old) }
+    ensures { (result ≡ length (stored_key key)) × (frame.new ≡ stored_key key ++ drop result frame.old) }
 {
     let p = key.profile;
     let seed = key.seed;

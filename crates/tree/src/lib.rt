@@ -1,9 +1,10 @@
 // The tree over the leaf keys: nodes, the way up from a leaf, the root from what a signature shows, and Root.
+#![tactic(auto)]
 ghost use Rattle.std.specs.Prelude.{◌≡◌, ◌++◌, ◌+◌, ◌-◌, ◌*◌, ◌^◌, ◌≤◌, ◌<◌, length, take, drop};
 ghost use Rattle.tweak.specs.Tweak.{Seeded};
-ghost use Rattle.chains.specs.Leaves.{ChainsFit, leafKey, stepsLeft};
+ghost use Rattle.chains.specs.Leaves.{ChainsFit, leaf_key, steps_left};
 ghost use Rattle.merkle.specs.Nodes.{node as nodeAt};
-ghost use Rattle.tree.specs.Tree.{rootAt, siblingsOf, recoveredRoot};
+ghost use Rattle.tree.specs.Tree.{root_at, siblings_of, recovered_root};
 ghost use Rattle.tree.specs.Operations.{Roots};
 
 use chains::leaves::{key_of_leaf, recover_key};
@@ -39,7 +40,7 @@ pub struct RootFound {
 pub fn node(hasher: Hasher, chains: Chains, secret: &[u8; 16], height: u32, index: u32) -> [u8; 16]
     requires seeded { Seeded hasher }
     requires chains_fit { ChainsFit chains × (height ≤ 31) × (index < 2 ^ (31 - height)) }
-    ensures { result ≡ nodeAt hasher.domain (leafKey hasher.domain chains secret.now) height index }
+    ensures { result ≡ nodeAt hasher.domain (leaf_key hasher.domain chains secret.now) height index }
 {
     if height == 0 {
         return key_of_leaf(hasher, chains, secret, Leaf(index));
@@ -61,7 +62,7 @@ pub fn write_path(
 )
     requires seeded { Seeded hasher }
     requires chains_fit { ChainsFit chains × (height ≤ 31) × (leaf < 2 ^ height) × (16 * height ≤ length out.old) }
-    ensures { out.new ≡ siblingsOf hasher.domain chains secret.now height leaf
+    ensures { out.new ≡ siblings_of hasher.domain chains secret.now height leaf
         ++ drop (16 * height) out.old }
 {
     let mut index = leaf;
@@ -78,8 +79,8 @@ pub fn write_path(
 pub fn way_up(hasher: Hasher, chains: Chains, secret: &[u8; 16], height: u32, leaf: u32) -> Way
     requires seeded { Seeded hasher }
     requires chains_fit { ChainsFit chains × (height ≤ 10) × (leaf < 2 ^ height) }
-    ensures siblings { take (16 * height) result.siblings ≡ siblingsOf hasher.domain chains secret.now height leaf }
-    ensures root { result.root ≡ rootAt hasher.domain chains secret.now height }
+    ensures siblings { take (16 * height) result.siblings ≡ siblings_of hasher.domain chains secret.now height leaf }
+    ensures root { result.root ≡ root_at hasher.domain chains secret.now height }
 {
     let mut siblings = [0u8; 160];
     write_path(hasher, chains, secret, height, leaf, &mut siblings);
@@ -103,8 +104,8 @@ pub fn recover_root(
 ) -> RootFound
     requires seeded { Seeded hasher }
     requires chains_fit { ChainsFit chains × (16 * chains.count ≤ length values.now) × (16 * height ≤ length siblings.now) }
-    ensures root { result.root ≡ recoveredRoot hasher.domain chains height leaf row values.now siblings.now }
-    ensures steps { result.steps ≡ stepsLeft chains row }
+    ensures root { result.root ≡ recovered_root hasher.domain chains height leaf row values.now siblings.now }
+    ensures steps { result.steps ≡ steps_left chains row }
 {
     let found = recover_key(hasher, chains, Leaf(leaf), row, values);
     let key = found.key;

@@ -4,6 +4,7 @@
 // The input is the number of calls, and for each one how many words it is lent and how many bytes in three slices; the bytes:
 // a label, which begins the line, and two slices that a call may write; the operation; and what else it takes. Every number
 // has four bytes, most significant first.
+#![tactic(auto)]
 mod bits;
 mod calls;
 mod hash;

@@ -1,9 +1,10 @@
 // Addresses (FIPS 205) and the tweaked hash.
+#![tactic(auto)]
 ghost use Rattle.std.specs.Prelude.{◌≡◌, ◌++◌, take};
 ghost use Rattle.sha256.specs.Digest.{padding, word_bytes};
-ghost use Rattle.sha256.specs.Running.{addState, finished, hashed};
-ghost use Rattle.tweak.specs.Tweak.{firstDomain, address as address_of, chainStepAddress, leafKeyAddress, nodeAddress};
-ghost use Rattle.tweak.specs.Tweak.{chainStartAddress, seedBlock, tweakedHash, Seeded};
+ghost use Rattle.sha256.specs.Running.{add_state, finished, hashed};
+ghost use Rattle.tweak.specs.Tweak.{first_domain, address as address_of, chain_step_address, leaf_key_address, node_address};
+ghost use Rattle.tweak.specs.Tweak.{chain_start_address, seed_block, tweaked_hash, Seeded};
 
 use octets::{read_16, word_bytes, write_16};
 use sha256::{Hash, put};
@@ -72,28 +73,28 @@ fn address(d: Domain, kind: u8, first: u32, second: u32, third: u32) -> [u8; 22]
 
 // The address of a chain step (type 0), by the height before it.
 pub fn chain_step_address(d: Domain, leaf: Leaf, chain: Chain, height: Height) -> [u8; 22]
-    ensures { result ≡ chainStepAddress d leaf.0 chain.0 height.0 }
+    ensures { result ≡ chain_step_address d leaf.0 chain.0 height.0 }
 {
     address(d, 0, leaf.0, chain.0, height.0)
 }
 
 // The address of a leaf key (type 1).
 pub fn leaf_key_address(d: Domain, leaf: Leaf) -> [u8; 22]
-    ensures { result ≡ leafKeyAddress d leaf.0 }
+    ensures { result ≡ leaf_key_address d leaf.0 }
 {
     address(d, 1, leaf.0, 0, 0)
 }
 
 // The address of a node (type 2), by its own height and its index there.
 pub fn node_address(d: Domain, height: u32, index: u32) -> [u8; 22]
-    ensures { result ≡ nodeAddress d height index }
+    ensures { result ≡ node_address d height index }
 {
     address(d, 2, 0, height, index)
 }
 
 // The address of a chain's start (type 5).
 pub fn chain_start_address(d: Domain, leaf: Leaf, chain: Chain) -> [u8; 22]
-    ensures { result ≡ chainStartAddress d leaf.0 chain.0 }
+    ensures { result ≡ chain_start_address d leaf.0 chain.0 }
 {
     address(d, 5, leaf.0, chain.0, 0)
 }
@@ -115,7 +116,7 @@ pub fn seeded(d: Domain) -> Hasher
 
 // The hasher of the layer 0 and the tree 0.
 pub fn first_hasher(seed: [u8; 16]) -> Hasher
-    ensures domain { result.domain ≡ firstDomain seed }
+    ensures domain { result.domain ≡ first_domain seed }
     ensures ready { Seeded result }
 {
     seeded(Domain {
@@ -128,7 +129,7 @@ pub fn first_hasher(seed: [u8; 16]) -> Hasher
 // The running hash of a tweaked hash, before its data.
 pub fn begin(hasher: Hasher, address: [u8; 22]) -> Hash
     requires { Seeded hasher }
-    ensures { result ≡ hashed (seedBlock hasher.domain.seed ++ address) }
+    ensures { result ≡ hashed (seed_block hasher.domain.seed ++ address) }
 {
     let words = hasher.words;
     let state = Hash {
@@ -142,7 +143,7 @@ pub fn begin(hasher: Hasher, address: [u8; 22]) -> Hash
 
 // The running hash after a value more.
 pub fn absorb(hash: Hash, value: [u8; 16]) -> Hash
-    ensures { result ≡ addState hash value }
+    ensures { result ≡ add_state hash value }
 {
     let with_value = hash.add(&value);
     with_value.hash
@@ -183,7 +184,7 @@ fn last_block(address: [u8; 22], value: [u8; 16]) -> [u8; 64]
 // The tweaked hash of one value: one compression.
 pub fn tweaked_hash(hasher: Hasher, address: [u8; 22], value: [u8; 16]) -> [u8; 16]
     requires { Seeded hasher }
-    ensures { result ≡ tweakedHash hasher.domain address value }
+    ensures { result ≡ tweaked_hash hasher.domain address value }
 {
     let block = last_block(address, value);
     let words = hasher.words;

@@ -1,18 +1,19 @@
 // The checking cabinet: Check.
+#![tactic(auto)]
 ghost use Rattle.std.specs.Prelude.{◌≡◌, false, cond, ◌≤◌, eqb, length, take};
-ghost use Rattle.refusal.specs.Code.{outcomeCode, thenFirst};
+ghost use Rattle.refusal.specs.Code.{outcome_code, then_first};
 ghost use Rattle.numbers.specs.Number.{value};
 ghost use Rattle.profile.specs.Checks.{InLimits};
-ghost use Rattle.signature.specs.Signature.{signatureLength, leafIn, valuesIn, siblingsIn};
+ghost use Rattle.signature.specs.Signature.{signature_length, leaf_in, values_in, siblings_in};
 ghost use Rattle.counts.specs.Counts as counts;
 ghost use Rattle.counts.specs.Table.{Holds};
-ghost use Rattle.tweak.specs.Tweak.{firstDomain};
-ghost use Rattle.chains.specs.Leaves.{chainsOf, stepsLeft};
-ghost use Rattle.tree.specs.Tree.{recoveredRoot};
-ghost use Rattle.message.specs.Message.{countTooSmall};
+ghost use Rattle.tweak.specs.Tweak.{first_domain};
+ghost use Rattle.chains.specs.Leaves.{chains_of, steps_left};
+ghost use Rattle.tree.specs.Tree.{recovered_root};
+ghost use Rattle.message.specs.Message.{count_too_small};
 ghost use Rattle.window.specs.Window as window;
-ghost use Rattle.verifier.specs.Verifying.{withAccepted, row_in, sameBytes};
-ghost use Rattle.verifier.specs.Operations.{verifyCauses, Verifies};
+ghost use Rattle.verifier.specs.Verifying.{with_accepted, row_in, same_bytes};
+ghost use Rattle.verifier.specs.Operations.{verify_causes, Verifies};
 ghost use Rattle.verifier.specs.inner.Judging.{Ready, Judges};
 
 use chains::chains_of;
@@ -46,8 +47,8 @@ pub struct Verdict {
 
 // The cabinet behind an outcome: granted, it has accepted the leaf, which was not passed; refused, it is as it was.
 fn verifier_after(outcome: Outcome, v: Verifier, leaf: u32) -> Verifier
-    requires { outcomeCode outcome ≡ 0 → window.passed v.window leaf ≡ false }
-    ensures { result ≡ cond (eqb (outcomeCode outcome) 0) (withAccepted v leaf) v }
+    requires { outcome_code outcome ≡ 0 → window.passed v.window leaf ≡ false }
+    ensures { result ≡ cond (eqb (outcome_code outcome) 0) (with_accepted v leaf) v }
 {
     match outcome {
         Outcome::Refused(_) => v,
@@ -69,7 +70,7 @@ fn verifier_after(outcome: Outcome, v: Verifier, leaf: u32) -> Verifier
 
 // Whether two roots are the same.
 fn same_root(a: [u8; 16], b: [u8; 16]) -> bool
-    ensures { result ≡ sameBytes a b }
+    ensures { result ≡ same_bytes a b }
 {
     let mut i = 0;
     while i < 16 {
@@ -91,7 +92,7 @@ pub fn row_in(
     table: &[u32],
 ) -> [u8; 40]
     requires in_limits { InLimits v.profile.shape × Holds v.profile.shape table.now }
-    requires count_value { (value count ≡ counts.count v.profile.shape) × (countTooSmall (counts.count v.profile.shape) ≡ false) }
+    requires count_value { (value count ≡ counts.count v.profile.shape) × (count_too_small (counts.count v.profile.shape) ≡ false) }
     requires message_len_bound { (length message.now ≤ 200) × (20 ≤ length signature.now) }
     ensures { take v.profile.shape.chains result ≡ row_in v message.now signature.now }
 {
@@ -110,7 +111,7 @@ pub fn row_in(
 // The causes of Check between 5 and 19 for one order, behind an outcome. A signature of the wrong length is refused before
 // its leaf counts.
 pub fn verify_outcome(checked: Outcome, v: Verifier, text: usize, signature: &[u8]) -> Outcome
-    ensures { outcomeCode result ≡ thenFirst (outcomeCode checked) (verifyCauses v text signature.now) }
+    ensures { outcome_code result ≡ then_first (outcome_code checked) (verify_causes v text signature.now) }
 {
     let p = v.profile;
     let height = p.height;
@@ -129,10 +130,10 @@ pub fn verify_outcome(checked: Outcome, v: Verifier, text: usize, signature: &[u
 
 // The root that a signature leads to under the cabinet's seed, with the codeword in a row, and the chain steps made.
 fn recover_root(v: Verifier, leaf: u32, row: [u8; 40], signature: &[u8]) -> RootFound
-    requires { InLimits v.profile.shape × (v.profile.height ≤ 10) × (length signature.now ≡ signatureLength v.profile) }
-    ensures root { result.root ≡ recoveredRoot (firstDomain v.seed) (chainsOf v.profile.shape) v.profile.height leaf row
-        (valuesIn v.profile signature.now) (siblingsIn v.profile signature.now) }
-    ensures steps { result.steps ≡ stepsLeft (chainsOf v.profile.shape) row }
+    requires { InLimits v.profile.shape × (v.profile.height ≤ 10) × (length signature.now ≡ signature_length v.profile) }
+    ensures root { result.root ≡ recovered_root (first_domain v.seed) (chains_of v.profile.shape) v.profile.height leaf row
+        (values_in v.profile signature.now) (siblings_in v.profile signature.now) }
+    ensures steps { result.steps ≡ steps_left (chains_of v.profile.shape) row }
 {
     let p = v.profile;
     let shape = p.shape;
@@ -156,8 +157,8 @@ pub fn judge(
     signature: &[u8],
     table: &[u32],
 ) -> Verdict
-    requires { outcomeCode early ≡ 0 → Ready v count message.now signature.now table.now }
-    ensures { Judges (outcomeCode early) v message.now signature.now result }
+    requires { outcome_code early ≡ 0 → Ready v count message.now signature.now table.now }
+    ensures { Judges (outcome_code early) v message.now signature.now result }
 {
     let counted = early.then(count_too_small(count), Refusal::CountTooSmall);
     match counted {

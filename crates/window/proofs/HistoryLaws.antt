@@ -9,9 +9,9 @@ use native.Mathlib.Nat.{zero-div}
 use native.Mathlib.Omega.{arith}
 use borrow.Author.Tests.{eqb-true, eqb-false, ltb-true, ltb-false, leb-true}
 use lib.Dec.{ltb, leb, eqb, lit<}
-use Rattle.lists.proofs.Numbers.{lt-or-le}
+use Rattle.lists.proofs.Numbers.{lt_or_le}
 use Rattle.lists.proofs.Tests.{either}
-use Rattle.window.specs.Window.{marked, freshWindow, passed, moved, taken}
+use Rattle.window.specs.Window.{marked, fresh_window, passed, moved, taken}
 use Rattle.window.specs.History.{PassedBy, History}
 use Rattle.window.specs.declared.Window.{Window}
 use Rattle.window.proofs.MarkLaws.{moved-fits, marked-moved, unmarked-moved, added-fits, marked-added}
@@ -22,16 +22,16 @@ unmarked : (i : ℕ) → marked 0 i ≡ true → ⊥
 unfolding marked
 unmarked i set = omega (arith, zero-div (2 ^ i), eqb-true (0 / 2 ^ i % 2) 1 set)
 
-pub fresh-history : History [] freshWindow
-fresh-history =
+pub fresh_history : History [] fresh_window
+fresh_history =
     record {
       highest = inl (refl, refl, refl);
       marks = λ i small. (λ set. absurd (unmarked i set), λ found. absurd (Memᴰ.not-nil found.1));
       few = lit< tt;
-      passes = λ x. (λ e. absurd (true≢false (sym e ∙ passed_none freshWindow x refl)), none x);
+      passes = λ x. (λ e. absurd (true≢false (sym e ∙ passed_none fresh_window x refl)), none x);
     }
   where
-    none : (x : ℕ) → PassedBy [] x → passed freshWindow x ≡ true
+    none : (x : ℕ) → PassedBy [] x → passed fresh_window x ≡ true
     none x (inl m) = absurd (Memᴰ.not-nil m)
     none x (inr found) = absurd (Memᴰ.not-nil found.1)
 
@@ -48,8 +48,8 @@ module _ (accepted : List ℕ) (w : Window) (is : Topped accepted w) (passes : (
   abbrev Below : ℕ → Type 0
   Below i = (a : ℕ) × Memᴰ a accepted × (a + i ≡ w.highest)
 
-  mark-said : (i : ℕ) → i < 32 → marked w.marks i ≡ true → Below i
-  mark-said i small set = by (lt-or-le w.highest i)
+  mark_said : (i : ℕ) → i < 32 → marked w.marks i ≡ true → Below i
+  mark_said i small set = by (lt_or_le w.highest i)
     where
       near : i ≤ w.highest → PassedBy accepted (w.highest - i) → Below i
       near within (inl m) = (w.highest - i, m, omega arith)
@@ -63,17 +63,17 @@ module _ (accepted : List ℕ) (w : Window) (is : Topped accepted w) (passes : (
           ((passes (w.highest - i)).0
           (passed-near w (w.highest - i) is.some (omega arith) (omega arith) ∙ ap (marked w.marks) back ∙ set))
 
-  said-mark : (i : ℕ) → i < 32 → Below i → marked w.marks i ≡ true
-  said-mark i small found =
+  said_mark : (i : ℕ) → i < 32 → Below i → marked w.marks i ≡ true
+  said_mark i small found =
       let a = found.0 in
       let down : w.highest - a ≡ i = omega (arith, found.2) in
       sym (ap (marked w.marks) down) ∙ sym (passed-near w a is.some (omega (arith, found.2)) (omega (arith, found.2))) ∙ (passes a).1 (inl found.1)
 
-  topped-history : History accepted w
-  topped-history =
+  topped_history : History accepted w
+  topped_history =
       record {
         highest = inr (is.top, is.over);
-        marks = λ i small. (mark-said i small, said-mark i small);
+        marks = λ i small. (mark_said i small, said_mark i small);
         few = is.few;
         passes = passes;
       }
@@ -89,8 +89,8 @@ module _ (before : List ℕ) (w : Window) (leaf : ℕ) (was : History before w) 
   own : Memᴰ leaf accepted
   own = Memᴰ.append_right before (Memᴰ.head refl)
 
-  earlier-or-own : {a : ℕ} → Memᴰ a accepted → Memᴰ a before ⊎ (a ≡ leaf)
-  earlier-or-own m = by (Memᴰ.append_cases before m)
+  earlier_or_own : {a : ℕ} → Memᴰ a accepted → Memᴰ a before ⊎ (a ≡ leaf)
+  earlier_or_own m = by (Memᴰ.append_cases before m)
     where
       by : {a : ℕ} → Memᴰ a before ⊎ Memᴰ a (leaf ∷ []) → Memᴰ a before ⊎ (a ≡ leaf)
       by (inl earlier) = inl earlier
@@ -101,8 +101,8 @@ module _ (before : List ℕ) (w : Window) (leaf : ℕ) (was : History before w) 
     law : passed (taken w leaf) x ≡ (passed w x || behind leaf x)
     law = passed-after w leaf x free
 
-    passed-said : passed (taken w leaf) x ≡ true → PassedBy accepted x
-    passed-said e = by (either (passed w x) (behind leaf x) (sym law ∙ e))
+    passed_said : passed (taken w leaf) x ≡ true → PassedBy accepted x
+    passed_said e = by (either (passed w x) (behind leaf x) (sym law ∙ e))
       where
         earlier : PassedBy before x → PassedBy accepted x
         earlier (inl m) = inl (still m)
@@ -116,23 +116,23 @@ module _ (before : List ℕ) (w : Window) (leaf : ℕ) (was : History before w) 
         by (inl e) = earlier ((was.passes x).0 e)
         by (inr e) = now (either (eqb x leaf) (leb (x + 32) leaf) e)
 
-    said-earlier : PassedBy before x → passed (taken w leaf) x ≡ true
-    said-earlier p = law ∙ rw ((was.passes x).1 p)
+    said_earlier : PassedBy before x → passed (taken w leaf) x ≡ true
+    said_earlier p = law ∙ rw ((was.passes x).1 p)
 
-    said-now : behind leaf x ≡ true → passed (taken w leaf) x ≡ true
-    said-now e = law ∙ rw (e, or-true)
+    said_now : behind leaf x ≡ true → passed (taken w leaf) x ≡ true
+    said_now e = law ∙ rw (e, or-true)
 
-    said-passed : PassedBy accepted x → passed (taken w leaf) x ≡ true
-    said-passed (inl m) = by (earlier-or-own m)
+    said_passed : PassedBy accepted x → passed (taken w leaf) x ≡ true
+    said_passed (inl m) = by (earlier_or_own m)
       where
         by : Memᴰ x before ⊎ (x ≡ leaf) → passed (taken w leaf) x ≡ true
-        by (inl m) = said-earlier (inl m)
-        by (inr same) = said-now (behind-own leaf x same)
-    said-passed (inr found) = by found.0 found.2 (earlier-or-own found.1)
+        by (inl m) = said_earlier (inl m)
+        by (inr same) = said_now (behind-own leaf x same)
+    said_passed (inr found) = by found.0 found.2 (earlier_or_own found.1)
       where
         by : (a : ℕ) → x + 32 ≤ a → Memᴰ a before ⊎ (a ≡ leaf) → passed (taken w leaf) x ≡ true
-        by a far (inl m) = said-earlier (inr (a, m, far))
-        by a far (inr same) = said-now (behind-far leaf x (omega arith))
+        by a far (inl m) = said_earlier (inr (a, m, far))
+        by a far (inr same) = said_now (behind-far leaf x (omega arith))
 
   -- what was known of the window before
   none_before : w.marks ≡ 0 → {a : ℕ} → Memᴰ a before → ⊥
@@ -149,7 +149,7 @@ module _ (before : List ℕ) (w : Window) (leaf : ℕ) (was : History before w) 
 
     -- the highest is at least every leaf before, and the one taken
     over-all : (n : ℕ) → w.highest ≤ n → leaf ≤ n → (a : ℕ) → Memᴰ a accepted → a ≤ n
-    over-all n high low a m = by (earlier-or-own m)
+    over-all n high low a m = by (earlier_or_own m)
       where
         by : Memᴰ a before ⊎ (a ≡ leaf) → a ≤ n
         by (inl m) = omega (arith, top-before.1 a m)
@@ -169,7 +169,7 @@ module _ (before : List ℕ) (w : Window) (leaf : ℕ) (was : History before w) 
       record {
         some = λ e. omega arith;
         top = own;
-        over = λ a m. by a (earlier-or-own m);
+        over = λ a m. by a (earlier_or_own m);
         quiet = λ i small above. unmarked-moved 0 32 (lit< tt) i (omega arith) small small;
         few = lit< tt;
       }
@@ -204,14 +204,14 @@ module _ (before : List ℕ) (w : Window) (leaf : ℕ) (was : History before w) 
         few = added-fits w.marks j unset (omega arith) was.few;
       }
 
-  taken-topped : Topped accepted (taken w leaf)
+  taken_topped : Topped accepted (taken w leaf)
   unfolding taken
-  taken-topped = by (eqb w.marks 0) (ltb w.highest leaf) refl refl
+  taken_topped = by (eqb w.marks 0) (ltb w.highest leaf) refl refl
     where
       by : (none above : Bool) → eqb w.marks 0 ≡ none → ltb w.highest leaf ≡ above → Topped accepted (taken w leaf)
       by true above e f = rw e (alone (eqb-true w.marks 0 e))
       by false true e f = rw (e, f) (raised (eqb-false w.marks 0 e) (ltb-true w.highest leaf f))
       by false false e f = rw (e, f) (added (eqb-false w.marks 0 e) (ltb-false w.highest leaf f))
 
-  pub taken-history : History accepted (taken w leaf)
-  taken-history = topped-history accepted (taken w leaf) taken-topped (λ x. (passed-said x, said-passed x))
+  pub taken_history : History accepted (taken w leaf)
+  taken_history = topped_history accepted (taken w leaf) taken_topped (λ x. (passed_said x, said_passed x))

@@ -6,7 +6,7 @@ use Prim.Native.Nat.{ℕ, ◌+◌, ◌-◌, ◌^◌, ◌<◌, ◌≤◌}
 use native.Mathlib.Omega.{arith}
 use borrow.Author.Tests.{eqb-true, eqb-false, ltb-true, ltb-false, le-leb, lt-leb, eq-eqb, ne_eqb}
 use lib.Dec.{ltb, leb, eqb, lit<}
-use Rattle.lists.proofs.Numbers.{lt-or-le}
+use Rattle.lists.proofs.Numbers.{lt_or_le}
 use Rattle.lists.proofs.Tests.{neither}
 use Rattle.window.specs.Window.{marked, passed, moved, taken}
 use Rattle.window.specs.declared.Window.{Window}
@@ -59,7 +59,7 @@ data Place (leaf x : ℕ) : Type 0 where
   far : x + 32 ≤ leaf → Place leaf x
 
 place : (leaf x : ℕ) → Place leaf x
-place leaf x = by (lt-or-le leaf x) (lt-or-le x leaf) (lt-or-le leaf (x + 32))
+place leaf x = by (lt_or_le leaf x) (lt_or_le x leaf) (lt_or_le leaf (x + 32))
   where
     by : (leaf < x) ⊎ (x ≤ leaf) → (x < leaf) ⊎ (leaf ≤ x) → (leaf < x + 32) ⊎ (x + 32 ≤ leaf) → Place leaf x
     by (inl h) b c = over h
@@ -70,7 +70,7 @@ place leaf x = by (lt-or-le leaf x) (lt-or-le x leaf) (lt-or-le leaf (x + 32))
 -- a leaf not above the highest that is not passed: it is less than 32 below, and its mark is not set
 module _ (w : Window) (leaf : ℕ) (some : w.marks ≡ 0 → ⊥) (within : leaf ≤ w.highest) (free : passed w leaf ≡ false) where
   pub near-highest : w.highest < leaf + 32
-  near-highest = by (lt-or-le w.highest (leaf + 32))
+  near-highest = by (lt_or_le w.highest (leaf + 32))
     where
       by : (w.highest < leaf + 32) ⊎ (leaf + 32 ≤ w.highest) → w.highest < leaf + 32
       by (inl h) = h
@@ -115,7 +115,7 @@ module _ (w : Window) (leaf x : ℕ) where
       up = leaf - w.highest
 
       same-below : (i : ℕ) → 0 < i → i < 32 → x + i ≡ leaf → marked (moved w.marks up + 1) i ≡ passed w x
-      same-below i later small reached = by (lt-or-le w.highest x)
+      same-below i later small reached = by (lt_or_le w.highest x)
         where
           by : (w.highest < x) ⊎ (x ≤ w.highest) → marked (moved w.marks up + 1) i ≡ passed w x
           by (inl h) = unmarked-moved w.marks up (omega arith) i later (omega arith) small ∙ sym (passed-above w x h)
@@ -128,18 +128,18 @@ module _ (w : Window) (leaf x : ℕ) where
 
     -- a leaf not above it, which is not passed
     module _ (within : leaf ≤ w.highest) (free : passed w leaf ≡ false) where
-      not-marked : marked w.marks (w.highest - leaf) ≡ false
-      not-marked = mark-free w leaf some within free
+      not_marked : marked w.marks (w.highest - leaf) ≡ false
+      not_marked = mark-free w leaf some within free
 
       -- where the highest is less than 32 above x, marks decide
       decided : x ≤ w.highest → w.highest < x + 32 → (own : Bool) → eqb x leaf ≡ own
           → marked (w.marks + 2 ^ (w.highest - leaf)) (w.highest - x) ≡ (marked w.marks (w.highest - x) || behind leaf x)
       decided h k true test =
           let e = eqb-true x leaf test in
-          rw (behind-own leaf x e, or-true, e) (marked-added-own w.marks (w.highest - leaf) not-marked)
+          rw (behind-own leaf x e, or-true, e) (marked-added-own w.marks (w.highest - leaf) not_marked)
       decided h k false test =
           let other = eqb-false x leaf test in
-          marked-added w.marks (w.highest - leaf) not-marked (w.highest - x) (omega (arith, other))
+          marked-added w.marks (w.highest - leaf) not_marked (w.highest - x) (omega (arith, other))
           ∙ rw (not_behind leaf x other (omega arith), or-false)
 
       abbrev Added : Type 0

@@ -8,8 +8,8 @@ unfoldable pub marked : (marks i : ℕ) → Bool
 marked marks i = eqb (marks / 2 ^ i % 2) 1
 
 -- "Fresh now means no mark set, with highest 0"
-abbrev pub freshWindow : Window
-freshWindow = record { highest = 0; marks = 0 }
+abbrev pub fresh_window : Window
+fresh_window = record { highest = 0; marks = 0 }
 
 -- "14 now means a leaf 32 or more below the highest, or one already accepted"; but "A cabinet with no mark set takes any leaf"
 unfoldable pub passed : Window → (leaf : ℕ) → Bool

@@ -1,4 +1,5 @@
 // The window over the leaves: which ones a cabinet still takes, and what it keeps of those that it took.
+#![tactic(auto)]
 ghost use Rattle.std.specs.Prelude.{◌≡◌, false, ◌<◌};
 ghost use Rattle.window.specs.Window as spec;
 

@@ -2,11 +2,12 @@
 // Parameters stand in the header's order. Contracts would have to quote `data` and names with an underscore, so `bytes`, `seed`, `secret`,
 // `next`, `highest` and `written` are the header's `data`, `public_seed`, `secret_seed`, `next_leaf`, `highest_leaf` and `message_written`,
 // and `length` is its `sheet_written` or `frame_written`. `profile` is a function here: `fields` is the header's `profile`.
+#![tactic(auto)]
 ghost use Rattle.std.specs.Prelude.{◌≡◌, cond, eqb, List, ℕ, replicate};
-ghost use Rattle.refusal.specs.Code.{outcomeCode};
+ghost use Rattle.refusal.specs.Code.{outcome_code};
 ghost use Rattle.sha256.specs.Digest.{digest as digestOf};
-ghost use Rattle.sha256.specs.Running.{started, addCode, Adds};
-ghost use Rattle.zarosnik.specs.Interface.{shape_of, profileOf, counterOf, signingKeyOf, verifierOf, markWord, markLeft};
+ghost use Rattle.sha256.specs.Running.{started, add_code, Adds};
+ghost use Rattle.zarosnik.specs.Interface.{shape_of, profile_of, counter_of, signing_key_of, verifier_of, mark_word, mark_left};
 ghost use Rattle.zarosnik.specs.Interface.{HashCall, CountCall, UnrankCall, RankCall, CompareCall, LeafKeyCall, RootCall};
 ghost use Rattle.zarosnik.specs.Interface.{RevealCall, RecoverCall, ReserveCall, SignCall, VerifyCall};
 ghost use Rattle.zarosnik.specs.Interface.{ReadSheetCall, WriteSheetCall, WriteKeyCall, ReadKeyCall};
@@ -30,7 +31,7 @@ use window::Window;
 
 // The code that a call returns.
 fn returned(o: Outcome) -> u32
-    ensures { result ≡ outcomeCode o }
+    ensures { result ≡ outcome_code o }
 {
     refusal::outcome_code(o) as u32
 }
@@ -46,7 +47,7 @@ fn shape(l: u32, w: u32, s: u32) -> Shape
 }
 
 fn profile(l: u32, w: u32, s: u32, h: u32, edition: u32) -> Profile
-    ensures { result ≡ profileOf l w s h edition }
+    ensures { result ≡ profile_of l w s h edition }
 {
     Profile {
         shape: shape(l, w, s),
@@ -57,14 +58,14 @@ fn profile(l: u32, w: u32, s: u32, h: u32, edition: u32) -> Profile
 
 // What a mark is written as.
 fn mark_word(mark: bool) -> u32
-    ensures { result ≡ markWord mark }
+    ensures { result ≡ mark_word mark }
 {
     if mark { 1 } else { 0 }
 }
 
 // The word of a mark that a call leaves: the new one where it is granted, else the old one, whatever that is.
 fn mark_left(o: Outcome, old: u32, mark: bool) -> u32
-    ensures { result ≡ markLeft (outcomeCode o) old mark }
+    ensures { result ≡ mark_left (outcome_code o) old mark }
 {
     match o {
         Outcome::Refused(_) => old,
@@ -74,7 +75,7 @@ fn mark_left(o: Outcome, old: u32, mark: bool) -> u32
 
 // A mark is the word 1, and every other word is none.
 fn counter(next: u32, mark: u32) -> Counter
-    ensures { result ≡ counterOf next mark }
+    ensures { result ≡ counter_of next mark }
 {
     Counter {
         next,
@@ -84,7 +85,7 @@ fn counter(next: u32, mark: u32) -> Counter
 
 // A key by its fields.
 fn signing_key(p: Profile, seed: &[u8; 16], secret: &[u8; 16], next: u32, mark: u32) -> SigningKey
-    ensures { result ≡ signingKeyOf p seed.now secret.now next mark }
+    ensures { result ≡ signing_key_of p seed.now secret.now next mark }
 {
     let leaves = counter(next, mark);
     SigningKey {
@@ -98,7 +99,7 @@ fn signing_key(p: Profile, seed: &[u8; 16], secret: &[u8; 16], next: u32, mark: 
 // The digest where the bytes were granted, else zero.
 fn digest_of(added: Added) -> [u8; 32]
     ensures { (bytes : List ℕ) → Adds started bytes added
-        → result ≡ cond (eqb (addCode started bytes) 0) (digestOf bytes) (replicate 32 0) }
+        → result ≡ cond (eqb (add_code started bytes) 0) (digestOf bytes) (replicate 32 0) }
 {
     let outcome = added.outcome;
     match outcome {
@@ -202,7 +203,7 @@ pub extern "C" fn zarosnik_leaf_key(
     leaf: u32,
     key: &mut [u8; 16],
 ) -> u32
-    ensures { LeafKeyCall (profileOf l w s h edition) seed.now secret.now leaf key.new result }
+    ensures { LeafKeyCall (profile_of l w s h edition) seed.now secret.now leaf key.new result }
 {
     let made = leaf_key(profile(l, w, s, h, edition), *seed, secret, leaf);
     let found = made.key;
@@ -223,7 +224,7 @@ pub extern "C" fn zarosnik_root(
     secret: &[u8; 16],
     root: &mut [u8; 16],
 ) -> u32
-    ensures { RootCall (profileOf l w s h edition) seed.now secret.now root.new result }
+    ensures { RootCall (profile_of l w s h edition) seed.now secret.now root.new result }
 {
     let made = tree::root(profile(l, w, s, h, edition), *seed, secret);
     let found = made.root;
@@ -247,7 +248,7 @@ pub extern "C" fn zarosnik_one_time_sign(
     table: &mut [u32],
     values: &mut [u8],
 ) -> u32
-    ensures { RevealCall (profileOf l w s h edition) seed.now secret.now leaf
+    ensures { RevealCall (profile_of l w s h edition) seed.now secret.now leaf
         number.now table.old values.old table.new values.new result }
 {
     returned(one_time_sign(
@@ -277,7 +278,7 @@ pub extern "C" fn zarosnik_one_time_recover(
     key: &mut [u8; 16],
     steps: &mut u32,
 ) -> u32
-    ensures { RecoverCall (profileOf l w s h edition) seed.now leaf number.now
+    ensures { RecoverCall (profile_of l w s h edition) seed.now leaf number.now
         values.now table.old table.new key.new steps.new result }
 {
     let recovered = one_time_recover(
@@ -306,7 +307,7 @@ pub extern "C" fn zarosnik_reserve(
     next: &mut u32,
     mark: &mut u32,
 ) -> u32
-    ensures { ReserveCall (profileOf l w s h edition) next.old mark.old
+    ensures { ReserveCall (profile_of l w s h edition) next.old mark.old
         next.new mark.new result }
 {
     let found = counter(*next, *mark);
@@ -335,7 +336,7 @@ pub extern "C" fn zarosnik_sign(
     signature: &mut [u8],
 ) -> u32
     ensures { SignCall
-        (signingKeyOf (profileOf l w s h edition) seed.now secret.now next mark.old)
+        (signing_key_of (profile_of l w s h edition) seed.now secret.now next mark.old)
         (record { r = r.entry.now; message = message.now; work = table.old; out = signature.old })
         table.new signature.new mark.old mark.new result }
 {
@@ -364,7 +365,7 @@ pub extern "C" fn zarosnik_verify(
     steps: &mut u32,
 ) -> u32
     ensures { VerifyCall
-        (verifierOf (profileOf l w s h edition) seed.now root.now highest.old marks.old)
+        (verifier_of (profile_of l w s h edition) seed.now root.now highest.old marks.old)
         (record { message = message.entry.now; signature = signature.now; work = table.old })
         table.new highest.new marks.new steps.new result }
 {
@@ -399,7 +400,7 @@ pub extern "C" fn zarosnik_read_sheet(
     written: &mut usize,
     line: &mut u32,
 ) -> u32
-    ensures { ReadSheetCall (profileOf l w s h edition) sheet.now signature.old
+    ensures { ReadSheetCall (profile_of l w s h edition) sheet.now signature.old
         message.old signature.new message.new written.new line.new result }
 {
     let read = read_sheet(profile(l, w, s, h, edition), sheet, signature, message);
@@ -422,7 +423,7 @@ pub extern "C" fn zarosnik_write_sheet(
     sheet: &mut [u8],
     length: &mut usize,
 ) -> u32
-    ensures { WriteSheetCall (profileOf l w s h edition) signature.now message.now
+    ensures { WriteSheetCall (profile_of l w s h edition) signature.now message.now
         sheet.old sheet.new length.new result }
 {
     let made = write_sheet(profile(l, w, s, h, edition), signature, message, sheet);
@@ -447,7 +448,7 @@ pub extern "C" fn zarosnik_write_key(
     length: &mut usize,
 ) -> u32
     ensures { WriteKeyCall
-        (signingKeyOf (profileOf l w s h edition) seed.now secret.now next mark)
+        (signing_key_of (profile_of l w s h edition) seed.now secret.now next mark)
         frame.old frame.new length.new result }
 {
     let key = signing_key(profile(l, w, s, h, edition), seed, secret, next, mark);

@@ -2,25 +2,25 @@
 use mathlib.Core.Path.{◌≡◌, refl}
 use mathlib.Core.List.{List}
 use Prim.Native.Nat.{ℕ}
-use Rattle.profile.specs.Checks.{profileCauses}
-use Rattle.counts.specs.Table.{tableCauses}
-use Rattle.message.specs.Message.{messageNumber}
-use Rattle.signature.specs.Signature.{signatureLength}
+use Rattle.profile.specs.Checks.{profile_causes}
+use Rattle.counts.specs.Table.{table_causes}
+use Rattle.message.specs.Message.{message_number}
+use Rattle.signature.specs.Signature.{signature_length}
 use Rattle.verifier.specs.Verifying.{number_in}
-use Rattle.verifier.specs.Operations.{causesBeforeRoot}
+use Rattle.verifier.specs.Operations.{causes_before_root}
 use Rattle.verifier.specs.declared.Verifier.{Verifier}
-use Rattle.claims.specs.Editions.{numberJudged}
+use Rattle.claims.specs.Editions.{number_judged}
 use Rattle.claims.proofs.Judged.{judged-by-root}
 use Rattle.claims.proofs.judged_by_edition.Statement.{statement}
 use Rattle.claims.proofs.judged_by_edition.Tie as tie
 
 -- the number that Check takes, written out
-own-number : (v : Verifier) (message signature : List ℕ) → number_in v message signature ≡ numberJudged v message signature
-unfolding number_in messageNumber
+own-number : (v : Verifier) (message signature : List ℕ) → number_in v message signature ≡ number_judged v message signature
+unfolding number_in message_number
 own-number v message signature = refl
 
 returns : tie.Need-returns
-unfolding causesBeforeRoot tableCauses profileCauses signatureLength
+unfolding causes_before_root table_causes profile_causes signature_length
 returns c =
     record {
       before = λ v call. refl;

@@ -3,27 +3,27 @@ use mathlib.Core.Path.{◌≡◌, ◌∙◌, sym}
 use mathlib.Core.List.{◌++◌}
 use Prim.Native.Nat.{ℕ, ◌<◌}
 use lib.ListN.{length}
-use Rattle.refusal.specs.Code.{firstCause}
+use Rattle.refusal.specs.Code.{first_cause}
 use Rattle.refusal.proofs.Causes.{none_then}
 use Rattle.counts.specs.Counts.{D, count}
-use Rattle.counts.specs.Operations.{countCauses, countCode}
+use Rattle.counts.specs.Operations.{count_causes, count_code}
 use Rattle.counts.proofs.Room.{count-numbered}
-use Rattle.codewords.specs.Operations.{row_of, rowCauses, rankCode}
-use Rattle.codewords.proofs.CodewordLaws.{codeword-valid}
-use Rattle.codewords.proofs.RankLaws.{row-codeword, codeword-passes}
+use Rattle.codewords.specs.Operations.{row_of, row_causes, rank_code}
+use Rattle.codewords.proofs.CodewordLaws.{codeword_valid}
+use Rattle.codewords.proofs.RankLaws.{row_codeword, codeword-passes}
 use Rattle.codewords.proofs.OrderLaws.{complete}
 use Rattle.claims.proofs.rank_exact.Statement.{statement}
 use Rattle.claims.proofs.rank_exact.Tie as tie
 
 returns : tie.Need-returns
-unfolding count countCode rankCode
+unfolding count count_code rank_code
 returns c p row work none =
-    let first = countCauses p (length work) in
-    let then = none_then first (rowCauses p row) none (count-numbered p (length work)) in
-    let to : firstCause (first ++ rowCauses p row) ≡ 0 → (n : ℕ) × (n < D p.width p.chains p.sum) × (row_of p n ≡ row) =
-    λ zero'. complete p.width p.chains p.sum row (row-codeword p row (sym then ∙ zero')) in
-    let from : (n : ℕ) × (n < D p.width p.chains p.sum) × (row_of p n ≡ row) → firstCause (first ++ rowCauses p row) ≡ 0 =
-    λ has. then ∙ codeword-passes p row (rw has.2 at (codeword-valid p.width p.chains p.sum has.0 has.1)) in
+    let first = count_causes p (length work) in
+    let then = none_then first (row_causes p row) none (count-numbered p (length work)) in
+    let to : first_cause (first ++ row_causes p row) ≡ 0 → (n : ℕ) × (n < D p.width p.chains p.sum) × (row_of p n ≡ row) =
+    λ zero'. complete p.width p.chains p.sum row (row_codeword p row (sym then ∙ zero')) in
+    let from : (n : ℕ) × (n < D p.width p.chains p.sum) × (row_of p n ≡ row) → first_cause (first ++ row_causes p row) ≡ 0 =
+    λ has. then ∙ codeword-passes p row (rw has.2 at (codeword_valid p.width p.chains p.sum has.0 has.1)) in
     (to, from)
 
 pub rank-exact-spec : {M : Type 1} → statement M

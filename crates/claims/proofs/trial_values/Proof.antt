@@ -1,18 +1,18 @@
 -- The starred trial values, computed from the definitions and compared at once.
 use mathlib.Core.Path.{refl}
-use Rattle.profile.specs.Checks.{shapeCauses}
+use Rattle.profile.specs.Checks.{shape_causes}
 use Rattle.counts.specs.Counts.{sum_to, share, D, count}
-use Rattle.counts.specs.Table.{tableLength}
-use Rattle.counts.specs.Operations.{countCauses, countCode}
+use Rattle.counts.specs.Table.{table_length}
+use Rattle.counts.specs.Operations.{count_causes, count_code}
 use Rattle.codewords.specs.Codeword.{place, codeword, rank, total}
-use Rattle.codewords.specs.Operations.{unrankCode, someAbove, rankCode}
-use Rattle.chains.specs.Leaves.{stepsTo}
+use Rattle.codewords.specs.Operations.{unrank_code, some_above, rank_code}
+use Rattle.chains.specs.Leaves.{steps_to}
 use Rattle.claims.specs.Trial.{trials}
 use Rattle.claims.proofs.trial_values.Statement.{statement}
 use Rattle.claims.proofs.trial_values.Tie as tie
 
 returns : tie.Need-returns
-unfolding trials shapeCauses sum_to share D count tableLength countCauses countCode place codeword rank total stepsTo unrankCode someAbove rankCode
+unfolding trials shape_causes sum_to share D count table_length count_causes count_code place codeword rank total steps_to unrank_code some_above rank_code
 returns c = refl
 
 pub trial-values-spec : {M : Type 1} → statement M

@@ -52,12 +52,12 @@ use Rattle.profile.specs.declared.Profile.{Profile}
 use Rattle.profile.specs.contracts.Profile as F
 use Rattle.profile.proofs.Profile.TheLaws as F'
 use Rattle.frames.specs.Frames.{SizesInLimits}
-use Rattle.frame_reader.specs.Places.{start, placeAt}
+use Rattle.frame_reader.specs.Places.{start, place_at}
 use Rattle.frame_reader.specs.declared.Place.{Place}
 use Rattle.frame_reader.specs.declared.Reader.{Reader}
 use Rattle.frame_reader.specs.declared.Passed.{Passed}
-use Rattle.frame_reader.proofs.PlaceLaws.{due-at}
-use Rattle.frame_reader.proofs.ReaderLaws.{Behind, met-calling}
+use Rattle.frame_reader.proofs.PlaceLaws.{due_at}
+use Rattle.frame_reader.proofs.ReaderLaws.{Behind, met_calling}
 use Rattle.frame_reader.specs.contracts.Place as P
 use Rattle.frame_reader.proofs.Place.TheLaws as P'
 use Rattle.frame_reader.specs.contracts.Passed as S
@@ -115,7 +115,7 @@ module _ {M : Type 1} {𝓤 : Ura M} (𝓛 : Logic 𝓤) (mem : Memory → SProp
 
   -- the place before frame k, and the reader that stands there
   abbrev at : ℕ → Place
-  at k = placeAt s.now p k
+  at k = place_at s.now p k
 
   abbrev before : ℕ → Reader
   before k = record { sheet = s; place = at k }
@@ -174,7 +174,7 @@ module _ {M : Type 1} {𝓤 : Ura M} (𝓛 : Logic 𝓤) (mem : Memory → SProp
 
     asked : ent 𝓤 (⋆ 𝓛 (Owned (before k) (mach k) ∷ Token ∷ [])) ((Next 𝓛 mem run).pre to)
     asked =
-        qed 𝓛 (Owned (before k) (mach k) ∷ Token ∷ []) ∵ says ! (due-at p s.now k, within) $
+        qed 𝓛 (Owned (before k) (mach k) ∷ Token ∷ []) ∵ says ! (due_at p s.now k, within) $
         nothing ! $ owned ! usize (Is usize) (uint_Makes 𝓛 w64) k _ (refl, small) $ fjoin ! $
         owned ! F.the_row (Is F.the_row) (LL.makes F.the_type F'.the_plain 𝓛) p (shape ∷ []) is-profile $ fjoin ! $ move ! (1 ∷ 0 ∷ []) $ fjoin ! $
         move ! (1 ∷ 0 ∷ []) $ frame ! $ done !
@@ -196,13 +196,13 @@ module _ {M : Type 1} {𝓤 : Ura M} (𝓛 : Logic 𝓤) (mem : Memory → SProp
     -- the reader that comes back stands before the next frame
     module _ (r : Reader) (u : Val) (e : Behind (before k) p k r) (is' : Is (B (κ, tt)) r (u ∷ [])) where
       back : u ≡ mach (suc k)
-      unfolding placeAt
+      unfolding place_at
       back =
           ap only (LL.tells (T.the_type α) (T'.the_laws α) r (u ∷ []) is')
           ∙ ap (λ sheet. T'.lowered (record { sheet = sheet; place = r.place })) e.0 ∙ ap (λ place. T'.lowered (record { sheet = s; place = place })) e.1
 
       back_fits : Fits (suc k)
-      unfolding placeAt
+      unfolding place_at
       back_fits = subst (λ (here : Place). Is P.the_row here (P'.lowered here ∷ [])) e.1 (LL.owed (T.the_type α) (T'.the_laws α) r (u ∷ []) is').1.0
 
     module _ (C : Calls 𝓤 H) (Λ : Loops 𝓤 H) (fm : FmC 𝓤 H 𝓛.laws C) (known : Triple 𝓤 (C #next) (Next 𝓛 mem run)) where
@@ -310,7 +310,7 @@ module _ {M : Type 1} {𝓤 : Ura M} (𝓛 : Logic 𝓤) (mem : Memory → SProp
 
   module _ (𝓣 : Tables 𝓤 H) (known : Triple 𝓤 (𝓣.C #next) (Next 𝓛 mem run)) where
     walk : ent 𝓤 (on_entry 𝓛 here.signature (κ, tt) (q, tt) (s, (p, (n, tt))) vals) (WpFn 𝓤 H 𝓣.C 𝓣.Λ code.function (v ∷ shape ∷ vint w64 n ∷ []) Post)
-    unfolding placeAt
+    unfolding place_at
     walk =
         let begun : Is P.the_row start (P'.lowered start ∷ []) = LL.owes P.the_type P'.the_laws start ((refl, lit< tt), ((refl, lit< tt), (refl, tt))) in
         qed 𝓛 (raw (on_entry 𝓛 here.signature (κ, tt) (q, tt) (s, (p, (n, tt))) vals) ∷ []) ∵ enter ! 𝓣.C 𝓣.Λ code.function
@@ -353,6 +353,6 @@ take-frames-meets {𝓤 = 𝓤} 𝓛 mem run 𝓣 known =
 pub take-frames-spec : {M : Type 1} → stated.statement M
 unfolding code.routine
 take-frames-spec 𝓤 𝓛 𝓜 𝓡 =
-    met-calling 𝓤 𝓛.H 𝓜 𝓡 code.env _ (Next 𝓛 𝓜.mem 𝓡.run) #take-frames #next code.function next-def.routine
+    met_calling 𝓤 𝓛.H 𝓜 𝓡 code.env _ (Next 𝓛 𝓜.mem 𝓡.run) #take-frames #next code.function next-def.routine
     (code.unfolded 𝓤 𝓛.H 𝓜 𝓡) code.calls-frame-reader::Reader::next (next-thm.met 𝓤 𝓛 𝓜 𝓡)
     (take-frames-meets 𝓛 𝓜.mem 𝓡.run)

@@ -1,8 +1,8 @@
 -- What the frame parser answers, and where a frame may be taken.
 use Rattle.std.specs.Prelude.{◌≡◌, Bool, cond, List, [], ℕ, ◌+◌, ◌*◌, ◌≤◌, leb, length, drop}
-use Rattle.hex.specs.Hex.{Line, wrong, right}
+use Rattle.hex_lines.specs.Hex.{Line, wrong, right}
 use Rattle.frames.specs.Frames.{framed}
-use Rattle.frames.specs.Lines.{readFrame}
+use Rattle.frames.specs.Lines.{read_frame}
 use Rattle.frame_reader.specs.Places.{start}
 use Rattle.frame_reader.specs.declared.Place.{Place}
 use Rattle.frame_reader.specs.declared.frame.Found.{Found}
@@ -11,14 +11,14 @@ use Rattle.frame_reader.specs.declared.frame.Step.{Step}
 use Rattle.frame_reader.specs.declared.frame.Step.TheVariants as step
 
 -- how many bytes a line has, where they are at most so many
-unfoldable pub foundOf : (most : ℕ) → Line → Found
-foundOf most wrong = found.Wrong
-foundOf most (right bytes rest) = cond (leb (length bytes) most) (found.Bytes (length bytes)) found.Wrong
+unfoldable pub found_of : (most : ℕ) → Line → Found
+found_of most wrong = found.Wrong
+found_of most (right bytes rest) = cond (leb (length bytes) most) (found.Bytes (length bytes)) found.Wrong
 
 -- whether the fixed bytes of a frame are found to stand from an index on: what its line is then read as behind them
 abbrev pub HeadStands : (sheet : List ℕ) (at : ℕ) (head : List ℕ) (fixed : ℕ) (found : Bool) → Type 0
 HeadStands sheet at head fixed found = (low high : ℕ)
-    → readFrame (framed head low high) (drop at sheet) ≡ cond found (readFrame (framed [] low high) (drop (at + 2 * fixed) sheet)) wrong
+    → read_frame (framed head low high) (drop at sheet) ≡ cond found (read_frame (framed [] low high) (drop (at + 2 * fixed) sheet)) wrong
 
 -- the index behind a frame's line that begins at `at`
 unfoldable pub step_of : (at fixed : ℕ) → Line → Step

@@ -4,8 +4,8 @@ use Prim.Native.Nat.{ℕ, ◌≤◌}
 use native.Mathlib.Omega.{arith}
 use borrow.Author.Rules.{rules}
 use lib.Dec.{lit≤}
-use Rattle.frames.specs.Frames.{profileFrame, frames}
-use Rattle.frames.proofs.FrameNumbers.{at-number, text-size, numbered-size, profile-long, edition-long}
+use Rattle.frames.specs.Frames.{profile_frame, frames}
+use Rattle.frames.proofs.FrameNumbers.{at-number, text-size, numbered-size, profile-long, edition_long}
 use Rattle.frames.proofs.frame_size.Statement.{statement}
 use Rattle.frames.proofs.frame_size.Tie as tie
 
@@ -19,12 +19,12 @@ returns c =
     at-number c.before.before.before.args.p c.before.match.keys1 refl refl refl (lit≤ tt) (lit≤ tt) c.sized.ensures
 
 returns-2 : tie.Need-returns-2
-unfolding frames profileFrame
+unfolding frames profile_frame
 returns-2 c =
     let b = c.before in
     let a = b.before.before.before.args in
     let long = b.profile-bytes.ensures in
-    at-number a.p b.before.match.keys2 (profile-long a.p ∙ sym long) refl refl (omega (arith, long, edition-long a.p.edition)) (lit≤ tt)
+    at-number a.p b.before.match.keys2 (profile-long a.p ∙ sym long) refl refl (omega (arith, long, edition_long a.p.edition)) (lit≤ tt)
     c.sized2.ensures
 
 returns-3 : tie.Need-returns-3

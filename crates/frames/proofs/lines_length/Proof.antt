@@ -3,13 +3,13 @@ use Prim.Native.Nat.{◌≤◌}
 use native.Mathlib.Omega.{arith}
 use borrow.Author.Rules.{rules}
 use Rattle.frames.proofs.FrameList.{behind-frames}
-use Rattle.frames.proofs.FrameNumbers.{edition-long}
+use Rattle.frames.proofs.FrameNumbers.{edition_long}
 use Rattle.frames.proofs.lines_length.Statement.{statement}
 use Rattle.frames.proofs.lines_length.Tie as tie
 
 -- the profile's frame has at most seven bytes
 few : (c : tie.After-profile-bytes) → c.profile-bytes.result ≤ 7
-few c = omega (arith, c.profile-bytes.ensures, edition-long c.before.before.args.p.edition)
+few c = omega (arith, c.profile-bytes.ensures, edition_long c.before.before.args.p.edition)
 
 mul-result : tie.Need-overflow-mul-result
 mul-result c = omega (arith, few c)

@@ -12,10 +12,10 @@ pub record HasSize (f : Frame) (r : Size) : Type 0 where
   pub short : r.high ≤ 200
 
 -- the place behind a frame's line that begins at `at`
-abbrev pub behindFrame : (at : ℕ) → Frame → ℕ
-behindFrame at f = at + 2 * (length f.head + f.high) + 1
+abbrev pub behind_frame : (at : ℕ) → Frame → ℕ
+behind_frame at f = at + 2 * (length f.head + f.high) + 1
 
 -- the place behind the lines of frames
-unfoldable pub behindAll : (at : ℕ) → List Frame → ℕ
-behindAll at [] = at
-behindAll at (f ∷ fs) = behindAll (behindFrame at f) fs
+unfoldable pub behind_all : (at : ℕ) → List Frame → ℕ
+behind_all at [] = at
+behind_all at (f ∷ fs) = behind_all (behind_frame at f) fs

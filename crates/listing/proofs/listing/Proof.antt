@@ -4,9 +4,9 @@ use native.Mathlib.Omega.{arith}
 use borrow.Author.Rules.{rules}
 use lib.ListN.{length}
 use lib.Seq.{length-take-le}
-use Rattle.hex.specs.Hex.{readLine}
-use Rattle.listing.specs.Input.{lineRead}
-use Rattle.listing.specs.Listing.{requestIn, answerTo, workAfter, listingOf}
+use Rattle.hex_lines.specs.Hex.{read_line}
+use Rattle.listing.specs.Input.{line_read}
+use Rattle.listing.specs.Listing.{request_in, answer_to, work_after, listing_of}
 use Rattle.listing.proofs.listing.Statement.{statement}
 use Rattle.listing.proofs.listing.Tie as tie
 
@@ -26,26 +26,26 @@ slice-aggregate-read-request c =
     sym (length-take-le _ _ (omega (arith, start.requires.1)))
 
 returns : tie.Need-returns
-unfolding listingOf answerTo workAfter
+unfolding listing_of answer_to work_after
 returns c =
     let written = c.before.before in
     let told = written.before.before in
     let q = told.before.before in
-    let line = lineRead (start q).args.input in
-    let asked : requestIn (readLine line) ≡ _ = sym q.read-request.ensures ∙ told.enum_told.given.1 in
+    let line = line_read (start q).args.input in
+    let asked : request_in (read_line line) ≡ _ = sym q.read-request.ensures ∙ told.enum_told.given.1 in
     let w = written.write-refusal.ensures in
-    record { length-given = rw asked w.0; printed = rw asked w.1; table = rw asked }
+    record { length_given = rw asked w.0; printed = rw asked w.1; table = rw asked }
 
 returns-2 : tie.Need-returns-2
-unfolding listingOf
+unfolding listing_of
 returns-2 c =
     let written = c.before.before.before.before in
     let told = written.before.before.before.before in
     let q = told.before.before in
-    let line = lineRead (start q).args.input in
-    let asked : requestIn (readLine line) ≡ _ = sym q.read-request.ensures ∙ told.asked.given.1 in
+    let line = line_read (start q).args.input in
+    let asked : request_in (read_line line) ≡ _ = sym q.read-request.ensures ∙ told.asked.given.1 in
     let w = written.write-answer.ensures in
-    record { length-given = rw asked w.0; printed = rw asked w.1; table = rw asked w.2 }
+    record { length_given = rw asked w.0; printed = rw asked w.1; table = rw asked w.2 }
 
 pub listing-spec : {M : Type 1} → statement M
 listing-spec =

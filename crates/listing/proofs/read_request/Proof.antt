@@ -2,8 +2,8 @@
 use mathlib.Core.Path.{sym, ◌∙◌}
 use borrow.Author.Rules.{rules}
 use borrow.Author.Tests.{not-true, not-false}
-use Rattle.hex.specs.Hex.{readLine}
-use Rattle.listing.proofs.Requests.{not_five, other-kind, asked}
+use Rattle.hex_lines.specs.Hex.{read_line}
+use Rattle.listing.proofs.Requests.{not_five, other_kind, asked}
 use Rattle.listing.proofs.read_request.Statement.{statement}
 use Rattle.listing.proofs.read_request.Tie as tie
 
@@ -13,12 +13,12 @@ start q = q.before.before.before
 returns : tie.Need-returns
 returns c =
     let q = c.before.before in
-    sym (not_five (readLine (start q).args.input.now) (sym q.read-line.ensures.told ∙ not-true _ c.if1.true))
+    sym (not_five (read_line (start q).args.input.now) (sym q.read-line.ensures.told ∙ not-true _ c.if1.true))
 
 returns-2 : tie.Need-returns-2
 returns-2 c =
     let q = c.before.before.before in
-    sym (other-kind q.read-line.new.1.1.0 (q.read-line.ensures.bytes (not-false _ c.before.if1.false)) c.if2.true
+    sym (other_kind q.read-line.new.1.1.0 (q.read-line.ensures.bytes (not-false _ c.before.if1.false)) c.if2.true
     q.read-line.auto.1.1.0)
 
 returns-3 : tie.Need-returns-3

@@ -2,8 +2,8 @@
 use mathlib.Core.Path.{sym, ap, ◌∙◌}
 use native.Mathlib.Omega.{arith}
 use borrow.Author.Rules.{rules}
-use Rattle.listing.specs.Listing.{refusalLine}
-use Rattle.listing.proofs.Answers.{refusal-answer, table-left, rows-answer, granted-limits, lines_are, granted-table}
+use Rattle.listing.specs.Listing.{refusal_line}
+use Rattle.listing.proofs.Answers.{refusal_answer, table-left, rows-answer, granted-limits, lines_are, granted-table}
 use Rattle.listing.proofs.write_answer.Statement.{statement}
 use Rattle.listing.proofs.write_answer.Tie as tie
 
@@ -33,8 +33,8 @@ returns c =
     let numbered = written.before.before in
     let refused = numbered.before.before in
     let q = refused.before.before.before.before.before in
-    let answer = refusal-answer (start q).args.shape _ _ _ q.codeword-count.ensures (start q).requires.0 _ refused.outcome.given.1 in
-    let line = answer ∙ ap refusalLine (sym numbered.code.ensures) in
+    let answer = refusal_answer (start q).args.shape _ _ _ q.codeword-count.ensures (start q).requires.0 _ refused.outcome.given.1 in
+    let line = answer ∙ ap refusal_line (sym numbered.code.ensures) in
     let w = written.write-refusal.ensures in
     (rw line w.0, rw line w.1, table-left (start q).args.shape _ _ _ q.codeword-count.ensures (start q).requires.0)
 

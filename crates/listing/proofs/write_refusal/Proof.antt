@@ -2,12 +2,12 @@
 use mathlib.Core.Path.{◌∙◌}
 use native.Mathlib.Nat.{zero-add}
 use borrow.Author.Rules.{rules}
-use Rattle.listing.specs.Listing.{refusalLine}
+use Rattle.listing.specs.Listing.{refusal_line}
 use Rattle.listing.proofs.write_refusal.Statement.{statement}
 use Rattle.listing.proofs.write_refusal.Tie as tie
 
 returns : tie.Need-returns
-unfolding refusalLine
+unfolding refusal_line
 returns c = let written = c.before.before.write-line.ensures in (written.0 ∙ zero-add _, written.1)
 
 pub write-refusal-spec : {M : Type 1} → statement M

@@ -5,9 +5,9 @@ use Prim.Native.Nat.{ℕ, ◌+◌, ◌/◌, ◌%◌}
 use native.Mathlib.Omega.{arith}
 use borrow.Author.Rules.{rules}
 use lib.ListN.{length, take, length-take}
-use Rattle.hex.specs.Hex.{line_of}
+use Rattle.hex_lines.specs.Hex.{line_of}
 use Rattle.listing.specs.Listing.{row_line}
-use Rattle.listing.proofs.Rows.{one_word, row-taken, row-printed}
+use Rattle.listing.proofs.Rows.{one_word, row_taken, row_printed}
 use Rattle.listing.proofs.write_row.Statement.{statement}
 use Rattle.listing.proofs.write_row.Tie as tie
 
@@ -21,12 +21,12 @@ bytes q = take ((start q).args.shape.chains + 3) (17 ∷ (start q).args.n / 256 
 taken : (q : tie.After-write-codeword) → length (bytes q) ≡ (start q).args.shape.chains + 3
 taken q =
     let pre = (start q).requires in
-    row-taken (start q).args.shape (start q).args.n (one_word (start q).args.n) pre.2 pre.3 q.write-codeword.ensures
+    row_taken (start q).args.shape (start q).args.n (one_word (start q).args.n) pre.2 pre.3 q.write-codeword.ensures
 
 printed : (q : tie.After-write-codeword) → line_of (bytes q) ≡ row_line (start q).args.shape (start q).args.n
 printed q =
     let pre = (start q).requires in
-    row-printed (start q).args.shape (start q).args.n (one_word (start q).args.n) pre.2 pre.3 q.write-codeword.ensures
+    row_printed (start q).args.shape (start q).args.n (one_word (start q).args.n) pre.2 pre.3 q.write-codeword.ensures
 
 write-codeword-requires : tie.Need-write-codeword-requires
 write-codeword-requires c κs =

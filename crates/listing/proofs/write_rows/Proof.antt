@@ -4,14 +4,14 @@ use Prim.Native.Nat.{◌-◌, ◌*◌, ◌≤◌}
 use native.Mathlib.Omega.{arith}
 use borrow.Author.Rules.{rules}
 use lib.ListN.{length}
-use Rattle.lists.proofs.Joins.{write-start}
+use Rattle.lists.proofs.Joins.{write_start}
 use Rattle.listing.specs.Listing.{row_line}
-use Rattle.listing.proofs.Rows.{lineLength, Printed, line-room, keeps-length, printed-next, printed-all}
+use Rattle.listing.proofs.Rows.{line_length, Printed, line-room, keeps_length, printed-next, printed-all}
 use Rattle.listing.proofs.write_rows.Statement.{statement}
 use Rattle.listing.proofs.write_rows.Tie as tie
 
 abbrev invariant-loop : tie.invariant-loop
-invariant-loop shape lines table out₀ at₀ n₀ out at n = (n ≤ lines) × (at ≡ lineLength shape * n) × Printed shape n out₀ out
+invariant-loop shape lines table out₀ at₀ n₀ out at n = (n ≤ lines) × (at ≡ line_length shape * n) × Printed shape n out₀ out
 
 abbrev decreases-loop : tie.decreases-loop
 decreases-loop shape lines table out₀ at₀ n₀ out at n = lines - n
@@ -25,14 +25,14 @@ few q = (start q).requires.0.few-chains
 -- the slice keeps its length
 kept-long : (q : tie.At-loop invariant-loop decreases-loop) → length q.loop.out ≡ length (start q).args.out.now
 kept-long q =
-    keeps-length (start q).args.shape (start q).args.lines (start q).args.out.now (few q) (start q).requires.2 (start q).requires.3 q.loop.n
+    keeps_length (start q).args.shape (start q).args.lines (start q).args.out.now (few q) (start q).requires.2 (start q).requires.3 q.loop.n
     q.loop.invariant.0
     q.loop.invariant.2
 
 loop-holds : tie.Need-loop-init invariant-loop decreases-loop
 loop-holds c =
     let args = c.before.before.args in
-    (omega arith, omega arith, write-start (row_line args.shape) (lineLength args.shape) 0 args.out.now)
+    (omega arith, omega arith, write_start (row_line args.shape) (line_length args.shape) 0 args.out.now)
 
 write-row-requires : tie.Need-write-row-requires invariant-loop decreases-loop
 write-row-requires c κs =

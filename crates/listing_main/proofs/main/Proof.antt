@@ -6,7 +6,7 @@ use borrow.Author.Rules.{rules}
 use lib.ListN.{length, take, length-append, length-take}
 use lib.Seq.{length-take-le}
 use Rattle.listing.specs.Input.{left_of}
-use Rattle.listing.proofs.Reading.{fewer-left}
+use Rattle.listing.proofs.Reading.{fewer_left}
 use Rattle.listing_main.proofs.main.Statement.{statement}
 use Rattle.listing_main.proofs.main.Tie as tie
 
@@ -30,7 +30,7 @@ loop-less c =
     let got = read.read-full.result in
     let bytes = read.read-full.new.1.0 in
     let after = c.after.ensures in
-    fewer-left q.before.loop.input c.after.result (take got bytes) (omega (arith, q.left.ensures))
+    fewer_left q.before.loop.input c.after.result (take got bytes) (omega (arith, q.left.ensures))
     (omega (arith, length-take got bytes, read.read-full.auto.1.0)) after.0 after.2
 
 loop-again : tie.Need-loop-preserved invariant-loop decreases-loop
@@ -43,7 +43,7 @@ listing-requires c κs =
 
 -- the listing lies within the slice
 within : (q : tie.After-listing invariant-loop decreases-loop) → q.listing.result ≤ length q.listing.new.1.1.0
-within q = omega (arith, q.listing.ensures.length-given, simp length-append at (ap length q.listing.ensures.printed))
+within q = omega (arith, q.listing.ensures.length_given, simp length-append at (ap length q.listing.ensures.printed))
 
 array-share-prefix-out : tie.Need-array-share-prefix-out invariant-loop decreases-loop
 array-share-prefix-out c = within c.before.before

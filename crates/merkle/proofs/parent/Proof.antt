@@ -2,7 +2,7 @@
 use mathlib.Core.Path.{◌≡◌}
 use borrow.Author.Rules.{rules}
 use lib.ListN.{length}
-use Rattle.merkle.proofs.NodeLaws.{children-taken}
+use Rattle.merkle.proofs.NodeLaws.{children_taken}
 use Rattle.merkle.proofs.parent.Statement.{statement}
 use Rattle.merkle.proofs.parent.Tie as tie
 
@@ -17,7 +17,7 @@ returns c =
     let made = begun.before in
     let start = made.before.before in
     let a = start.args in
-    children-taken a.hasher.domain a.height a.index a.left a.right start.requires.long (longs start).0 (longs start).1
+    children_taken a.hasher.domain a.height a.index a.left a.right start.requires.long (longs start).0 (longs start).1
     made.node-address.ensures begun.begin.ensures first.absorb.ensures both.absorb2.ensures c.end.ensures
 
 pub parent-spec : {M : Type 1} → statement M

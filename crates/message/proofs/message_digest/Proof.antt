@@ -9,7 +9,7 @@ use lib.Dec.{eqb}
 use lib.ListN.{length, take, length-take}
 use lib.Seq.{length-take-le}
 use Rattle.sha256.specs.Digest.{digest}
-use Rattle.message.specs.Message.{messageDigest, leafPart}
+use Rattle.message.specs.Message.{message_digest, leaf_part}
 use Rattle.message.proofs.DigestLaws.{part-taken}
 use Rattle.message.proofs.message_digest.Statement.{statement}
 use Rattle.message.proofs.message_digest.Tie as tie
@@ -42,12 +42,12 @@ joined-digest-requires c κs =
     (omega arith, omega arith, omega arith, short _ _ (few t), s.requires)
 
 returns : tie.Need-returns
-unfolding messageDigest
+unfolding message_digest
 returns c =
     let t = c.before.before.before.before.before in
     let w = t.before in
     let a = w.before.before.args in
-    let part : take t.leaf-bytes.result w.word_Bytes.result ≡ leafPart a.edition a.leaf =
+    let part : take t.leaf-bytes.result w.word_Bytes.result ≡ leaf_part a.edition a.leaf =
     rw (t.leaf-bytes.ensures, w.word_Bytes.ensures) (part-taken a.edition a.leaf) in
     c.joined-digest.ensures ∙ ap (λ leaf. digest (a.t3 ++ a.t4 ++ a.t5 ++ leaf ++ a.message.now)) part
 

@@ -3,7 +3,7 @@ use mathlib.Core.Path.{◌∙◌}
 use native.Mathlib.Omega.{arith}
 use borrow.Author.Rules.{rules}
 use Rattle.numbers.specs.Number.{value}
-use Rattle.message.specs.Message.{messageNumber}
+use Rattle.message.specs.Message.{message_number}
 use Rattle.message.proofs.NumberLaws.{bits-few}
 use Rattle.message.proofs.message_number.Statement.{statement}
 use Rattle.message.proofs.message_number.Tie as tie
@@ -12,7 +12,7 @@ few : tie.Need-number-of-digest-requires
 few c κs = omega (arith, c.before.number-bits.ensures, bits-few (value c.before.before.before.args.count))
 
 returns : tie.Need-returns
-unfolding messageNumber
+unfolding message_number
 returns c =
     let start = c.before.before.before.before in
     c.number-of-digest.ensures ∙ rw (c.before.message-digest.ensures, c.before.before.number-bits.ensures, start.requires.0)

@@ -4,14 +4,14 @@ use Prim.Native.Nat.{min}
 use native.Mathlib.Omega.{arith}
 use borrow.Author.Rules.{rules}
 use Rattle.numbers.specs.Number.{value}
-use Rattle.message.specs.Message.{numberBits}
-use Rattle.message.proofs.NumberLaws.{bits-of-log}
+use Rattle.message.specs.Message.{number_bits}
+use Rattle.message.proofs.NumberLaws.{bits-of_log}
 use Rattle.message.proofs.number_bits.Statement.{statement}
 use Rattle.message.proofs.number_bits.Tie as tie
 
 -- the bits are the lower of the exponent and 128
-lower : (l : tie.After-log2) → numberBits (value l.before.args.count) ≡ min l.log2.result 128
-lower l = bits-of-log (value l.before.args.count) l.log2.result l.log2.ensures
+lower : (l : tie.After-log2) → number_bits (value l.before.args.count) ≡ min l.log2.result 128
+lower l = bits-of_log (value l.before.args.count) l.log2.result l.log2.ensures
 
 returns : tie.Need-returns
 returns c = omega (arith, lower c.before)

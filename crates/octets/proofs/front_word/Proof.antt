@@ -4,12 +4,12 @@ use native.Mathlib.Omega.{arith}
 use borrow.Author.Rules.{rules}
 use lib.ListN.{length, take}
 use lib.Seq.{take_all, length-take-le}
-use Rattle.octets.specs.Bytes.{fromBytes}
+use Rattle.octets.specs.Bytes.{from_bytes}
 use Rattle.octets.proofs.front_word.Statement.{statement}
 use Rattle.octets.proofs.front_word.Tie as tie
 
 returns : tie.Need-returns
-returns c = c.number_of_lem.ensures ∙ ap fromBytes (sym (take_all 4 _ (omega arith)))
+returns c = c.number_of_lem.ensures ∙ ap from_bytes (sym (take_all 4 _ (omega arith)))
 
 -- four bytes are there
 four : (c : tie.After-number-of-arg) → length (take 4 c.before.before.before.args.bytes.now) ≡ 4

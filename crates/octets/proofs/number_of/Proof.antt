@@ -6,19 +6,19 @@ use borrow.Author.Rules.{rules}
 use lib.Dec.{lit<}
 use lib.ListN.{length, take}
 use lib.Seq.{take-length}
-use Rattle.octets.specs.Bytes.{fromBytes}
-use Rattle.octets.proofs.ByteLaws.{front-next, front-wider, front-small}
+use Rattle.octets.specs.Bytes.{from_bytes}
+use Rattle.octets.proofs.ByteLaws.{front-next, front_wider, front-small}
 use Rattle.octets.proofs.number_of.Statement.{statement}
 use Rattle.octets.proofs.number_of.Tie as tie
 
 abbrev invariant-loop : tie.invariant-loop
-invariant-loop bytes number₀ i₀ number i = (i ≤ length bytes) × (number ≡ fromBytes (take i bytes)) × (number < 256 ^ i)
+invariant-loop bytes number₀ i₀ number i = (i ≤ length bytes) × (number ≡ from_bytes (take i bytes)) × (number < 256 ^ i)
 
 abbrev decreases-loop : tie.decreases-loop
 decreases-loop bytes number₀ i₀ number i = length bytes - i
 
 loop-holds : tie.Need-loop-init invariant-loop decreases-loop
-unfolding fromBytes
+unfolding from_bytes
 loop-holds c = (omega arith, refl, lit< tt)
 
 -- what stands so far leaves room for a byte
@@ -40,7 +40,7 @@ loop-again c =
     let bytes = at-loop.before.args.bytes.now in
     let i = at-loop.loop.i in
     let byte = c.shared-slice-known.given i in
-    (omega arith, rw (at-loop.loop.invariant.1, front-next bytes i (omega arith)), front-wider i at-loop.loop.invariant.2 (omega arith))
+    (omega arith, rw (at-loop.loop.invariant.1, front-next bytes i (omega arith)), front_wider i at-loop.loop.invariant.2 (omega arith))
 
 returns : tie.Need-returns invariant-loop decreases-loop
 returns c =

@@ -1,12 +1,12 @@
 -- `octets::word_of` meets its contract: the sum is the bytes', each at its power of 256.
 use native.Mathlib.Omega.{arith}
 use borrow.Author.Rules.{rules}
-use Rattle.octets.specs.Bytes.{fromBytes}
+use Rattle.octets.specs.Bytes.{from_bytes}
 use Rattle.octets.proofs.word_of.Statement.{statement}
 use Rattle.octets.proofs.word_of.Tie as tie
 
 returns : tie.Need-returns
-unfolding fromBytes
+unfolding from_bytes
 returns c = omega arith
 
 pub word-of-spec : {M : Type 1} → statement M

@@ -6,7 +6,7 @@ use borrow.Author.Rules.{rules}
 use lib.ListN.{length}
 use lib.Seq.{take_all}
 use Rattle.octets.specs.Bytes.{to_bytes}
-use Rattle.octets.proofs.ByteLaws.{length-toBytes}
+use Rattle.octets.proofs.ByteLaws.{length-to_bytes}
 use Rattle.octets.proofs.write_word.Statement.{statement}
 use Rattle.octets.proofs.write_word.Tie as tie
 
@@ -15,7 +15,7 @@ returns c =
     let copied = c.before.before in
     let made = copied.before.before.before in
     let bytes = to_bytes 4 made.before.before.args.x in
-    let long : length bytes ≤ 4 = omega (arith, length-toBytes 4 made.before.before.args.x) in
+    let long : length bytes ≤ 4 = omega (arith, length-to_bytes 4 made.before.before.args.x) in
     copied.copy.ensures ∙ rw (made.word_Bytes.ensures, take_all 4 bytes long)
 
 pub write-word-spec : {M : Type 1} → statement M

@@ -2,7 +2,7 @@
 use native.Mathlib.Omega.{arith}
 use borrow.Author.Rules.{rules}
 use Rattle.refusal.specs.Code.{code}
-use Rattle.one_time.proofs.PlaceAnswer.{place_kept, place-passed, place-answers, place-placeable}
+use Rattle.one_time.proofs.PlaceAnswer.{place_kept, place-passed, place_answers, place-placeable}
 use Rattle.one_time.proofs.place_row.Statement.{statement}
 use Rattle.one_time.proofs.place_row.Tie as tie
 
@@ -30,7 +30,7 @@ returns c =
     let begin = start early in
     let a = begin.args in
     let table = early.before.table-outcome.ensures in
-    place-answers a.p a.table.now a.leaf a.wrong (code a.refusal) begin.pre.0 table early.early-outcome.ensures
+    place_answers a.p a.table.now a.leaf a.wrong (code a.refusal) begin.pre.0 table early.early-outcome.ensures
     filled.fill-past.ensures.table placed.place-past.ensures
 
 place-past-requires : tie.Need-place-past-requires

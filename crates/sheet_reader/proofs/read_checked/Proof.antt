@@ -6,35 +6,35 @@ use native.Mathlib.Omega.{arith}
 use borrow.Author.Rules.{rules}
 use lib.Dec.{ltb}
 use lib.ListN.{length}
-use Rattle.refusal.specs.Code.{outcomeCode, firstCause}
-use Rattle.refusal.proofs.Causes.{chain-begins, chain_next}
+use Rattle.refusal.specs.Code.{outcome_code, first_cause}
+use Rattle.refusal.proofs.Causes.{chain_begins, chain_next}
 use Rattle.profile.proofs.Limits.{profile-limits}
-use Rattle.sheet_reader.specs.Sheet.{readSheet}
-use Rattle.sheet_reader.specs.Operations.{lineIn, textIn, sheetCauses}
+use Rattle.sheet_reader.specs.Sheet.{read_sheet}
+use Rattle.sheet_reader.specs.Operations.{line_in, text_in, sheet_causes}
 use Rattle.sheet_reader.specs.inner.Judging.{judgement}
 use Rattle.sheet_reader.proofs.PayloadLaws.{text-within}
-use Rattle.sheet_reader.proofs.SheetAnswer.{whole_apart, wrong-told, line_small, late-refused, Open, late-open, sheet-granted}
+use Rattle.sheet_reader.proofs.SheetAnswer.{whole_apart, wrong-told, line_small, late-refused, Open, late_open, sheet-granted}
 use Rattle.sheet_reader.proofs.read_checked.Statement.{statement}
 use Rattle.sheet_reader.proofs.read_checked.Tie as tie
 
 -- what the sheet is judged as
-line-is : (c : tie.After-judge) → let a = c.before.before.before.before.args in c.judge.result.line ≡ lineIn (readSheet a.p a.sheet.now)
+line-is : (c : tie.After-judge) → let a = c.before.before.before.before.args in c.judge.result.line ≡ line_in (read_sheet a.p a.sheet.now)
 unfolding judgement
 line-is c = ap (λ j. j.line) c.judge.ensures
 
 length-is : (c : tie.After-judge) → let a = c.before.before.before.before.args in
-    c.judge.result.length ≡ length (textIn (readSheet a.p a.sheet.now))
+    c.judge.result.length ≡ length (text_in (read_sheet a.p a.sheet.now))
 unfolding judgement
 length-is c = ap (λ j. j.length) c.judge.ensures
 
 -- the causes in their order
 answered : (c : tie.After-then3) → let a = c.before.before.before.before.before.before.before.before.args in
-    outcomeCode c.then3.result ≡ firstCause (sheetCauses a.p a.sheet.now a.signature.now a.message.now)
+    outcome_code c.then3.result ≡ first_cause (sheet_causes a.p a.sheet.now a.signature.now a.message.now)
 answered c =
     let m = c.before.before.before in
     let j = m.before in
     let a = j.before.before.before.before.args in
-    let formed = chain_next 17 refl (chain-begins [] tt refl) (ap (ltb 0) (line-is j) ∙ wrong-told a.p a.sheet.now)
+    let formed = chain_next 17 refl (chain_begins [] tt refl) (ap (ltb 0) (line-is j) ∙ wrong-told a.p a.sheet.now)
     c.before.before.then.ensures in
     let held = chain_next 6 refl formed (ap (ltb (length a.signature.now)) m.signature-length.ensures) c.before.then2.ensures in
     (chain_next 6 refl held (ap (ltb (length a.message.now)) (length-is j)) c.then3.ensures).answer
@@ -46,8 +46,8 @@ open_at c =
     let t = c.before.before in
     let j = t.before.before.before.before in
     let s = j.before.before.before.before in
-    late-open s.args.p s.args.sheet.now s.args.signature.now s.args.message.now s.requires j.judge.result.length
-    (sym (answered t) ∙ ap outcomeCode c.enum-told2.given.1) (length-is j)
+    late_open s.args.p s.args.sheet.now s.args.signature.now s.args.message.now s.requires j.judge.result.length
+    (sym (answered t) ∙ ap outcome_code c.enum-told2.given.1) (length-is j)
 
 judge-requires : tie.Need-judge-requires
 judge-requires c κs = let s = c.before.before.before in profile-limits s.args.p s.requires

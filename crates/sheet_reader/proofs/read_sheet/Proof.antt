@@ -2,7 +2,7 @@
 use mathlib.Core.List.{[]}
 use borrow.Author.Rules.{rules}
 use Rattle.refusal.proofs.Causes.{granted-none}
-use Rattle.profile.specs.Checks.{profileCauses}
+use Rattle.profile.specs.Checks.{profile_causes}
 use Rattle.sheet_reader.proofs.SheetAnswer.{profile-refused}
 use Rattle.sheet_reader.proofs.read_sheet.Statement.{statement}
 use Rattle.sheet_reader.proofs.read_sheet.Tie as tie
@@ -12,7 +12,7 @@ read-checked-requires c κs =
     let told = c.before.before in
     let checked = told.before.before in
     let p = checked.before.before.before.before.args.p in
-    granted-none (profileCauses p) [] checked.check-profile.result checked.check-profile.ensures told.enum-told2.given.1
+    granted-none (profile_causes p) [] checked.check-profile.result checked.check-profile.ensures told.enum-told2.given.1
 
 returns : tie.Need-returns
 returns c =

@@ -1,11 +1,11 @@
 -- `signature::random_in` meets its contract: the 16 bytes behind the leaf.
 use borrow.Author.Rules.{rules}
-use Rattle.signature.specs.Signature.{randomIn}
+use Rattle.signature.specs.Signature.{random_in}
 use Rattle.signature.proofs.random_in.Statement.{statement}
 use Rattle.signature.proofs.random_in.Tie as tie
 
 returns : tie.Need-returns
-unfolding randomIn
+unfolding random_in
 returns c = c.read-16.ensures
 
 pub random-in-spec : {M : Type 1} → statement M

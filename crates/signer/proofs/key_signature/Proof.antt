@@ -3,8 +3,8 @@ use mathlib.Core.Path.{◌≡◌}
 use native.Mathlib.Omega.{arith}
 use borrow.Author.Rules.{rules}
 use Rattle.numbers.specs.Number.{value}
-use Rattle.chains.proofs.LeafLaws.{chains-fit}
-use Rattle.signer.specs.Signing.{keyNumber}
+use Rattle.chains.proofs.LeafLaws.{chains_fit}
+use Rattle.signer.specs.Signing.{key_number}
 use Rattle.signer.proofs.Answers.{number_is, key-number-fits, signature-is}
 use Rattle.signer.proofs.key_signature.Statement.{statement}
 use Rattle.signer.proofs.key_signature.Tie as tie
@@ -21,7 +21,7 @@ way-up-requires c κs =
     let h = c.before in
     let known = (start h).requires in (
       h.first-hasher.ensures.1,
-      (rw (chained h).chains-of.ensures (chains-fit (start h).args.key.profile.shape known.limits), known.low, known.in_tree),
+      (rw (chained h).chains-of.ensures (chains_fit (start h).args.key.profile.shape known.limits), known.low, known.in_tree),
     )
 
 -- the message number
@@ -32,7 +32,7 @@ abbrev begun : tie.After-message-number → tie.Start
 begun n = start (hasher n)
 
 number : (n : tie.After-message-number)
-    → value n.message-number.result ≡ keyNumber (begun n).args.key (begun n).args.r (begun n).args.message.now
+    → value n.message-number.result ≡ key_number (begun n).args.key (begun n).args.r (begun n).args.message.now
 number n =
     let a = (begun n).args in
     let h = hasher n in

@@ -3,8 +3,8 @@ use mathlib.Core.Path.{◌≡◌, sym}
 use native.Mathlib.Omega.{arith}
 use borrow.Author.Rules.{rules}
 use lib.ListN.{length, replicate}
-use Rattle.chains.specs.Leaves.{chainsOf, revealed}
-use Rattle.chains.proofs.LeafLaws.{chains-fit}
+use Rattle.chains.specs.Leaves.{chains_of, revealed}
+use Rattle.chains.proofs.LeafLaws.{chains_fit}
 use Rattle.chains.proofs.LeafRecover.{length-revealed}
 use Rattle.signature.proofs.Written.{signature-made}
 use Rattle.signer.proofs.make_signature.Statement.{statement}
@@ -35,7 +35,7 @@ write-values-requires c κs =
     let limits = begin.pre.1.0 in (
       begin.pre.0,
       rw (chained first).chains-of.ensures
-          (chains-fit begin.args.p.shape limits, omega (arith, limits.few-chains, first.write_word.auto.0, second.write-16.auto.0)),
+          (chains_fit begin.args.p.shape limits, omega (arith, limits.few-chains, first.write_word.auto.0, second.write-16.auto.0)),
     )
 
 longs : (s : tie.Start) → (length s.args.r ≡ 16) × (length s.args.t7 ≡ 160)
@@ -61,7 +61,7 @@ returns c =
     let begin = start third in
     let a = begin.args in
     let d = a.hasher.domain in
-    let chains = chainsOf a.p.shape in
+    let chains = chains_of a.p.shape in
     signature-made a.p a.leaf a.r (revealed d chains a.secret.now a.leaf a.row) a.t7 (replicate 820 0)
     (longs begin).0 (length-revealed d chains a.secret.now a.leaf a.row) (omega (arith, begin.pre.1.1, (longs begin).1))
     (first third).write_word.ensures (second third).write-16.ensures

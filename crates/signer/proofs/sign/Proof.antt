@@ -4,12 +4,12 @@ use Prim.Native.Nat.{◌≤◌}
 use native.Mathlib.Omega.{arith}
 use borrow.Author.Rules.{rules}
 use lib.ListN.{length}
-use Rattle.refusal.specs.Code.{outcomeCode}
-use Rattle.signature.specs.Signature.{signatureLength}
+use Rattle.refusal.specs.Code.{outcome_code}
+use Rattle.signature.specs.Signature.{signature_length}
 use Rattle.signing_key.specs.Key.{recounted}
 use Rattle.signer.specs.Operations.{SigningCall}
 use Rattle.signer.specs.inner.Making.{ReadyToSign}
-use Rattle.signer.proofs.Answers.{sign-filled, sign-ready, sign-refused, sign-granted}
+use Rattle.signer.proofs.Answers.{sign_filled, sign_ready, sign-refused, sign-granted}
 use Rattle.signer.proofs.sign.Statement.{statement}
 use Rattle.signer.proofs.sign.Tie as tie
 
@@ -24,7 +24,7 @@ start e = e.before.before.before.before.before.before.before
 fill-past-requires : tie.Need-fill-past-requires
 fill-past-requires c κs =
     let s = start c.before in
-    sign-filled s.args.key (called s) c.before.before.table-outcome.ensures c.before.sign-outcome.ensures
+    sign_filled s.args.key (called s) c.before.before.table-outcome.ensures c.before.sign-outcome.ensures
 
 -- the table is filled past them, and the count is looked at
 abbrev filled : tie.After-then → tie.After-fill-past
@@ -44,16 +44,16 @@ returns c =
 abbrev looked : tie.After-enum-told2 → tie.After-then
 looked g = g.before.before.before.before.before
 
-zero : (g : tie.After-enum-told2) → outcomeCode (looked g).then.result ≡ 0
-zero g = ap outcomeCode g.enum-told2.given.1
+zero : (g : tie.After-enum-told2) → outcome_code (looked g).then.result ≡ 0
+zero g = ap outcome_code g.enum-told2.given.1
 
 ready : (g : tie.After-enum-told2) → let s = start (early (looked g)) in
     ReadyToSign s.args.key (filled (looked g)).fill-past.result s.args.message.now (filled (looked g)).fill-past.new.1.1.0
-    × (signatureLength s.args.key.profile ≤ length s.args.signature.now)
+    × (signature_length s.args.key.profile ≤ length s.args.signature.now)
 ready g =
     let t = looked g in
     let e = early t in
-    sign-ready (start e).args.key (called (start e)) e.before.table-outcome.ensures e.sign-outcome.ensures (filled t).fill-past.ensures
+    sign_ready (start e).args.key (called (start e)) e.before.table-outcome.ensures e.sign-outcome.ensures (filled t).fill-past.ensures
     t.before.count-too-small.ensures t.then.result t.then.ensures (zero g)
 
 key-signature-requires : tie.Need-key-signature-requires
@@ -64,7 +64,7 @@ made-long : (m : tie.After-key-signature) → length m.key-signature.result ≡ 
 made-long m = search rules
 
 copy-requires : tie.Need-copy-requires
-unfolding signatureLength
+unfolding signature_length
 copy-requires c κs =
     let made = c.before.before.before in
     let known = ready made.before.before in

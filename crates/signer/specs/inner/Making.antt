@@ -5,8 +5,8 @@ use Rattle.profile.specs.Checks.{InLimits}
 use Rattle.signing_key.specs.declared.SigningKey.{SigningKey}
 use Rattle.counts.specs.Counts.{count}
 use Rattle.counts.specs.Table.{Holds}
-use Rattle.message.specs.Message.{countTooSmall}
-use Rattle.signer.specs.Signing.{leafToSign}
+use Rattle.message.specs.Message.{count_too_small}
+use Rattle.signer.specs.Signing.{leaf_to_sign}
 
 -- everything is within its limits, and a leaf of the tree is marked; the work slice holds the table, and its count is given and not too
 -- small
@@ -15,7 +15,7 @@ pub record ReadyToSign (key : SigningKey) (counted message work : List ℕ) : Ty
   pub low : key.profile.height ≤ 10
   pub short : length message ≤ 200
   pub some : 1 ≤ key.counter.next
-  pub in_tree : leafToSign key < 2 ^ key.profile.height
+  pub in_tree : leaf_to_sign key < 2 ^ key.profile.height
   pub held : Holds key.profile.shape work
   pub number : value counted ≡ count key.profile.shape
-  pub large : countTooSmall (count key.profile.shape) ≡ false
+  pub large : count_too_small (count key.profile.shape) ≡ false

@@ -3,9 +3,9 @@ use mathlib.Core.Path.{◌≡◌, refl, sym, ap, ◌∙◌}
 use Prim.Native.Nat.{ℕ}
 use native.Mathlib.Omega.{arith}
 use borrow.Author.Rules.{rules}
-use Rattle.refusal.specs.Code.{outcomeCode}
-use Rattle.signing_key.specs.Counter.{counterCauses}
-use Rattle.signing_key.proofs.CounterLaws.{none-of-then, leaf-left, answer-refused, answer-granted}
+use Rattle.refusal.specs.Code.{outcome_code}
+use Rattle.signing_key.specs.Counter.{counter_causes}
+use Rattle.signing_key.proofs.CounterLaws.{none-of_then, leaf_left, answer-refused, answer-granted}
 use Rattle.signing_key.proofs.reserve_leaf.Statement.{statement}
 use Rattle.signing_key.proofs.reserve_leaf.Tie as tie
 
@@ -14,9 +14,9 @@ advance-requires c κs =
     let o = c.before.before in
     let start = o.before in
     let a = start.args in
-    let none : outcomeCode o.reserve-outcome.result ≡ 0 = ap outcomeCode c.enum-told2.given.1 in
-    let both = none-of-then (outcomeCode a.checked) (counterCauses a.leaves a.c) (sym o.reserve-outcome.ensures ∙ none) in
-    let left = (leaf-left a.leaves a.c both.1).left in
+    let none : outcome_code o.reserve-outcome.result ≡ 0 = ap outcome_code c.enum-told2.given.1 in
+    let both = none-of_then (outcome_code a.checked) (counter_causes a.leaves a.c) (sym o.reserve-outcome.ensures ∙ none) in
+    let left = (leaf_left a.leaves a.c both.1).left in
     let few = start.requires both.0 in
     omega arith
 

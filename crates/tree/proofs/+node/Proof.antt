@@ -4,10 +4,10 @@ use native.Mathlib.Omega.{arith}
 use borrow.Author.Rules.{rules}
 use borrow.Fn.Kinds.{In}
 use borrow.Fn.PlainCycle.{Measures, is, falls, and}
-use Rattle.chains.specs.Leaves.{leafKey}
+use Rattle.chains.specs.Leaves.{leaf_key}
 use Rattle.chains.proofs.leaves.key_of_leaf.Reads as key-of-leaf-reads
-use Rattle.merkle.proofs.Indices.{index-small, child-within}
-use Rattle.merkle.proofs.NodeLaws.{node-leaf, node-above}
+use Rattle.merkle.proofs.Indices.{index_small, child_within}
+use Rattle.merkle.proofs.NodeLaws.{node_leaf, node-above}
 use Rattle.tree.proofs.node.Reads as node
 use Rattle.tree.proofs.node.Kinds as node-kinds
 use Rattle.tree.proofs.+node.Lts-node as node-lts
@@ -35,10 +35,10 @@ module _ (t : ℕ) where
 
   -- both children are within their height
   within : (c : node-lts.Else1 (calls t) (node_at t) node.Post) → 2 * c.before.args.index + 1 < 2 ^ (31 - (c.before.args.height - 1))
-  within c = child-within c.before.args.height (above c) c.before.requires.1.1.1 c.before.requires.1.1.2
+  within c = child_within c.before.args.height (above c) c.before.requires.1.1.1 c.before.requires.1.1.2
 
   small : (c : node-lts.Else1 (calls t) (node_at t) node.Post) → c.before.args.index < 2 ^ 31
-  small c = index-small c.before.args.height c.before.requires.1.1.2
+  small c = index_small c.before.args.height c.before.requires.1.1.2
 
   key-of-leaf-requires : node-lts.Need-key-of-leaf-requires (calls t) (node_at t) node.Post
   key-of-leaf-requires c κs = search rules
@@ -46,8 +46,8 @@ module _ (t : ℕ) where
   returns : node-lts.Need-returns (calls t) (node_at t) node.Post
   returns c =
       let a = c.before.before.args in
-      let leaves = leafKey a.hasher.domain a.chains a.secret.now in
-      node-leaf a.hasher.domain leaves a.height a.index c.before.if1.true c.key-of-leaf.ensures
+      let leaves = leaf_key a.hasher.domain a.chains a.secret.now in
+      node_leaf a.hasher.domain leaves a.height a.index c.before.if1.true c.key-of-leaf.ensures
 
   sub-below : node-lts.Need-overflow-sub-below (calls t) (node_at t) node.Post
   sub-below c = search rules
@@ -77,7 +77,7 @@ module _ (t : ℕ) where
       let right = c.before in
       let left = right.before in
       let a = left.before.before.args in
-      let leaves = leafKey a.hasher.domain a.chains a.secret.now in
+      let leaves = leaf_key a.hasher.domain a.chains a.secret.now in
       let made = node-above a.hasher.domain leaves a.height a.index (above left.before) in
       made left.node.ensures right.node2.ensures c.parent.ensures
 

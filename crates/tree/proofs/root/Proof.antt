@@ -5,9 +5,9 @@ use native.Mathlib.Omega.{arith}
 use borrow.Author.Rules.{rules}
 use lib.Pow.{pow_mono}
 use Rattle.refusal.proofs.Causes.{granted-none}
-use Rattle.profile.specs.Checks.{profileCauses}
+use Rattle.profile.specs.Checks.{profile_causes}
 use Rattle.profile.proofs.Limits.{profile-limits}
-use Rattle.chains.proofs.LeafLaws.{chains-fit}
+use Rattle.chains.proofs.LeafLaws.{chains_fit}
 use Rattle.tree.proofs.Answer.{root-refused, root-granted}
 use Rattle.tree.proofs.root.Statement.{statement}
 use Rattle.tree.proofs.root.Tie as tie
@@ -17,9 +17,9 @@ node-requires c κs =
     let granted = c.before.before.before in
     let checked = granted.before.before in
     let p = checked.before.args.p in
-    let limits = profile-limits p (granted-none (profileCauses p) [] _ checked.check-profile.ensures granted.enum-told2.given.1) in
+    let limits = profile-limits p (granted-none (profile_causes p) [] _ checked.check-profile.ensures granted.enum-told2.given.1) in
     let room = pow_mono {i = 1} {j = 31 - p.height} (omega (arith, limits.1)) in
-    let fit = chains-fit p.shape limits.0 in
+    let fit = chains_fit p.shape limits.0 in
     (c.first-hasher.ensures.1, (rw c.before.chains-of.ensures fit, omega (arith, limits.1), omega (arith, room)))
 
 returns : tie.Need-returns

@@ -7,10 +7,10 @@ use native.Mathlib.Nat.{div-one}
 use native.Mathlib.Omega.{arith}
 use borrow.Author.Rules.{rules}
 use lib.ListN.{length, drop}
-use Rattle.chains.specs.Leaves.{leafKey}
-use Rattle.chains.proofs.LeafLaws.{length-leaf-key}
+use Rattle.chains.specs.Leaves.{leaf_key}
+use Rattle.chains.proofs.LeafLaws.{length_leaf_key}
 use Rattle.merkle.specs.Nodes.{sibling, path}
-use Rattle.merkle.proofs.Indices.{index-small, half_place, place-within, sibling-place-within}
+use Rattle.merkle.proofs.Indices.{index_small, half_place, place-within, sibling-place-within}
 use Rattle.merkle.proofs.PathLaws.{path-start, path-next}
 use Rattle.tree.proofs.write_path.Statement.{statement}
 use Rattle.tree.proofs.write_path.Tie as tie
@@ -18,7 +18,7 @@ use Rattle.tree.proofs.write_path.Tie as tie
 abbrev invariant-loop : tie.invariant-loop
 invariant-loop hasher chains secret height leaf out₀ index₀ k₀ out index k =
     (k ≤ height) × (index ≡ leaf / 2 ^ k) × (length out ≡ length out₀)
-    × (out ≡ path hasher.domain (leafKey hasher.domain chains secret) k leaf ++ drop (16 * k) out₀)
+    × (out ≡ path hasher.domain (leaf_key hasher.domain chains secret) k leaf ++ drop (16 * k) out₀)
 
 abbrev decreases-loop : tie.decreases-loop
 decreases-loop hasher chains secret height leaf out₀ index₀ k₀ out index k = height - k
@@ -26,7 +26,7 @@ decreases-loop hasher chains secret height leaf out₀ index₀ k₀ out index k
 loop-holds : tie.Need-loop-init invariant-loop decreases-loop
 loop-holds c =
     let a = c.before.args in
-    let leaves = leafKey a.hasher.domain a.chains a.secret.now in
+    let leaves = leaf_key a.hasher.domain a.chains a.secret.now in
     (omega arith, sym (div-one a.leaf), refl, path-start a.hasher.domain leaves a.leaf a.out.now)
 
 sibling-requires : tie.Need-sibling-requires invariant-loop decreases-loop
@@ -35,7 +35,7 @@ sibling-requires c κs =
     let start = at-loop.before.before in
     let k = at-loop.loop.k in
     let within = place-within start.args.leaf start.args.height k start.requires.1.1 start.requires.1.2 c.loop-test.true in
-    omega (arith, index-small k within)
+    omega (arith, index_small k within)
 
 node-requires : tie.Need-node-requires invariant-loop decreases-loop
 node-requires c κs =
@@ -58,7 +58,7 @@ loop-again c =
     let place = at-loop.loop.invariant.1 in
     let up = ap (λ (i : ℕ). i / 2) place ∙ half_place a.leaf at-loop.loop.k in
     let next =
-    path-next d (leafKey d a.chains a.secret.now) a.leaf a.out.now (length-leaf-key d a.chains a.secret.now) a.height
+    path-next d (leaf_key d a.chains a.secret.now) a.leaf a.out.now (length_leaf_key d a.chains a.secret.now) a.height
     at-loop.loop.k at-loop.loop.index start.requires.1.3 (omega arith) place in
     let put = next sided.sibling.ensures valued.node.ensures at-loop.loop.invariant.3 written.write-16.ensures in
     (omega arith, up, written.write-16.auto.0 ∙ at-loop.loop.invariant.2, put)

@@ -2,24 +2,24 @@
 use mathlib.Core.Path.{◌≡◌, refl, sym, ◌∙◌}
 use borrow.Author.Rules.{rules}
 use lib.ListN.{length}
-use Rattle.tweak.specs.Tweak.{seedBlock}
+use Rattle.tweak.specs.Tweak.{seed_block}
 use Rattle.tweak.proofs.seeded.Statement.{statement}
 use Rattle.tweak.proofs.seeded.Tie as tie
 
 slice-aggregate-compress : tie.Need-slice-aggregate-compress
 slice-aggregate-compress c = sym c.before.before.before.write-16.auto.0
 
-seed-long : (c : tie.Start) → length c.args.d.seed ≡ 16
-seed-long c = search rules
+seed_long : (c : tie.Start) → length c.args.d.seed ≡ 16
+seed_long c = search rules
 
 returns : tie.Need-returns
-unfolding seedBlock
+unfolding seed_block
 returns c =
     let begun = c.before.before in
     let written = begun.before.before in (
       refl,
       record {
-        long = seed-long written.before.before.before;
+        long = seed_long written.before.before.before;
         words = c.compress.ensures
             ∙ rw (begun.initial.ensures, written.write-16.ensures);
       },

@@ -3,7 +3,7 @@ use mathlib.Core.Path.{◌≡◌, ap, ◌∙◌}
 use borrow.Author.Rules.{rules}
 use lib.ListN.{length}
 use Rattle.sha256_block.specs.Compression.{compress}
-use Rattle.tweak.proofs.TweakLaws.{block-compressed}
+use Rattle.tweak.proofs.TweakLaws.{block_compressed}
 use Rattle.tweak.proofs.tweaked_hash.Statement.{statement}
 use Rattle.tweak.proofs.tweaked_hash.Tie as tie
 
@@ -17,7 +17,7 @@ returns c =
     let start = made.before in
     let a = start.args in
     let long = longs start in
-    block-compressed a.hasher.domain a.address a.value start.requires.long long.0 long.1 start.requires.words
+    block_compressed a.hasher.domain a.address a.value start.requires.long long.0 long.1 start.requires.words
     (compressed.compress.ensures ∙ ap (compress a.hasher.words) made.last_block.ensures) c.front.ensures
 
 pub tweaked-hash-spec : {M : Type 1} → statement M

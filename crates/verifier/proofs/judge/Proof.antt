@@ -2,12 +2,12 @@
 use mathlib.Core.Path.{◌≡◌, ap, ◌∙◌}
 use mathlib.Core.Bool.{false, not}
 use borrow.Author.Rules.{rules}
-use Rattle.refusal.specs.Code.{outcomeCode}
+use Rattle.refusal.specs.Code.{outcome_code}
 use Rattle.counts.specs.Counts.{count}
-use Rattle.message.specs.Message.{countTooSmall}
-use Rattle.verifier.specs.Verifying.{sameBytes}
+use Rattle.message.specs.Message.{count_too_small}
+use Rattle.verifier.specs.Verifying.{same_bytes}
 use Rattle.verifier.specs.inner.Judging.{Ready}
-use Rattle.verifier.proofs.Answers.{ready-front, judge-refused, judge-none, top-recovered, steps-full, judge-decided}
+use Rattle.verifier.proofs.Answers.{ready_front, judge_refused, judge_none, top-recovered, steps_full, judge_decided}
 use Rattle.verifier.proofs.judge.Statement.{statement}
 use Rattle.verifier.proofs.judge.Tie as tie
 
@@ -15,15 +15,15 @@ use Rattle.verifier.proofs.judge.Tie as tie
 abbrev start : tie.After-then → tie.Start
 start t = t.before.before.before.before.before
 
-means : (t : tie.After-then) → outcomeCode (start t).args.early ≡ 0
-    → t.before.count-too-small.result ≡ countTooSmall (count (start t).args.v.profile.shape)
-means t none = t.before.count-too-small.ensures ∙ ap countTooSmall ((start t).requires none).number
+means : (t : tie.After-then) → outcome_code (start t).args.early ≡ 0
+    → t.before.count-too-small.result ≡ count_too_small (count (start t).args.v.profile.shape)
+means t none = t.before.count-too-small.ensures ∙ ap count_too_small ((start t).requires none).number
 
 returns : tie.Need-returns
 returns c =
     let t = c.before.before in
     let a = (start t).args in
-    judge-refused a.v a.message.now a.signature.now (means t) t.then.result t.then.ensures c.enum_told.given.1
+    judge_refused a.v a.message.now a.signature.now (means t) t.then.result t.then.ensures c.enum_told.given.1
 
 -- the way on which it is large enough
 abbrev looked : tie.After-enum-told2 → tie.After-then
@@ -32,13 +32,13 @@ looked g = g.before.before
 abbrev begun : tie.After-enum-told2 → tie.Start
 begun g = start (looked g)
 
-zero : (g : tie.After-enum-told2) → outcomeCode (looked g).then.result ≡ 0
-zero g = ap outcomeCode g.enum-told2.given.1
+zero : (g : tie.After-enum-told2) → outcome_code (looked g).then.result ≡ 0
+zero g = ap outcome_code g.enum-told2.given.1
 
-none : (g : tie.After-enum-told2) → (outcomeCode (begun g).args.early ≡ 0) × (countTooSmall (count (begun g).args.v.profile.shape) ≡ false)
+none : (g : tie.After-enum-told2) → (outcome_code (begun g).args.early ≡ 0) × (count_too_small (count (begun g).args.v.profile.shape) ≡ false)
 none g =
     let a = (begun g).args in
-    judge-none a.v a.message.now a.signature.now (means (looked g)) (looked g).then.result (looked g).then.ensures (zero g)
+    judge_none a.v a.message.now a.signature.now (means (looked g)) (looked g).then.result (looked g).then.ensures (zero g)
 
 ready : (g : tie.After-enum-told2)
     → Ready (begun g).args.v (begun g).args.count (begun g).args.message.now (begun g).args.signature.now (begun g).args.table.now
@@ -48,7 +48,7 @@ row-in-requires : tie.Need-row-in-requires
 row-in-requires c κs =
     let a = (begun c).args in
     let known = ready c in
-    let front = ready-front a.v a.count a.message.now a.signature.now a.table.now known in
+    let front = ready_front a.v a.count a.message.now a.signature.now a.table.now known in
     ((known.limits, known.held), ((known.number, (none c).1), (known.short, front)))
 
 recover-root-requires : tie.Need-recover-root-requires
@@ -75,9 +75,9 @@ returns-2 c =
     let message = a.message.now in
     let signature = a.signature.now in
     let top = top-recovered a.v message signature row.row_in.result row.row_in.ensures own r.recover-root.ensures.0 in
-    let steps = steps-full a.v message signature row.row_in.result row.row_in.ensures own r.recover-root.ensures.1 in
-    let compared = ap not (j.before.same-root.ensures ∙ ap (λ found. sameBytes found a.v.root) top) in
-    judge-decided a.v message signature (none g).0 (none g).1 compared j.then2.result (zero g) j.then2.ensures own
+    let steps = steps_full a.v message signature row.row_in.result row.row_in.ensures own r.recover-root.ensures.1 in
+    let compared = ap not (j.before.same-root.ensures ∙ ap (λ found. same_bytes found a.v.root) top) in
+    judge_decided a.v message signature (none g).0 (none g).1 compared j.then2.result (zero g) j.then2.ensures own
     c.verifier-after.ensures steps
 
 pub judge-spec : {M : Type 1} → statement M

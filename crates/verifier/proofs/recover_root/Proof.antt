@@ -6,8 +6,8 @@ use native.Mathlib.Omega.{arith}
 use borrow.Author.Rules.{rules}
 use lib.ListN.{length, take, drop, length-drop}
 use lib.Seq.{take_all, length-take-le}
-use Rattle.chains.proofs.LeafLaws.{chains-fit}
-use Rattle.signature.specs.Signature.{signatureLength, valuesIn, siblingsIn}
+use Rattle.chains.proofs.LeafLaws.{chains_fit}
+use Rattle.signature.specs.Signature.{signature_length, values_in, siblings_in}
 use Rattle.verifier.proofs.recover_root.Statement.{statement}
 use Rattle.verifier.proofs.recover_root.Tie as tie
 
@@ -26,19 +26,19 @@ rest : (n : ℕ) (s : List ℕ) → take (length s - n) (drop n s) ≡ drop n s
 rest n s = take_all (length s - n) (drop n s) (omega (arith, length-drop n s))
 
 part-values-end : tie.Need-slice-bounds-values-end
-unfolding signatureLength
+unfolding signature_length
 part-values-end c = omega (arith, (start c).requires)
 
 sub-siblings : tie.Need-overflow-sub-siblings
-unfolding signatureLength
+unfolding signature_length
 sub-siblings c = omega (arith, (start c.before).requires)
 
 part-siblings-start : tie.Need-slice-bounds-siblings-start
-unfolding signatureLength
+unfolding signature_length
 part-siblings-start c = omega (arith, (start c.before).requires)
 
 recover-root-requires : tie.Need-recover-root-requires
-unfolding signatureLength
+unfolding signature_length
 recover-root-requires c κs =
     let known = c.before.before in
     let begin = start known in
@@ -50,11 +50,11 @@ recover-root-requires c κs =
     (omega arith, omega (arith, begin.pre)) in (
       known.before.first-hasher.ensures.1,
       rw (made known).chains-of.ensures
-          (chains-fit begin.args.v.profile.shape begin.pre.0, room.0, room.1),
+          (chains_fit begin.args.v.profile.shape begin.pre.0, room.0, room.1),
     )
 
 returns : tie.Need-returns
-unfolding valuesIn siblingsIn
+unfolding values_in siblings_in
 returns c =
     let known = c.before.before.before in
     let a = (start known).args in

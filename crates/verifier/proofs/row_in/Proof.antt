@@ -4,7 +4,7 @@ use native.Mathlib.Omega.{arith}
 use borrow.Author.Rules.{rules}
 use Rattle.numbers.specs.Number.{value}
 use Rattle.verifier.specs.Verifying.{number_in}
-use Rattle.verifier.proofs.Answers.{number_is, number-in-fits, row-placed}
+use Rattle.verifier.proofs.Answers.{number_is, number_in_fits, row_placed}
 use Rattle.verifier.proofs.row_in.Statement.{statement}
 use Rattle.verifier.proofs.row_in.Tie as tie
 
@@ -26,7 +26,7 @@ write-codeword-requires c κs =
     let n = c.before in
     let s = begun n in
     let limits = s.pre.0.0 in
-    let fitting = number-in-fits s.args.v s.args.message.now s.args.signature.now s.pre.1.0.1 in
+    let fitting = number_in_fits s.args.v s.args.message.now s.args.signature.now s.pre.1.0.1 in
     (limits, (s.pre.0.1, (rw (number n) fitting, omega (arith, limits.few-chains))))
 
 returns : tie.Need-returns
@@ -34,7 +34,7 @@ returns c =
     let w = c.before in
     let n = w.before.before in
     let s = begun n in
-    row-placed s.args.v s.args.message.now s.args.signature.now s.pre.1.0.1 _ (number n) w.write-codeword.ensures
+    row_placed s.args.v s.args.message.now s.args.signature.now s.pre.1.0.1 _ (number n) w.write-codeword.ensures
 
 pub row-in-spec : {M : Type 1} → statement M
 row-in-spec =

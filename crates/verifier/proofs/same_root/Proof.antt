@@ -4,13 +4,13 @@ use Prim.Native.Nat.{◌-◌, ◌≤◌}
 use native.Mathlib.Omega.{arith}
 use borrow.Author.Rules.{rules}
 use lib.ListN.{length, drop}
-use Rattle.verifier.specs.Verifying.{sameBytes}
+use Rattle.verifier.specs.Verifying.{same_bytes}
 use Rattle.verifier.proofs.SameLaws.{same_here, same-later, same_end}
 use Rattle.verifier.proofs.same_root.Statement.{statement}
 use Rattle.verifier.proofs.same_root.Tie as tie
 
 abbrev invariant-loop : tie.invariant-loop
-invariant-loop a b i₀ i = (i ≤ 16) × (sameBytes a b ≡ sameBytes (drop i a) (drop i b))
+invariant-loop a b i₀ i = (i ≤ 16) × (same_bytes a b ≡ same_bytes (drop i a) (drop i b))
 
 abbrev decreases-loop : tie.decreases-loop
 decreases-loop a b i₀ i = 16 - i

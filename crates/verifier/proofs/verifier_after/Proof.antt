@@ -1,8 +1,8 @@
 -- `verifier::verifier_after` meets its contract: the window takes the leaf where the outcome is granted.
 use mathlib.Core.Path.{◌≡◌, ap, ◌∙◌}
 use borrow.Author.Rules.{rules}
-use Rattle.refusal.specs.Code.{outcomeCode}
-use Rattle.verifier.specs.Verifying.{withAccepted}
+use Rattle.refusal.specs.Code.{outcome_code}
+use Rattle.verifier.specs.Verifying.{with_accepted}
 use Rattle.verifier.proofs.Answers.{refused-kept}
 use Rattle.verifier.proofs.verifier_after.Statement.{statement}
 use Rattle.verifier.proofs.verifier_after.Tie as tie
@@ -10,17 +10,17 @@ use Rattle.verifier.proofs.verifier_after.Tie as tie
 returns : tie.Need-returns
 returns c =
     let a = c.before.before.args in
-    refused-kept a.outcome a.v (withAccepted a.v a.leaf) c.enum_told.given.1
+    refused-kept a.outcome a.v (with_accepted a.v a.leaf) c.enum_told.given.1
 
 -- the way on which it is granted
-zero : (g : tie.After-enum-told2) → outcomeCode g.before.before.args.outcome ≡ 0
-zero g = ap outcomeCode g.enum-told2.given.1
+zero : (g : tie.After-enum-told2) → outcome_code g.before.before.args.outcome ≡ 0
+zero g = ap outcome_code g.enum-told2.given.1
 
 take-requires : tie.Need-take-requires
 take-requires c κs = let g = c.before.before.before.before in g.before.before.requires (zero g)
 
 returns-2 : tie.Need-returns-2
-unfolding withAccepted
+unfolding with_accepted
 returns-2 c =
     let g = c.before.before.before.before.before in
     let v = g.before.before.args.v in

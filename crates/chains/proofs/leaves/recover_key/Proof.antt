@@ -9,27 +9,27 @@ use Rattle.lists.proofs.Joins.{length-value}
 use Rattle.sha256.specs.Running.{hashed}
 use Rattle.chains.proofs.StepLaws.{steps_next}
 use Rattle.chains.specs.Chains.{walked}
-use Rattle.chains.specs.Leaves.{reachedTop, recovered, stepsTo}
+use Rattle.chains.specs.Leaves.{reached_top, recovered, steps_to}
 use Rattle.chains.proofs.ChainLaws.{length-walked}
-use Rattle.chains.proofs.LeafLaws.{taken, no_top, top-more, all-tops}
+use Rattle.chains.proofs.LeafLaws.{taken, no_top, top-more, all_tops}
 use Rattle.chains.proofs.leaves.recover_key.Statement.{statement}
 use Rattle.chains.proofs.leaves.recover_key.Tie as tie
 
 abbrev invariant-loop : tie.invariant-loop
 invariant-loop hasher chains leaf values row hash₀ steps₀ c₀ hash steps c =
-    (c ≤ chains.count) × ((chains.count ≤ 40) × (chains.width ≤ 16)) × (steps ≤ 15 * c) × (steps ≡ stepsTo chains.width row c)
-    × (hash ≡ hashed (taken hasher.domain leaf.0 (reachedTop hasher.domain chains leaf.0 row values) c))
+    (c ≤ chains.count) × ((chains.count ≤ 40) × (chains.width ≤ 16)) × (steps ≤ 15 * c) × (steps ≡ steps_to chains.width row c)
+    × (hash ≡ hashed (taken hasher.domain leaf.0 (reached_top hasher.domain chains leaf.0 row values) c))
 
 abbrev decreases-loop : tie.decreases-loop
 decreases-loop hasher chains leaf values row hash₀ steps₀ c₀ hash steps c = chains.count - c
 
 loop-holds : tie.Need-loop-init invariant-loop decreases-loop
-unfolding stepsTo
+unfolding steps_to
 loop-holds c =
     let addressed = c.before in
     let start = addressed.before.before.before in
     let a = start.args in
-    let tops = reachedTop a.hasher.domain a.chains a.leaf.0 a.t4 a.values.now in
+    let tops = reached_top a.hasher.domain a.chains a.leaf.0 a.t4 a.values.now in
     let none = no_top a.hasher.domain a.leaf.0 tops addressed.leaf-key-address.ensures c.begin.ensures in
     (omega arith, (start.requires.1.0.few, start.requires.1.0.narrow), omega arith, omega arith, none)
 
@@ -50,11 +50,11 @@ loop-again c =
     let i = at-loop.loop.c in
     let values = a.values.now in
     let left : ℕ → ℕ = λ j. a.chains.width - 1 - get_or row j 0 in
-    let each : (j : ℕ) → j < a.chains.count → length (reachedTop d a.chains leaf row values j) ≡ 16 =
+    let each : (j : ℕ) → j < a.chains.count → length (reached_top d a.chains leaf row values j) ≡ 16 =
     λ j low. length-walked d leaf j (get_or row j 0) (left j) _ (length-value 16 values a.chains.count j start.requires.1.1 low) in
     let here = walk.walk.ensures.0 ∙ ap (walked d leaf i (get_or row i 0) (left i)) read.read-16.ensures in
     let more =
-    top-more d leaf (reachedTop d a.chains leaf row values) i a.chains.count start.requires.0.long start.requires.1.0.few
+    top-more d leaf (reached_top d a.chains leaf row values) i a.chains.count start.requires.0.long start.requires.1.0.few
     (omega arith) each at-loop.loop.invariant.4 here absorbed.absorb.ensures in
     let made = walk.walk.ensures.1 in
     (omega arith, at-loop.loop.invariant.1, omega (arith, made), omega (arith, at-loop.loop.invariant.3, made, steps_next a.chains.width row i), more)
@@ -67,8 +67,8 @@ returns c =
     let d = a.hasher.domain in
     let leaf = a.leaf.0 in
     let all : at-loop.loop.c ≡ a.chains.count = omega arith in
-    let tops = reachedTop d a.chains leaf a.t4 a.values.now in
-    (all-tops d leaf tops at-loop.loop.c a.chains.count all at-loop.loop.invariant.4 c.end.ensures, rw all at at-loop.loop.invariant.3)
+    let tops = reached_top d a.chains leaf a.t4 a.values.now in
+    (all_tops d leaf tops at-loop.loop.c a.chains.count all at-loop.loop.invariant.4 c.end.ensures, rw all at at-loop.loop.invariant.3)
 
 pub recover-key-spec : {M : Type 1} → statement M
 recover-key-spec =

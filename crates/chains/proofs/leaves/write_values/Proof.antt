@@ -5,9 +5,9 @@ use Prim.Native.Nat.{ℕ, ◌+◌, ◌*◌, ◌-◌, ◌<◌, ◌≤◌}
 use native.Mathlib.Omega.{arith}
 use borrow.Author.Rules.{rules}
 use lib.ListN.{length, get_or, take, drop}
-use Rattle.lists.specs.Joined.{joinTo}
-use Rattle.lists.proofs.Joins.{write-start, write-next}
-use Rattle.chains.specs.Leaves.{shownValue, revealed}
+use Rattle.lists.specs.Joined.{join_to}
+use Rattle.lists.proofs.Joins.{write_start, write_next}
+use Rattle.chains.specs.Leaves.{shown_value, revealed}
 use Rattle.chains.proofs.ChainLaws.{length-value}
 use Rattle.chains.proofs.leaves.write_values.Statement.{statement}
 use Rattle.chains.proofs.leaves.write_values.Tie as tie
@@ -15,7 +15,7 @@ use Rattle.chains.proofs.leaves.write_values.Tie as tie
 abbrev invariant-loop : tie.invariant-loop
 invariant-loop hasher chains secret leaf out₀ at row c₀ out c =
     (c ≤ chains.count) × (length out ≡ length out₀)
-    × (out ≡ take at out₀ ++ joinTo (shownValue hasher.domain secret leaf.0 row) c ++ drop (at + 16 * c) out₀)
+    × (out ≡ take at out₀ ++ join_to (shown_value hasher.domain secret leaf.0 row) c ++ drop (at + 16 * c) out₀)
 
 abbrev decreases-loop : tie.decreases-loop
 decreases-loop hasher chains secret leaf out₀ at row c₀ out c = chains.count - c
@@ -23,7 +23,7 @@ decreases-loop hasher chains secret leaf out₀ at row c₀ out c = chains.count
 loop-holds : tie.Need-loop-init invariant-loop decreases-loop
 loop-holds c =
     let a = c.before.args in
-    (omega arith, refl, write-start (shownValue a.hasher.domain a.secret.now a.leaf.0 a.t5) 16 a.at a.out.now)
+    (omega arith, refl, write_start (shown_value a.hasher.domain a.secret.now a.leaf.0 a.t5) 16 a.at a.out.now)
 
 loop-again : tie.Need-loop-preserved invariant-loop decreases-loop
 loop-again c =
@@ -33,11 +33,11 @@ loop-again c =
     let start = at-loop.before.before in
     let a = start.args in
     let d = a.hasher.domain in
-    let shown = shownValue d a.secret.now a.leaf.0 a.t5 in
+    let shown = shown_value d a.secret.now a.leaf.0 a.t5 in
     let each : (i : ℕ) → i < a.chains.count → length (shown i) ≡ 16 =
     λ i _. length-value d a.leaf.0 i a.secret.now (get_or a.t5 i 0) in
     let next =
-    write-next shown 16 a.chains.count each a.at a.out.now start.requires.1.1
+    write_next shown 16 a.chains.count each a.at a.out.now start.requires.1.1
     at-loop.loop.c (omega arith) in (
       omega arith,
       written.write-16.auto.0 ∙ at-loop.loop.invariant.1,

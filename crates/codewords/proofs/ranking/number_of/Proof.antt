@@ -4,8 +4,8 @@ use native.Mathlib.Omega.{arith}
 use borrow.Author.Rules.{rules}
 use lib.ListN.{length, get_or}
 use Rattle.counts.proofs.NextCell.{row_small}
-use Rattle.counts.proofs.TableLaws.{cell-within}
-use Rattle.codewords.proofs.RankLaws.{Left, left-begins, digit-within, number-words, skipped-small, left-next, left-ends}
+use Rattle.counts.proofs.TableLaws.{cell_within}
+use Rattle.codewords.proofs.RankLaws.{Left, left_begins, digit-within, number-words, skipped-small, left-next, left-ends}
 use Rattle.codewords.proofs.ranking.number_of.Statement.{statement}
 use Rattle.codewords.proofs.ranking.number_of.Tie as tie
 
@@ -16,7 +16,7 @@ abbrev decreases-loop : tie.decreases-loop
 decreases-loop table row width sum n₀ left₀ place₀ n left place = length row - place
 
 loop-holds : tie.Need-loop-init invariant-loop decreases-loop
-loop-holds c = let start = c.before.before in left-begins start.requires.0 start.requires.1.0
+loop-holds c = let start = c.before.before in left_begins start.requires.0 start.requires.1.0
 
 cast-digit : tie.Need-overflow-cast-digit invariant-loop decreases-loop
 cast-digit c = omega (arith, c.shared-slice-known3.given c.before.before.loop.place)
@@ -45,7 +45,7 @@ skip-requires c κs =
     let table = a.table.now in
     let more = c.before.loop-test.true in
     let inv = at-loop.loop.invariant in
-    let room = cell-within a.width a.sum (chains + 1) table start.requires.1.1 (chains - 1 - at-loop.loop.place) at-loop.loop.left (omega arith)
+    let room = cell_within a.width a.sum (chains + 1) table start.requires.1.1 (chains - 1 - at-loop.loop.place) at-loop.loop.left (omega arith)
     inv.most in (
       (number-words start.requires.0 start.requires.1.0 more inv, omega (arith, within c.before), room),
       skipped-small start.requires.0 start.requires.1.0 more inv table start.requires.1.1,

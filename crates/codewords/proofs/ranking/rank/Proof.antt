@@ -3,14 +3,14 @@ use mathlib.Core.Path.{◌≡◌, refl, ◌∙◌, ap, sym}
 use native.Mathlib.Omega.{arith}
 use borrow.Author.Rules.{rules}
 use lib.ListN.{length}
-use Rattle.refusal.specs.Code.{outcomeCode, firstCause}
+use Rattle.refusal.specs.Code.{outcome_code, first_cause}
 use Rattle.profile.proofs.Limits.{sum-small}
-use Rattle.counts.specs.Table.{tableLength, Holds}
-use Rattle.counts.specs.Operations.{countCauses}
+use Rattle.counts.specs.Table.{table_length, Holds}
+use Rattle.counts.specs.Operations.{count_causes}
 use Rattle.counts.proofs.Answer.{table-held}
 use Rattle.counts.proofs.Room.{count-passed}
-use Rattle.codewords.specs.Operations.{rowCauses}
-use Rattle.codewords.proofs.RankLaws.{row-codeword, rank-kept, rank-none, rank-refused, rank-granted}
+use Rattle.codewords.specs.Operations.{row_causes}
+use Rattle.codewords.proofs.RankLaws.{row_codeword, rank-kept, rank-none, rank-refused, rank-granted}
 use Rattle.codewords.proofs.ranking.rank.Statement.{statement}
 use Rattle.codewords.proofs.ranking.rank.Tie as tie
 
@@ -26,13 +26,13 @@ abbrev outcome : tie.After-enum-told2 → tie.After-rank-outcome
 outcome g = (filled g).before.before
 
 none : (g : tie.After-enum-told2)
-    → (firstCause (countCauses (start (outcome g)).args.shape (length (start (outcome g)).args.table.now)) ≡ 0)
-    × (firstCause (rowCauses (start (outcome g)).args.shape (start (outcome g)).args.row.now) ≡ 0)
+    → (first_cause (count_causes (start (outcome g)).args.shape (length (start (outcome g)).args.table.now)) ≡ 0)
+    × (first_cause (row_causes (start (outcome g)).args.shape (start (outcome g)).args.row.now) ≡ 0)
 none g =
     let o = outcome g in
     let a = (start o).args in
     rank-none a.shape a.row.now a.table.now o.before.count-outcome.ensures o.rank-outcome.ensures
-    (ap outcomeCode g.enum-told2.given.1)
+    (ap outcome_code g.enum-told2.given.1)
 
 fill-past-requires : tie.Need-fill-past-requires
 fill-past-requires c κs =
@@ -52,13 +52,13 @@ returns c =
     c.enum_told.given.1
 
 number-of-requires : tie.Need-number-of-requires
-unfolding Holds tableLength
+unfolding Holds table_length
 number-of-requires c κs =
     let g = c.before.before.before in
     let a = (start (outcome g)).args in
     let h = (count-passed a.shape _ (none g).0).0 in
-    let is = row-codeword a.shape a.row.now (none g).1 in
-    let table = rw (ap outcomeCode g.enum-told2.given.1) at (filled g).fill-past.ensures.table in (
+    let is = row_codeword a.shape a.row.now (none g).1 in
+    let table = rw (ap outcome_code g.enum-told2.given.1) at (filled g).fill-past.ensures.table in (
       (omega (arith, h.wide), h.narrow, omega (arith, h.few-chains, is.lengths.chains), sum-small a.shape h),
       (rw is.lengths.chains is, rw is.lengths.chains (table-held a.shape a.table.now table)),
     )

@@ -4,13 +4,13 @@ use Prim.Native.Nat.{◌-◌, ◌≤◌}
 use native.Mathlib.Omega.{arith}
 use borrow.Author.Rules.{rules}
 use lib.ListN.{length, drop}
-use Rattle.codewords.specs.Operations.{someAbove}
-use Rattle.codewords.proofs.RankLaws.{above-here, above-later, above-end}
+use Rattle.codewords.specs.Operations.{some_above}
+use Rattle.codewords.proofs.RankLaws.{above-here, above-later, above_end}
 use Rattle.codewords.proofs.ranking.some_above.Statement.{statement}
 use Rattle.codewords.proofs.ranking.some_above.Tie as tie
 
 abbrev invariant-loop : tie.invariant-loop
-invariant-loop width row i₀ i = (i ≤ length row) × (someAbove width row ≡ someAbove width (drop i row))
+invariant-loop width row i₀ i = (i ≤ length row) × (some_above width row ≡ some_above width (drop i row))
 
 abbrev decreases-loop : tie.decreases-loop
 decreases-loop width row i₀ i = length row - i
@@ -37,7 +37,7 @@ returns-2 : tie.Need-returns-2 invariant-loop decreases-loop
 returns-2 c =
     let at-loop = c.before in
     let a = at-loop.before.args in
-    sym (at-loop.loop.invariant.1 ∙ above-end a.row.now at-loop.loop.i (omega arith) a.width)
+    sym (at-loop.loop.invariant.1 ∙ above_end a.row.now at-loop.loop.i (omega arith) a.width)
 
 pub some-above-spec : {M : Type 1} → statement M
 some-above-spec =

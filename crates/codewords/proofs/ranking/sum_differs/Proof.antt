@@ -5,7 +5,7 @@ use native.Mathlib.Omega.{arith}
 use borrow.Author.Rules.{rules}
 use lib.ListN.{length, drop}
 use Rattle.codewords.specs.Codeword.{total}
-use Rattle.codewords.proofs.RankLaws.{total-later, total-end, sum-other, sum-ends}
+use Rattle.codewords.proofs.RankLaws.{total-later, total_end, sum-other, sum-ends}
 use Rattle.codewords.proofs.ranking.sum_differs.Statement.{statement}
 use Rattle.codewords.proofs.ranking.sum_differs.Tie as tie
 
@@ -40,7 +40,7 @@ returns-2 c =
     let at-loop = c.before in
     let row = at-loop.before.args.row.now in
     let i = at-loop.loop.i in
-    sum-ends row at-loop.before.args.sum at-loop.loop.left (total (drop i row)) at-loop.loop.invariant.1 (total-end row i (omega arith))
+    sum-ends row at-loop.before.args.sum at-loop.loop.left (total (drop i row)) at-loop.loop.invariant.1 (total_end row i (omega arith))
 
 pub sum-differs-spec : {M : Type 1} → statement M
 sum-differs-spec =

@@ -2,30 +2,30 @@
 use mathlib.Core.Path.{◌≡◌, refl, ◌∙◌, ap, sym}
 use borrow.Author.Rules.{rules}
 use lib.Dec.{leb}
-use Rattle.refusal.specs.Code.{outcomeCode, thenCode}
-use Rattle.refusal.proofs.Causes.{then-means, refused-number}
+use Rattle.refusal.specs.Code.{outcome_code, then_code}
+use Rattle.refusal.proofs.Causes.{then_means, refused-number}
 use Rattle.numbers.specs.Number.{value}
 use Rattle.counts.specs.Counts.{count}
 use Rattle.counts.proofs.Answer.{count-value}
-use Rattle.codewords.proofs.UnrankAnswer.{not-below, granted-below}
+use Rattle.codewords.proofs.UnrankAnswer.{not_below, granted-below}
 use Rattle.codewords.proofs.unranking.place_past.Statement.{statement}
 use Rattle.codewords.proofs.unranking.place_past.Tie as tie
 
 abbrev start : tie.After-then → tie.Start
 start t = t.before.before.before.before
 
-answer : (t : tie.After-then) → outcomeCode t.then.result ≡ thenCode (outcomeCode (start t).args.early)
+answer : (t : tie.After-then) → outcome_code t.then.result ≡ then_code (outcome_code (start t).args.early)
     (leb (count (start t).args.shape) (value (start t).args.number)) 7
 answer t =
     t.then.ensures
-    ∙ then-means 7 (λ none. let ready = (start t).requires none in
-    not-below _ _ t.before.less.ensures (count-value (start t).args.shape ready.limits ready.counted))
+    ∙ then_means 7 (λ none. let ready = (start t).requires none in
+    not_below _ _ t.before.less.ensures (count-value (start t).args.shape ready.limits ready.counted))
 
 write-codeword-requires : tie.Need-write-codeword-requires
 write-codeword-requires c κs =
     let granted = c.before in
     let t = granted.before.before in
-    let grants = granted-below _ (start t).args.shape (value (start t).args.number) (sym (answer t) ∙ ap outcomeCode granted.enum-told2.given.1) in
+    let grants = granted-below _ (start t).args.shape (value (start t).args.number) (sym (answer t) ∙ ap outcome_code granted.enum-told2.given.1) in
     let ready = (start t).requires grants.0 in
     (ready.limits, (ready.held, (grants.1, ready.room)))
 

@@ -8,18 +8,18 @@ use native.Mathlib.Omega.{arith}
 use borrow.Author.Rules.{rules}
 use borrow.Author.Tests.{ltb-false}
 use lib.ListN.{take-append-drop, length, take, drop, length-set}
-use Rattle.numbers.specs.Number.{value, toWords}
+use Rattle.numbers.specs.Number.{value, to_words}
 use Rattle.lists.proofs.Fill.{behind-next}
 use Rattle.profile.proofs.Limits.{sum-small}
-use Rattle.counts.proofs.TableLaws.{cell-of, cell-within}
+use Rattle.counts.proofs.TableLaws.{cell_of, cell_within}
 use Rattle.counts.proofs.CountLaws.{D-small}
 use Rattle.counts.proofs.NextCell.{row_small}
 use Rattle.counts.specs.Counts.{sum_to, share, D, count}
-use Rattle.counts.specs.Table.{rows, tableLength, Holds}
+use Rattle.counts.specs.Table.{rows, table_length, Holds}
 use Rattle.codewords.specs.Codeword.{place as search-from, codeword}
 use Rattle.codewords.proofs.PlaceLaws.{one_more, next-within, one_less, behind-within, behind-few, from-few}
-use Rattle.codewords.proofs.PlaceLaws.{less-left, left-within, share-at, share-within, not-above}
-use Rattle.codewords.proofs.SearchLaws.{still, skipped, searched, found, number-next, row_next, holds, too_small, taken-off}
+use Rattle.codewords.proofs.PlaceLaws.{less_left, left-within, share-at, share-within, not_above}
+use Rattle.codewords.proofs.SearchLaws.{still, skipped, searched, found, number-next, row_next, holds, too_small, taken_off}
 use Rattle.codewords.proofs.unranking.write_codeword.Statement.{statement}
 use Rattle.codewords.proofs.unranking.write_codeword.Tie as tie
 
@@ -49,7 +49,7 @@ limits s = let h = s.pre.0 in (omega (arith, h.wide), h.narrow, h.few-chains, su
 table_is : (s : Begin) → take (5 * ((s.args.shape.chains + 1) * (s.args.shape.sum + 1))) s.args.table.now ≡ rows s.args.shape.width
     s.args.shape.sum
     (s.args.shape.chains + 1)
-unfolding Holds tableLength
+unfolding Holds table_length
 table_is s = s.pre.1.0
 
 -- the search for the length at a place
@@ -78,7 +78,7 @@ placing q =
 read-room : (q : Search) → 5 * (places q * ((start q).args.shape.sum + 1) + q.before.before.loop.left) + 5 ≤ length (start q).args.table.now
 read-room q =
     let shape = (start q).args.shape in
-    cell-within shape.width shape.sum (shape.chains + 1) (start q).args.table.now (table_is (start q)) (places q) q.before.before.loop.left
+    cell_within shape.width shape.sum (shape.chains + 1) (start q).args.table.now (table_is (start q)) (places q) q.before.before.loop.left
     (behind-within shape.chains q.before.before.loop.place) q.before.before.loop.inv.1
 
 few : (q : Search) → places q ≤ 40
@@ -86,7 +86,7 @@ few q = behind-few (start q).args.shape.chains q.before.before.loop.place (limit
 
 -- the number read is the share of the length
 share-read : (c : tie.After-load invariant-loop2 decreases-loop2 invariant-loop decreases-loop)
-    → c.load.result ≡ toWords 5 (D (start c.before).args.shape.width (places c.before) (c.before.before.before.loop.left - c.before.loop2.j))
+    → c.load.result ≡ to_words 5 (D (start c.before).args.shape.width (places c.before) (c.before.before.before.loop.left - c.before.loop2.j))
 share-read c =
     let q = c.before in
     let shape = (start q).args.shape in
@@ -94,7 +94,7 @@ share-read c =
     let left = q.before.before.loop.left in
     let at = share-at (places q * (shape.sum + 1)) left q.loop2.j (placing q).1 in
     c.load.ensures ∙ ap (λ k. take 5 (drop (5 * k) table)) at
-    ∙ cell-of shape.width shape.sum (shape.chains + 1) (places q) (left - q.loop2.j) table (table_is (start q))
+    ∙ cell_of shape.width shape.sum (shape.chains + 1) (places q) (left - q.loop2.j) table (table_is (start q))
     (behind-within shape.chains q.before.before.loop.place) (left-within left q.loop2.j q.before.before.loop.invariant.1)
 
 small : (q : Search) → value q.loop2.n < 2 ^ 160
@@ -102,7 +102,7 @@ small q =
     let shape = (start q).args.shape in
     let l = q.before.before.loop in
     let h = limits (start q) in
-    lt_of_le_of_lt (not-above (sum_to (share (D shape.width (places q)) l.left) q.loop2.j) (value q.loop2.n) q.loop2.inv.0)
+    lt_of_le_of_lt (not_above (sum_to (share (D shape.width (places q)) l.left) q.loop2.j) (value q.loop2.n) q.loop2.inv.0)
     (lt_trans l.inv.3 (D-small shape.width (shape.chains - l.place) l.left h.0 h.1 (from-few shape.chains l.place h.2)))
 
 -- the length found is that of the definition
@@ -168,7 +168,7 @@ loop2-again c =
     let test = sym c.before.before.less.ensures ∙ c.before.if1.false in
     let more = too_small w (places q) q.before.before.loop.left q.loop2.j h.0 h.1 (few q) (placing q).1 q.loop2.n _
     (share-read loaded) test in
-    let off = taken-off w (places q) q.before.before.loop.left q.loop2.j h.0 h.1 (few q) (placing q).1 q.loop2.n _ (share-read loaded) _
+    let off = taken_off w (places q) q.before.before.loop.left q.loop2.j h.0 h.1 (few q) (placing q).1 q.loop2.n _ (share-read loaded) _
     (small q) c.subtract.ensures in (
       rw off (skipped f w q.loop2.j (value q.loop2.n) (placing q).0 more ∙ q.loop2.invariant.0),
       rw off (sym (searched f w q.loop2.j (value q.loop2.n) (placing q).0 more) ∙ q.loop2.invariant.1),
@@ -192,7 +192,7 @@ loop-again c =
     let behind = one_less shape.chains l.place in
     let e = found_here c in (
       next-within shape.chains l.place q.before.loop-test.true,
-      less-left l.left q.loop2.j l.invariant.1,
+      less_left l.left q.loop2.j l.invariant.1,
       simp length-set l.invariant.2,
       rw behind (number-next shape.width (places q) l.left (value l.n) q.loop2.j (value q.loop2.n) e (rw here at l.invariant.3)),
       rw behind (row_next shape.width (places q) l.left (value l.n) q.loop2.j (value q.loop2.n) e l.row _ l.place

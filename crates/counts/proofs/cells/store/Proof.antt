@@ -7,8 +7,8 @@ use borrow.Author.Rules.{rules}
 use lib.Dec.{lit<}
 use lib.ListN.{length, get_or, take, drop, set, length-set}
 use lib.Seq.{lt-length-set}
-use Rattle.lists.proofs.Lists.{part-5}
-use Rattle.lists.proofs.Fill.{store-5}
+use Rattle.lists.proofs.Lists.{part_5}
+use Rattle.lists.proofs.Fill.{store_5}
 use Rattle.counts.proofs.cells.store.Statement.{statement}
 use Rattle.counts.proofs.cells.store.Tie as tie
 
@@ -50,8 +50,8 @@ returns c =
     let at = 5 * c.args.k in
     let n : List ℕ = c.args.t3 in
     let long : length n ≡ 5 = search rules in
-    store-5 table at (get_or n 0 0) (get_or n 1 0) (get_or n 2 0) (get_or n 3 0) (get_or n 4 0) c.requires
-    ∙ ap (λ v. take at table ++ v ++ drop (at + 5) table) (sym (part-5 0 n 0 (omega arith)))
+    store_5 table at (get_or n 0 0) (get_or n 1 0) (get_or n 2 0) (get_or n 3 0) (get_or n 4 0) c.requires
+    ∙ ap (λ v. take at table ++ v ++ drop (at + 5) table) (sym (part_5 0 n 0 (omega arith)))
 
 pub store_spec : {M : Type 1} → statement M
 store_spec =

@@ -7,7 +7,7 @@ use lib.ListN.{take, drop}
 use Rattle.numbers.specs.Number.{value}
 use Rattle.counts.specs.Counts.{D}
 use Rattle.numbers.specs.inner.Limbs.{number}
-use Rattle.counts.proofs.NextCell.{row-start, row_small, above, grown-fits, grown, out_within, shrunk}
+use Rattle.counts.proofs.NextCell.{row_start, row_small, above, grown-fits, grown, out_within, shrunk}
 use Rattle.counts.proofs.table.cell.Statement.{statement}
 use Rattle.counts.proofs.table.cell.Tie as tie
 
@@ -20,7 +20,7 @@ some c = (start c).requires.0.2
 
 step : (c : tie.After-shared-slice-known) → (start c).args.i * ((start c).args.sum + 1) ≡ ((start c).args.i - 1) * ((start c).args.sum + 1) +
     ((start c).args.sum + 1)
-step c = row-start (start c).args.i (start c).args.sum (some c)
+step c = row_start (start c).args.i (start c).args.sum (some c)
 
 small : (c : tie.After-shared-slice-known) → ((start c).args.i - 1) * ((start c).args.sum + 1) ≤ 24641
 small c = row_small ((start c).args.i - 1) (start c).args.sum (omega (arith, (start c).requires.0)) (omega (arith, (start c).requires.0))

@@ -5,13 +5,13 @@ use Prim.Native.Nat.{◌+◌, ◌-◌, ◌*◌, ◌≤◌}
 use native.Mathlib.Omega.{arith}
 use borrow.Author.Rules.{rules}
 use lib.ListN.{length, drop}
-use Rattle.numbers.specs.Number.{value, toWords}
+use Rattle.numbers.specs.Number.{value, to_words}
 use Rattle.counts.specs.Counts.{share, D}
 use Rattle.numbers.specs.inner.Limbs.{number}
 use Rattle.counts.specs.Table.{cells, rows}
 use Rattle.counts.proofs.CountLaws.{share-start, share-before}
 use Rattle.counts.proofs.NextCell.{row_small}
-use Rattle.counts.proofs.TableLaws.{row-end, row-begins, above-cell, next-cell, row_ends}
+use Rattle.counts.proofs.TableLaws.{row_end, row_begins, above_cell, next_cell, row_ends}
 use Rattle.counts.proofs.table.fill_row.Statement.{statement}
 use Rattle.counts.proofs.table.fill_row.Tie as tie
 
@@ -30,7 +30,7 @@ loop-holds c =
     let a = start.args in (
       omega arith,
       refl,
-      row-begins a.width a.sum a.i a.table.now start.requires.1.0,
+      row_begins a.width a.sum a.i a.table.now start.requires.1.0,
       c.from-words.ensures
           ∙ sym (share-start (D a.width a.i)),
     )
@@ -43,8 +43,8 @@ cell-requires c κs =
     let limits = start.requires.0 in (
       (limits.0, limits.1, limits.2, limits.3, omega arith, limits.4),
       (
-        above-cell a.width a.sum a.i at-loop.loop.t _ _ at-loop.loop.invariant.2,
-        (omega (arith, row-end a.i a.sum, start.requires.1.1), at-loop.loop.invariant.3),
+        above_cell a.width a.sum a.i at-loop.loop.t _ _ at-loop.loop.invariant.2,
+        (omega (arith, row_end a.i a.sum, start.requires.1.1), at-loop.loop.invariant.3),
       ),
     )
 
@@ -58,7 +58,7 @@ add-store-2 c = let a = c.before.before.before.before.before.before.before in
 
 store-requires : tie.Need-store-requires invariant-loop decreases-loop
 store-requires c κs = let start = c.before.before.before.before.before.before.before.before in
-    omega (arith, row-end start.args.i start.args.sum, start.requires.1.1)
+    omega (arith, row_end start.args.i start.args.sum, start.requires.1.1)
 
 loop-again : tie.Need-loop-preserved invariant-loop decreases-loop
 loop-again c =
@@ -67,11 +67,11 @@ loop-again c =
     let at-loop = called.before.before.before in
     let start = at-loop.before.before.before in
     let a = start.args in
-    let room : 5 * (a.i * (a.sum + 1) + at-loop.loop.t) + 5 ≤ length a.table.now = omega (arith, row-end a.i a.sum, start.requires.1.1) in
-    let words = stored.before.to-words.ensures ∙ ap (toWords 5) called.cell.ensures in (
+    let room : 5 * (a.i * (a.sum + 1) + at-loop.loop.t) + 5 ≤ length a.table.now = omega (arith, row_end a.i a.sum, start.requires.1.1) in
+    let words = stored.before.to-words.ensures ∙ ap (to_words 5) called.cell.ensures in (
       omega arith,
       stored.store.auto.0 ∙ at-loop.loop.invariant.1,
-      next-cell a.width a.sum a.i at-loop.loop.t a.table.now _ _ _ room at-loop.loop.invariant.2 words stored.store.ensures,
+      next_cell a.width a.sum a.i at-loop.loop.t a.table.now _ _ _ room at-loop.loop.invariant.2 words stored.store.ensures,
       called.cell.ensures ∙ sym (share-before (D a.width a.i) at-loop.loop.t),
     )
 

@@ -7,7 +7,7 @@ use native.Mathlib.Omega.{arith}
 use borrow.Author.Rules.{rules}
 use lib.ListN.{length, drop}
 use Rattle.counts.specs.Table.{rows}
-use Rattle.counts.proofs.TableLaws.{row-end, rows_split, above-row, rows-over}
+use Rattle.counts.proofs.TableLaws.{row_end, rows_split, above_row, rows-over}
 use Rattle.counts.proofs.table.fill_rows.Statement.{statement}
 use Rattle.counts.proofs.table.fill_rows.Tie as tie
 
@@ -30,13 +30,13 @@ abbrev filled : tie.At-loop invariant-loop decreases-loop → tie.After-first-ro
 filled q = q.before.before.before
 
 first-row-requires : tie.Need-first-row-requires invariant-loop decreases-loop
-first-row-requires c κs = let begin = c.before.before in omega (arith, begin.requires, row-end begin.args.chains begin.args.sum)
+first-row-requires c κs = let begin = c.before.before in omega (arith, begin.requires, row_end begin.args.chains begin.args.sum)
 
 loop-holds : tie.Need-loop-init invariant-loop decreases-loop
 loop-holds c =
     let first = c.before.before in
     let a = (start first).args in
-    (rows_split a.width a.sum 1 _ (above-row a.width a.sum 1 _ _ (row-0 first)), omega arith, omega arith, refl)
+    (rows_split a.width a.sum 1 _ (above_row a.width a.sum 1 _ _ (row-0 first)), omega arith, omega arith, refl)
 
 fill-row-requires : tie.Need-fill-row-requires invariant-loop decreases-loop
 fill-row-requires c κs =
@@ -46,7 +46,7 @@ fill-row-requires c κs =
     let limits = begin.pre.0 in
     let within : (at-loop.loop.i + 1) * (a.sum + 1) ≤ (a.chains + 1) * (a.sum + 1) = mul-le-mul_right (a.sum + 1) (omega arith) in (
       (limits.0, limits.1, at-loop.loop.invariant.1, omega arith, limits.3),
-      (above-row a.width a.sum at-loop.loop.i _ _ at-loop.loop.invariant.0, omega (arith, begin.pre.1, (filled at-loop).first-row.auto.0)),
+      (above_row a.width a.sum at-loop.loop.i _ _ at-loop.loop.invariant.0, omega (arith, begin.pre.1, (filled at-loop).first-row.auto.0)),
     )
 
 loop-again : tie.Need-loop-preserved invariant-loop decreases-loop

@@ -7,7 +7,7 @@ use borrow.Author.Rules.{rules}
 use lib.ListN.{length, drop}
 use Rattle.counts.specs.Counts.{D}
 use Rattle.counts.specs.Table.{cells, rows}
-use Rattle.counts.proofs.TableLaws.{row-begins, next-cell, row_ends, no_rows}
+use Rattle.counts.proofs.TableLaws.{row_begins, next_cell, row_ends, no_rows}
 use Rattle.counts.proofs.table.first_row.Statement.{statement}
 use Rattle.counts.proofs.table.first_row.Tie as tie
 
@@ -19,7 +19,7 @@ abbrev decreases-loop : tie.decreases-loop
 decreases-loop table₀ sum end t₀ table t = length table₀ - t
 
 loop-holds : tie.Need-loop-init invariant-loop decreases-loop
-loop-holds c = (omega arith, refl, λ w. row-begins w c.before.args.sum 0 c.before.args.table.now (no_rows w _ _))
+loop-holds c = (omega arith, refl, λ w. row_begins w c.before.args.sum 0 c.before.args.table.now (no_rows w _ _))
 
 loop-again : tie.Need-loop-preserved invariant-loop decreases-loop
 loop-again c =
@@ -31,7 +31,7 @@ loop-again c =
       omega arith,
       stored.store.auto.0 ∙ at-loop.loop.invariant.1,
       λ w.
-          next-cell w a.sum 0 t a.table.now _ _ _ (omega (arith, at-loop.before.before.requires)) (at-loop.loop.invariant.2 w)
+          next_cell w a.sum 0 t a.table.now _ _ _ (omega (arith, at-loop.before.before.requires)) (at-loop.loop.invariant.2 w)
           (stored.before.first_Cell.ensures w)
           (rw place at stored.store.ensures),
     )

@@ -46,10 +46,10 @@ use Rattle.profile.specs.declared.Profile.{Profile}
 use Rattle.profile.specs.contracts.Profile as F
 use Rattle.profile.proofs.Profile.TheLaws as F'
 use Rattle.frames.specs.Frames.{frame_at}
-use Rattle.frame_reader.specs.Places.{placeAfter}
+use Rattle.frame_reader.specs.Places.{place_after}
 use Rattle.frame_reader.specs.declared.Place.{Place}
 use Rattle.frame_reader.specs.declared.Reader.{Reader}
-use Rattle.frame_reader.proofs.ReaderLaws.{lowered, Asked, met-calling}
+use Rattle.frame_reader.proofs.ReaderLaws.{lowered, Asked, met_calling}
 use Rattle.frame_reader.specs.contracts.Place as P
 use Rattle.frame_reader.proofs.Place.TheLaws as P'
 use Rattle.frame_reader.specs.contracts.Reader as T
@@ -101,7 +101,7 @@ module _ {M : Type 1} {𝓤 : Ura M} (𝓛 : Logic 𝓤) (mem : Memory → SProp
 
   -- what the callee says of the new place
   abbrev Told : Place → Type 0
-  Told r = r ≡ placeAfter d.sheet.now (frame_at p k) d.place
+  Told r = r ≡ place_after d.sheet.now (frame_at p k) d.place
 
   abbrev Post : Val → SProp 𝓤
   Post = (walk_of 𝓛 next.ended stayed (next.clauses 𝓛 mem run)).post (((κ, tt), (q, tt), tt, (d, (p, (k, tt))), vals), tt)
@@ -223,5 +223,5 @@ next-meets {𝓤 = 𝓤} 𝓛 mem run 𝓣 known =
 pub next-spec : {M : Type 1} → stated.statement M
 unfolding code.routine
 next-spec 𝓤 𝓛 𝓜 𝓡 =
-    met-calling 𝓤 𝓛.H 𝓜 𝓡 code.env _ (TakeFrame 𝓛 𝓜.mem 𝓡.run) #next #take-frame code.function take-def.routine
+    met_calling 𝓤 𝓛.H 𝓜 𝓡 code.env _ (TakeFrame 𝓛 𝓜.mem 𝓡.run) #next #take-frame code.function take-def.routine
     (code.unfolded 𝓤 𝓛.H 𝓜 𝓡) code.calls-frame-reader::places::take-frame (take-thm.met 𝓤 𝓛 𝓜 𝓡) (next-meets 𝓛 𝓜.mem 𝓡.run)

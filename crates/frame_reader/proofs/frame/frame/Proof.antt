@@ -4,9 +4,9 @@ use Prim.Native.Nat.{◌+◌, ◌*◌, ◌≤◌, ◌<◌}
 use native.Mathlib.Omega.{arith}
 use borrow.Author.Rules.{rules}
 use lib.ListN.{length, drop}
-use Rattle.hex.specs.Hex.{readLine}
+use Rattle.hex_lines.specs.Hex.{read_line}
 use Rattle.frames.specs.Frames.{frame_at}
-use Rattle.frames.specs.Lines.{readFrame}
+use Rattle.frames.specs.Lines.{read_frame}
 use Rattle.frame_reader.specs.inner.Parser.{step_of}
 use Rattle.frame_reader.specs.declared.frame.Step.TheVariants as step
 use Rattle.frame_reader.proofs.ParserLaws.{found-few, parsed-other, parsed-none, parsed-found}
@@ -19,7 +19,7 @@ few c =
     let q = c.before.before in
     let z = q.before.before.before in
     let a = z.before.before.args in
-    found-few z.frame-size.result.high c.n.given.0.0 (readLine (drop (a.at + 2 * z.frame-size.result.fixed) a.sheet.now))
+    found-few z.frame-size.result.high c.n.given.0.0 (read_line (drop (a.at + 2 * z.frame-size.result.fixed) a.sheet.now))
     (sym q.line-bytes.ensures ∙ c.n.given.1)
 
 -- it and the number of fixed bytes are small
@@ -43,7 +43,7 @@ add-t21 c = omega (arith, bounds c.before.before)
 -- what follows from that number
 counted : (c : tie.After-n) → let z = c.before.before.before.before.before in let a = z.before.before.args in let size = z.frame-size.result in
     let n = c.n.given.0.0 in
-    let answer = step_of a.at (length (frame_at a.p a.k).head) (readFrame (frame_at a.p a.k) (drop a.at a.sheet.now)) in
+    let answer = step_of a.at (length (frame_at a.p a.k).head) (read_frame (frame_at a.p a.k) (drop a.at a.sheet.now)) in
     (size.low ≤ n → step.Next (a.at + 2 * (size.fixed + n) + 1) ≡ answer) × (n < size.low → step.Wrong ≡ answer)
 counted c =
     let q = c.before.before in

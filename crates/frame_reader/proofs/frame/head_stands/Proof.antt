@@ -3,7 +3,7 @@ use mathlib.Core.Path.{sym, ap, ◌∙◌}
 use Prim.Native.Nat.{◌-◌, ◌≤◌}
 use native.Mathlib.Omega.{arith}
 use borrow.Author.Rules.{rules}
-use Rattle.hex.specs.declared.Digits.TheVariants.{Byte}
+use Rattle.hex_lines.specs.declared.Digits.TheVariants.{Byte}
 use Rattle.frames.specs.Frames.{frame_at}
 use Rattle.frame_reader.proofs.ParserLaws.{HeadLeft, head-start, head-next, head-differs, head-ends, head-all}
 use Rattle.frame_reader.proofs.frame.head_stands.Statement.{statement}

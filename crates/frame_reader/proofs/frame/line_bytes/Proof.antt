@@ -5,14 +5,14 @@ use native.Mathlib.Omega.{arith}
 use borrow.Author.Tests.{eqb-true, eqb-false}
 use borrow.Author.Rules.{rules}
 use lib.ListN.{drop}
-use Rattle.hex.specs.Hex.{readLine}
-use Rattle.frame_reader.specs.inner.Parser.{foundOf}
-use Rattle.frame_reader.proofs.ParserLaws.{found_from, found-start, found-end, found-next, found_none, found-over}
+use Rattle.hex_lines.specs.Hex.{read_line}
+use Rattle.frame_reader.specs.inner.Parser.{found_of}
+use Rattle.frame_reader.proofs.ParserLaws.{found_from, found-start, found_end, found-next, found_none, found-over}
 use Rattle.frame_reader.proofs.frame.line_bytes.Statement.{statement}
 use Rattle.frame_reader.proofs.frame.line_bytes.Tie as tie
 
 abbrev invariant-loop : tie.invariant-loop
-invariant-loop sheet at most i₀ i = (i ≤ most + 1) × (foundOf most (readLine (drop at sheet)) ≡ found_from i most (readLine (drop (at + 2 * i) sheet)))
+invariant-loop sheet at most i₀ i = (i ≤ most + 1) × (found_of most (read_line (drop at sheet)) ≡ found_from i most (read_line (drop (at + 2 * i) sheet)))
 
 abbrev decreases-loop : tie.decreases-loop
 decreases-loop sheet at most i₀ i = most + 1 - i
@@ -27,7 +27,7 @@ returns c =
     let l = c.before.before.before in
     let a = l.before.before.args in
     let i = l.loop.i in
-    sym (l.loop.invariant.1 ∙ found-end a.sheet.now (a.at + 2 * i) i a.most c.before.before.loop-test.true
+    sym (l.loop.invariant.1 ∙ found_end a.sheet.now (a.at + 2 * i) i a.most c.before.before.loop-test.true
     (eqb-true _ _ (sym c.before.ends_at.ensures ∙ c.if1.true)))
 
 returns-2 : tie.Need-returns-2 invariant-loop decreases-loop
@@ -52,7 +52,7 @@ returns-3 : tie.Need-returns-3 invariant-loop decreases-loop
 returns-3 c =
     let l = c.before in
     let a = l.before.before.args in
-    sym (l.loop.invariant.1 ∙ found-over l.loop.i a.most (readLine (drop (a.at + 2 * l.loop.i) a.sheet.now)) c.loop-test.false)
+    sym (l.loop.invariant.1 ∙ found-over l.loop.i a.most (read_line (drop (a.at + 2 * l.loop.i) a.sheet.now)) c.loop-test.false)
 
 pub line-bytes-spec : {M : Type 1} → statement M
 line-bytes-spec =

@@ -1,6 +1,6 @@
 -- `numbers::limbs::subtract` meets its contract: the limbs are those of the difference, and the highest is not below zero.
 use Rattle.std.proofs.Common.{◌≡◌, ◌+◌, ◌-◌, ◌≤◌, add-zero, rules}
-use Rattle.numbers.proofs.LimbLaws.{one-small, high-difference, number-difference}
+use Rattle.numbers.proofs.LimbLaws.{one-small, high_difference, number_difference}
 use Rattle.numbers.proofs.limbs.subtract.Statement.{statement}
 use Rattle.numbers.proofs.limbs.subtract.Tie as tie
 
@@ -13,7 +13,7 @@ high : (c : tie.After-subtract-with-borrow2)
     ≡ c.before.before.args.a.high)
 high c =
     let start = c.before.before in
-    high-difference start.args.a start.args.b _ _ _ _ (rw add-zero at c.before.subtract-with-borrow.ensures.0)
+    high_difference start.args.a start.args.b _ _ _ _ (rw add-zero at c.before.subtract-with-borrow.ensures.0)
     c.subtract-with-borrow2.ensures.0 (search rules) (search rules) start.requires
 
 sub-t5 : tie.Need-overflow-sub-t5
@@ -29,7 +29,7 @@ returns : tie.Need-returns
 returns c =
     let second = c.before.before.before in
     let start = second.before.before in
-    number-difference start.args.a start.args.b _ _ _ _ (rw add-zero at second.before.subtract-with-borrow.ensures.0)
+    number_difference start.args.a start.args.b _ _ _ _ (rw add-zero at second.before.subtract-with-borrow.ensures.0)
     second.subtract-with-borrow2.ensures.0 _ (high second).2
 
 pub subtract-spec : {M : Type 1} → statement M

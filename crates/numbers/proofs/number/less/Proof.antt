@@ -1,17 +1,17 @@
 -- `numbers::number::less` meets its contract: the first is below exactly where the order that `compare` gives is `Less`.
 use Rattle.std.proofs.Common.{◌≡◌, eqb, ltb, sym, ap, ◌∙◌, rules}
 use Rattle.numbers.specs.Number.{value}
-use Rattle.numbers.specs.Order.{orderCode}
+use Rattle.numbers.specs.Order.{order_code}
 use Rattle.numbers.specs.declared.number.Order.{Order}
 use Rattle.numbers.specs.declared.number.Order.TheVariants.{Less, Equal, Greater}
-use Rattle.numbers.proofs.Comparison.{order-less}
+use Rattle.numbers.proofs.Comparison.{order_less}
 use Rattle.numbers.proofs.number.less.Statement.{statement}
 use Rattle.numbers.proofs.number.less.Tie as tie
 
 -- `ltb`, where the order is known
-told : (c : tie.After-compare) (o : Order) → c.compare.result.order ≡ o → eqb (orderCode o) 0 ≡ ltb (value c.before.args.a) (value c.before.args.b)
+told : (c : tie.After-compare) (o : Order) → c.compare.result.order ≡ o → eqb (order_code o) 0 ≡ ltb (value c.before.args.a) (value c.before.args.b)
 told c o known =
-    order-less (value c.before.args.a) (value c.before.args.b) (ap orderCode (sym known) ∙ c.compare.ensures.order)
+    order_less (value c.before.args.a) (value c.before.args.b) (ap order_code (sym known) ∙ c.compare.ensures.order)
 
 returns : tie.Need-returns
 returns c = told c.before.before Less c.enum_told.given.1

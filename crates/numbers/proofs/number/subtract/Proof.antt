@@ -1,7 +1,7 @@
 -- `numbers::number::subtract` meets its contract: limbs are subtracted in the place of words.
 use Rattle.std.proofs.Common.{◌≡◌, ◌-◌, ap, ◌∙◌, arith, rules}
 use Rattle.numbers.specs.inner.Limbs.{number}
-use Rattle.numbers.specs.Number.{value, toWords}
+use Rattle.numbers.specs.Number.{value, to_words}
 use Rattle.numbers.proofs.number.subtract.Statement.{statement}
 use Rattle.numbers.proofs.number.subtract.Tie as tie
 
@@ -12,7 +12,7 @@ returns c =
     let args = second.before.before.args in
     let left : number off.subtract.result ≡ value args.a - value args.b = omega
     (arith, off.subtract.ensures, second.before.from-words.ensures, second.from-words2.ensures) in
-    c.to-words.ensures ∙ ap (toWords 5) left
+    c.to-words.ensures ∙ ap (to_words 5) left
 
 pub subtract-spec : {M : Type 1} → statement M
 subtract-spec = tie.close (tie.spec (λ c κs. search rules) (λ c κs. search rules) (λ c κs. search rules) (λ c κs. search rules) returns)

@@ -3,8 +3,8 @@ use Rattle.std.proofs.Common.{◌+◌, ◌^◌, ◌<◌, ◌≤◌, arith, lit<,
 use Rattle.numbers.specs.Number.{value}
 use Rattle.numbers.specs.Powers.{Log2}
 use Rattle.lists.proofs.Lists.{below-fits}
-use Rattle.numbers.proofs.NumberLaws.{value-below-5}
-use Rattle.numbers.proofs.PowerLaws.{Shifted, shift_none, shift-more, log-shifted, held_fits, over_word, within_word, one_word}
+use Rattle.numbers.proofs.NumberLaws.{value-below_5}
+use Rattle.numbers.proofs.PowerLaws.{Shifted, shift_none, shift_more, log_shifted, held_fits, over_word, within_word, one_word}
 use Rattle.numbers.proofs.powers.log2.Statement.{statement}
 use Rattle.numbers.proofs.powers.log2.Tie as tie
 
@@ -21,7 +21,7 @@ loop-holds c = shift_none _
 small : (c : tie.At-loop invariant-loop decreases-loop) → c.loop.log < 160
 small c =
     let n = c.before.args.n in
-    held_fits {w = 160} c.loop.invariant.held (value-below-5 n (search rules) (below-fits w32 n (λ j. search rules))) (lit< tt)
+    held_fits {w = 160} c.loop.invariant.held (value-below_5 n (search rules) (below-fits w32 n (λ j. search rules))) (lit< tt)
 
 add-log : tie.Need-overflow-add-log invariant-loop decreases-loop
 add-log c = record { fits = omega (arith, small c.before.before.before) }
@@ -36,7 +36,7 @@ loop-less c = omega (arith, c.drop-word.ensures, many c)
 loop-again : tie.Need-loop-preserved invariant-loop decreases-loop
 loop-again c =
     let turn = c.before.before.before.loop in
-    rw c.drop-word.ensures (shift-more 32 turn.invariant (many c))
+    rw c.drop-word.ensures (shift_more 32 turn.invariant (many c))
 
 -- behind the loop, the lowest word is the number that is left
 whole : (c : tie.After-word-log2 invariant-loop decreases-loop) → Log2 (value c.before.before.before.before.args.n)
@@ -44,12 +44,12 @@ whole : (c : tie.After-word-log2 invariant-loop decreases-loop) → Log2 (value 
 whole c =
     let turn = c.before.before.before.loop in
     let few : value turn.rest < 2 ^ 32 = within_word turn.rest c.before.before.less.ensures c.before.if1.false in
-    log-shifted turn.invariant (rw (one_word turn.rest few) at c.word-log2.ensures)
+    log_shifted turn.invariant (rw (one_word turn.rest few) at c.word-log2.ensures)
 
 add-result : tie.Need-overflow-add-result invariant-loop decreases-loop
 add-result c =
     let n = c.before.before.before.before.args.n in
-    record { fits = omega (arith, held_fits {w = 160} (whole c).least (value-below-5 n (search rules) (below-fits w32 n (λ j. search rules))) (lit< tt)) }
+    record { fits = omega (arith, held_fits {w = 160} (whole c).least (value-below_5 n (search rules) (below-fits w32 n (λ j. search rules))) (lit< tt)) }
 
 returns : tie.Need-returns invariant-loop decreases-loop
 returns c = whole c

@@ -1,7 +1,7 @@
 -- `numbers::powers::shift_bits` meets its contract: each word is shifted with the one above it.
 use Rattle.std.proofs.Common.{◌≡◌, ◌^◌, length, w32, rules}
 use Rattle.lists.proofs.Lists.{Below, below-fits}
-use Rattle.numbers.proofs.PowerLaws.{value-shifted-5}
+use Rattle.numbers.proofs.PowerLaws.{value-shifted_5}
 use Rattle.numbers.proofs.powers.shift_bits.Statement.{statement}
 use Rattle.numbers.proofs.powers.shift_bits.Tie as tie
 
@@ -17,7 +17,7 @@ returns c =
     let first = second.before in
     let start = first.before in
     let words = five-words start in
-    value-shifted-5 start.args.bits start.args.t1 words.0 start.requires words.1 first.shift_word.ensures second.shift-word2.ensures
+    value-shifted_5 start.args.bits start.args.t1 words.0 start.requires words.1 first.shift_word.ensures second.shift-word2.ensures
     third.shift-word3.ensures fourth.shift-word4.ensures c.shift-word5.ensures
 
 pub shift-bits-spec : {M : Type 1} → statement M

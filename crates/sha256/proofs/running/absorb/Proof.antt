@@ -8,20 +8,20 @@ use lib.ListN.{length, take, drop, length-drop}
 use lib.Seq.{drop-drop}
 use Rattle.sha256_block.specs.Compression.{compress}
 use Rattle.sha256_block.specs.declared.compression.HashWords.{HashWords}
-use Rattle.sha256.specs.Digest.{compressAll}
+use Rattle.sha256.specs.Digest.{compress_all}
 use Rattle.sha256.proofs.Blocks.{all_short, all-step}
 use Rattle.sha256.proofs.running.absorb.Statement.{statement}
 use Rattle.sha256.proofs.running.absorb.Tie as tie
 
 abbrev invariant-loop : tie.invariant-loop
-invariant-loop bytes v₀ at₀ v at = (at ≤ length bytes) × (compressAll v (drop at bytes) ≡ compressAll v₀ bytes)
+invariant-loop bytes v₀ at₀ v at = (at ≤ length bytes) × (compress_all v (drop at bytes) ≡ compress_all v₀ bytes)
 
 abbrev decreases-loop : tie.decreases-loop
 decreases-loop bytes v₀ at₀ v at = length bytes - at
 
 -- a turn: one block more
 turn : (bytes : List ℕ) (v₀ v next : HashWords) (at : ℕ) → at + 64 ≤ length bytes → next ≡ compress v (take (at + 64 - at) (drop at bytes))
-    → compressAll v (drop at bytes) ≡ compressAll v₀ bytes → compressAll next (drop (at + 64) bytes) ≡ compressAll v₀ bytes
+    → compress_all v (drop at bytes) ≡ compress_all v₀ bytes → compress_all next (drop (at + 64) bytes) ≡ compress_all v₀ bytes
 turn bytes v₀ v next at fits e inv =
     let block : at + 64 - at ≡ 64 = omega arith in
     rw (e, block, ← drop-drop 64 at bytes) (sym (all-step v (drop at bytes) (omega (arith, length-drop at bytes))) ∙ inv)

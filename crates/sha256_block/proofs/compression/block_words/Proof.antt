@@ -1,6 +1,6 @@
 -- `sha256_block::compression::block_words` meets its contract. The invariant: after t turns the first t words are there, and the others are zero.
 use Rattle.std.proofs.Common.{◌≡◌, ℕ, suc, ◌-◌, ◌*◌, ◌<◌, ◌≤◌, List, ◌++◌, take, drop, set, replicate, refl, ◌∙◌, append-nil, add-one, arith, rules}
-use Rattle.octets.specs.Bytes.{fromBytes}
+use Rattle.octets.specs.Bytes.{from_bytes}
 use Rattle.lists.proofs.Fill.{store-next}
 use Rattle.sha256_block.specs.Compression.{words_of}
 use Rattle.sha256_block.proofs.Schedule.{length-words, words-next}
@@ -14,9 +14,9 @@ abbrev decreases-loop : tie.decreases-loop
 decreases-loop block ws₀ t₀ ws t = 16 - t
 
 -- a turn's store
-turn : (bytes : List ℕ) (t : ℕ) (ws : List ℕ) (w : ℕ) → t < 16 → ws ≡ words_of t bytes ++ replicate (16 - t) 0 → w ≡ fromBytes (take 4 (drop (4 * t) bytes))
+turn : (bytes : List ℕ) (t : ℕ) (ws : List ℕ) (w : ℕ) → t < 16 → ws ≡ words_of t bytes ++ replicate (16 - t) 0 → w ≡ from_bytes (take 4 (drop (4 * t) bytes))
     → set ws t w ≡ words_of (suc t) bytes ++ replicate (16 - suc t) 0
-turn bytes t ws w h e f = rw (e, f, words-next) (store-next (words_of t bytes) 0 (fromBytes (take 4 (drop (4 * t) bytes))) t 16 (length-words t bytes)
+turn bytes t ws w h e f = rw (e, f, words-next) (store-next (words_of t bytes) 0 (from_bytes (take 4 (drop (4 * t) bytes))) t 16 (length-words t bytes)
     (omega arith))
 
 loop-holds : tie.Need-loop-init invariant-loop decreases-loop

@@ -1,12 +1,12 @@
 -- `sha256_block::compression::initial` meets its contract: the eight words are computed from the definition.
 use Rattle.std.proofs.Common.{refl}
-use Rattle.sha256_block.specs.Constants.{hasDivisor, isPrime, primesFrom, primes, rootFrom, wholeRoot, rootWord, initialWords}
-use Rattle.sha256_block.specs.Compression.{initial, hashWords}
+use Rattle.sha256_block.specs.Constants.{has_divisor, is_prime, primes_from, primes, root_from, whole_root, root_word, initial_words}
+use Rattle.sha256_block.specs.Compression.{initial, hash_words}
 use Rattle.sha256_block.proofs.compression.initial.Statement.{statement}
 use Rattle.sha256_block.proofs.compression.initial.Tie as tie
 
 returns : tie.Need-returns
-unfolding initial hashWords initialWords primes primesFrom isPrime hasDivisor rootWord wholeRoot rootFrom
+unfolding initial hash_words initial_words primes primes_from is_prime has_divisor root_word whole_root root_from
 returns c = refl
 
 pub initial-spec : {M : Type 1} → statement M

@@ -1,7 +1,7 @@
 -- `sha256_block::compression::next_words` meets its contract: each call replaces one word more.
 use Rattle.std.proofs.Common.{◌≡◌, ℕ, suc, ◌<◌, List, ◌++◌, length, take, drop, set, ◌∙◌, lit<, rules}
-use Rattle.sha256_block.specs.Compression.{nextWord}
-use Rattle.sha256_block.proofs.Window.{replaced, replace-next, replaced-none, replaced-all}
+use Rattle.sha256_block.specs.Compression.{next_word}
+use Rattle.sha256_block.proofs.Window.{replaced, replace_next, replaced-none, replaced-all}
 use Rattle.sha256_block.proofs.compression.next_words.Statement.{statement}
 use Rattle.sha256_block.proofs.compression.next_words.Tie as tie
 
@@ -10,8 +10,8 @@ long start = search rules
 
 -- one word more
 next : (ws : List ℕ) (sixteen : length ws ≡ 16) (i : ℕ) {before after : List ℕ} → i < 16 → before ≡ replaced i ws
-    → after ≡ set before i (nextWord 16 (drop i before ++ take i before)) → after ≡ replaced (suc i) ws
-next ws sixteen i h p e = e ∙ rw p (replace-next ws sixteen i h)
+    → after ≡ set before i (next_word 16 (drop i before ++ take i before)) → after ≡ replaced (suc i) ws
+next ws sixteen i h p e = e ∙ rw p (replace_next ws sixteen i h)
 
 returns : tie.Need-returns
 returns c =

@@ -1,6 +1,6 @@
 -- `sha256_block::compression::sixteen_rounds` meets its contract: each call gives one round more.
 use Rattle.std.proofs.Common.{◌≡◌, ℕ, suc, ◌+◌, ◌<◌, List, get_or, take, drop, ◌∙◌, add-zero, arith, lit<, get_or-drop, get_or-take}
-use Rattle.sha256_block.specs.Constants.{roundWords}
+use Rattle.sha256_block.specs.Constants.{round_words}
 use Rattle.sha256_block.specs.Compression.{round, rounds as roundsOf}
 use Rattle.sha256_block.specs.declared.compression.HashWords.{HashWords}
 use Rattle.sha256_block.proofs.compression.sixteen_rounds.Statement.{statement}
@@ -8,7 +8,7 @@ use Rattle.sha256_block.proofs.compression.sixteen_rounds.Tie as tie
 
 -- one round more of a turn
 next : (t : ℕ) (ws all : List ℕ) (v₀ : HashWords) (i : ℕ) {v r : HashWords} → ws ≡ take 16 (drop t all) → i < 16 → v ≡ roundsOf (t + i) v₀ all
-    → r ≡ round v (get_or roundWords (t + i) 0) (get_or ws i 0) → r ≡ roundsOf (t + suc i) v₀ all
+    → r ≡ round v (get_or round_words (t + i) 0) (get_or ws i 0) → r ≡ roundsOf (t + suc i) v₀ all
 unfolding roundsOf
 next t ws all v₀ i q h p e =
     let place : t + suc i ≡ suc (t + i) = omega arith in

@@ -5,32 +5,32 @@ use Prim.Native.Nat.{◌+◌, ◌≤◌}
 use native.Mathlib.Omega.{arith}
 use borrow.Author.Rules.{rules}
 use lib.ListN.{length}
-use Rattle.frames.specs.Frames.{textFrame}
+use Rattle.frames.specs.Frames.{text_frame}
 use Rattle.frames.proofs.FrameNumbers.{text_at}
-use Rattle.sheet_reader.specs.Sheet.{readSheet}
-use Rattle.frame_reader.specs.Places.{placeAfter}
+use Rattle.sheet_reader.specs.Sheet.{read_sheet}
+use Rattle.frame_reader.specs.Places.{place_after}
 use Rattle.frame_reader.proofs.PlaceLaws.{text-taken}
-use Rattle.sheet_reader.specs.inner.Judging.{readAt, judgement}
-use Rattle.sheet_reader.proofs.JudgeLaws.{judged-text, end-wrong, end-room, end_more, end-right}
+use Rattle.sheet_reader.specs.inner.Judging.{read_at, judgement}
+use Rattle.sheet_reader.proofs.JudgeLaws.{judged-text, end_wrong, end_room, end_more, end_right}
 use Rattle.sheet_reader.proofs.judge.judge.Statement.{statement}
 use Rattle.sheet_reader.proofs.judge.judge.Tie as tie
 
 -- the last frame is the text's
 last : (c : tie.After-take-frames) → let r = c.take-frames.result in let a = c.before.before.before.before.args in
-    r.end ≡ placeAfter a.sheet.now textFrame r.text
+    r.end ≡ place_after a.sheet.now text_frame r.text
 last c =
     let m = c.before.before in
     let a = m.before.before.args in
     c.take-frames.ensures.1 ∙ text-taken a.p a.sheet.now m.frame-count.result m.frame-count.ensures
-    ∙ ap (placeAfter a.sheet.now textFrame) (sym c.take-frames.ensures.0)
+    ∙ ap (place_after a.sheet.now text_frame) (sym c.take-frames.ensures.0)
 
 judged : (c : tie.After-take-frames) → let a = c.before.before.before.before.args in
-    judgement (readSheet a.p a.sheet.now) ≡ judgement (readAt a.sheet.now c.take-frames.result.text [])
+    judgement (read_sheet a.p a.sheet.now) ≡ judgement (read_at a.sheet.now c.take-frames.result.text [])
 judged c =
     let m = c.before.before in
     let a = m.before.before.args in
     judged-text a.p a.sheet.now m.frame-count.result m.frame-count.ensures
-    ∙ ap (λ here. judgement (readAt a.sheet.now here [])) (sym c.take-frames.ensures.0)
+    ∙ ap (λ here. judgement (read_at a.sheet.now here [])) (sym c.take-frames.ensures.0)
 
 -- it has one fixed byte
 one : (c : tie.After-take-frames) → c.before.frame-size.result.fixed ≡ 1
@@ -44,7 +44,7 @@ room : (c : tie.Then1) → let r = c.before.take-frames.result in r.text.at + 3 
 room c =
     let t = c.before in
     let r = t.take-frames.result in
-    end-room t.before.before.before.before.args.sheet.now r.text r.end (last t) c.if1.true
+    end_room t.before.before.before.before.args.sheet.now r.text r.end (last t) c.if1.true
 
 sub-t15 : tie.Need-overflow-sub-t15
 sub-t15 c = omega (arith, room c.before)
@@ -65,14 +65,14 @@ returns-2 : tie.Need-returns-2
 returns-2 c =
     let t = c.before.before.before in
     let r = t.take-frames.result in
-    rw (one t) (end-right t.before.before.before.before.args.sheet.now r.text r.end (last t) c.before.before.if1.true
+    rw (one t) (end_right t.before.before.before.before.args.sheet.now r.text r.end (last t) c.before.before.if1.true
     c.before.if2.false ∙ sym (judged t))
 
 returns-3 : tie.Need-returns-3
 returns-3 c =
     let t = c.before in
     let r = t.take-frames.result in
-    end-wrong t.before.before.before.before.args.sheet.now r.text r.end (last t) c.if1.false ∙ sym (judged t)
+    end_wrong t.before.before.before.before.args.sheet.now r.text r.end (last t) c.if1.false ∙ sym (judged t)
 
 pub judge-spec : {M : Type 1} → statement M
 judge-spec =

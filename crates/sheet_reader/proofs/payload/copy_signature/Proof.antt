@@ -8,7 +8,7 @@ use lib.ListN.{length, drop, drop_of_length-le}
 use Rattle.frames.specs.Frames.{frames, frame_at}
 use Rattle.frames.proofs.FrameList.{frames-total}
 use Rattle.frames.proofs.FrameNumbers.{frames-few, frames-cut}
-use Rattle.sheet_reader.proofs.PayloadLaws.{Copying, copying-start, copying-next, copying-all}
+use Rattle.sheet_reader.proofs.PayloadLaws.{Copying, copying_start, copying_next, copying_all}
 use Rattle.sheet_reader.proofs.payload.copy_signature.Statement.{statement}
 use Rattle.sheet_reader.proofs.payload.copy_signature.Tie as tie
 
@@ -44,7 +44,7 @@ room c =
     omega (arith, (left c).room, (left c).long, frames-total s.args.p, s.requires.1, c.frame-size.ensures.high)
 
 loop-holds : tie.Need-loop-init invariant-loop decreases-loop
-loop-holds c = let a = c.before.before.before.args in (omega arith, omega arith, copying-start a.sheet.now (frames a.p) a.signature.now)
+loop-holds c = let a = c.before.before.before.args in (omega arith, omega arith, copying_start a.sheet.now (frames a.p) a.signature.now)
 
 mul-copy : tie.Need-overflow-mul-copy invariant-loop decreases-loop
 mul-copy c = omega (arith, c.frame-size.ensures.few)
@@ -85,7 +85,7 @@ loop-again c =
     let copied = c.before.before.copy in (
       omega (arith, l.before.frame-count.ensures),
       omega (arith, f.frame-size.ensures.few, f.frame-size.ensures.short, l.loop.invariant.1),
-      copying-next a.sheet.now (frames a.p) a.signature.now (frame_at a.p l.loop.k) (drop (l.loop.k + 1) (frames a.p))
+      copying_next a.sheet.now (frames a.p) a.signature.now (frame_at a.p l.loop.k) (drop (l.loop.k + 1) (frames a.p))
           l.loop.signature l.loop.at l.loop.from
           f.frame-size.result.fixed f.frame-size.result.high f.frame-size.ensures.fixed f.frame-size.ensures.high (left f) (room f)
           copied.ensures copied.auto.1.1.1.0,
@@ -99,7 +99,7 @@ returns c =
     let l = c.before in
     let a = l.before.before.before.before.args in
     let none : drop l.loop.k (frames a.p) ≡ [] = drop_of_length-le (frames a.p) {i = l.loop.k} (omega (arith, l.before.frame-count.ensures)) in
-    rw (← frames-total a.p) (copying-all a.sheet.now (frames a.p) a.signature.now l.loop.signature l.loop.at l.loop.from
+    rw (← frames-total a.p) (copying_all a.sheet.now (frames a.p) a.signature.now l.loop.signature l.loop.at l.loop.from
     (rw none at l.loop.invariant.2))
 
 pub copy-signature-spec : {M : Type 1} → statement M

@@ -4,13 +4,13 @@ use native.Mathlib.Nat.{zero-add}
 use native.Mathlib.Omega.{arith}
 use borrow.Author.Rules.{rules}
 use lib.ListN.{length}
-use Rattle.frames.specs.Frames.{textFrame}
+use Rattle.frames.specs.Frames.{text_frame}
 use Rattle.frames.proofs.FrameNumbers.{text_at}
 use Rattle.sheet_reader.proofs.payload.copy_text.Statement.{statement}
 use Rattle.sheet_reader.proofs.payload.copy_text.Tie as tie
 
 -- the text's frame has one fixed byte
-one : (c : tie.After-frame-size) → c.frame-size.result.fixed ≡ length textFrame.head
+one : (c : tie.After-frame-size) → c.frame-size.result.fixed ≡ length text_frame.head
 one c =
     let n = c.before.frame-count in
     c.frame-size.ensures.fixed ∙ ap (λ f. length f.head) (text_at c.before.before.before.before.args.p n.result (omega (arith, n.ensures)))

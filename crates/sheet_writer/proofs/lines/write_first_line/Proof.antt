@@ -3,7 +3,7 @@ use mathlib.Core.Path.{refl, ap, ◌∙◌}
 use borrow.Author.Rules.{rules}
 use lib.ListN.{set}
 use lib.Seq.{paste}
-use Rattle.hex.specs.Hex.{lineEnd}
+use Rattle.hex_lines.specs.Hex.{line_end}
 use Rattle.sheet_writer.proofs.LineLaws.{first-stored}
 use Rattle.sheet_writer.proofs.lines.write_first_line.Statement.{statement}
 use Rattle.sheet_writer.proofs.lines.write_first_line.Tie as tie
@@ -14,7 +14,7 @@ returns c =
     let start = copied.before.before.before.before.before in
     let o = start.args.sheet.now in (
       refl,
-      ap (λ l. set l 6 lineEnd) (copied.copy.ensures ∙ ap (λ l. paste o 0 l 6) copied.before.before.before.first-characters.ensures)
+      ap (λ l. set l 6 line_end) (copied.copy.ensures ∙ ap (λ l. paste o 0 l 6) copied.before.before.before.first-characters.ensures)
           ∙ first-stored o start.requires,
     )
 

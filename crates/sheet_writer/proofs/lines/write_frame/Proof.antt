@@ -5,7 +5,7 @@ use borrow.Author.Rules.{rules}
 use lib.ListN.{length}
 use Rattle.frames.specs.Frames.{frame_at}
 use Rattle.frames.proofs.FrameLaws.{line-long}
-use Rattle.sheet_writer.proofs.LineLaws.{frame-written}
+use Rattle.sheet_writer.proofs.LineLaws.{frame_written}
 use Rattle.sheet_writer.proofs.lines.write_frame.Statement.{statement}
 use Rattle.sheet_writer.proofs.lines.write_frame.Tie as tie
 
@@ -30,7 +30,7 @@ returns c =
     let s = size.before.before.before in
     let a = s.args in
     let line = c.before.before.write-line.ensures in
-    frame-written a.sheet.now a.at (frame_at a.p a.k) a.bytes.now size.frame-size.result.fixed size.frame-size.ensures.fixed
+    frame_written a.sheet.now a.at (frame_at a.p a.k) a.bytes.now size.frame-size.result.fixed size.frame-size.ensures.fixed
     s.requires.2 head.write-head.ensures line.0 line.1
 
 pub write-frame-spec : {M : Type 1} → statement M

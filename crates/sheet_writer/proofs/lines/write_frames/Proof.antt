@@ -6,10 +6,10 @@ use native.Mathlib.Omega.{arith}
 use borrow.Author.Rules.{rules}
 use lib.ListN.{length, drop, drop_of_length-le}
 use Rattle.frames.specs.Frames.{frames, frame_at}
-use Rattle.frames.specs.inner.Size.{behindAll}
+use Rattle.frames.specs.inner.Size.{behind_all}
 use Rattle.frames.proofs.FrameList.{frames-total, behind-frames}
 use Rattle.frames.proofs.FrameNumbers.{length-frames, frames-few, frames-cut}
-use Rattle.sheet_writer.proofs.LineLaws.{Writing, writing-room, writing-next, writing-all, first-written, past_first}
+use Rattle.sheet_writer.proofs.LineLaws.{Writing, writing_room, writing_next, writing_all, first-written, past_first}
 use Rattle.sheet_writer.proofs.lines.write_frames.Statement.{statement}
 use Rattle.sheet_writer.proofs.lines.write_frames.Tie as tie
 
@@ -51,7 +51,7 @@ part c = omega (arith, c.frame-size.ensures.high)
 
 -- the slice has room for all
 room : (c : tie.After-frame-size invariant-loop decreases-loop) → let first = c.before.before.before.before.before in
-    behindAll 0 (frames first.before.before.before.before.before.args.p) ≤ length first.write-first-line.new.0
+    behind_all 0 (frames first.before.before.before.before.before.args.p) ≤ length first.write-first-line.new.0
 room c =
     let first = c.before.before.before.before.before in
     omega (arith, first.before.before.before.before.before.requires.2, first.write-first-line.auto.0)
@@ -75,7 +75,7 @@ write-frame-requires c κs =
     let a = s.args in (
       s.requires.0,
       l.loop.invariant.0,
-      writing-room (frames a.p) a.signature.now l.before.before.before.write-first-line.new.0 (frame_at a.p l.loop.k)
+      writing_room (frames a.p) a.signature.now l.before.before.before.write-first-line.new.0 (frame_at a.p l.loop.k)
           (drop (l.loop.k + 1) (frames a.p)) l.loop.sheet
           l.loop.at l.loop.from (l.loop.from + f.frame-size.result.high - l.loop.from) (room f) (part f) (left f),
     )
@@ -99,7 +99,7 @@ loop-again c =
     let next : l.loop.from + f.frame-size.result.high ≡ l.loop.from + m = omega arith in (
       omega arith,
       omega (arith, l.before.before.before.before.before.frame-count.ensures),
-      rw next (writing-next (frames a.p) a.signature.now l.before.before.before.write-first-line.new.0 (frame_at a.p l.loop.k)
+      rw next (writing_next (frames a.p) a.signature.now l.before.before.before.write-first-line.new.0 (frame_at a.p l.loop.k)
           (drop (l.loop.k + 1) (frames a.p))
           l.loop.sheet l.loop.at l.loop.from m (room f) (part f) (left f) frame.ensures.0 frame.ensures.1),
     )
@@ -115,7 +115,7 @@ returns c =
     let first = l.before.before.before.write-first-line in
     let none : drop l.loop.k (frames a.p) ≡ [] = drop_of_length-le (frames a.p) {i = l.loop.k}
     (omega (arith, l.before.before.before.before.before.frame-count.ensures)) in
-    let all = writing-all (frames a.p) a.signature.now first.new.0 (rw none at l.loop.invariant.2) in
+    let all = writing_all (frames a.p) a.signature.now first.new.0 (rw none at l.loop.invariant.2) in
     (all.0, all.1 ∙ rw (past_first a.sheet.now l.loop.at first.ensures.1 (omega (arith, all.0, behind-frames a.p))))
 
 pub write-frames-spec : {M : Type 1} → statement M

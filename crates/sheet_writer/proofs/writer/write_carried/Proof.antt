@@ -5,17 +5,17 @@ use native.Mathlib.Omega.{arith}
 use borrow.Author.Rules.{rules}
 use lib.ListN.{length}
 use Rattle.profile.proofs.Limits.{profile-limits}
-use Rattle.frames.specs.Frames.{textFrame, frame_at}
+use Rattle.frames.specs.Frames.{text_frame, frame_at}
 use Rattle.frames.proofs.FrameLaws.{line-long}
 use Rattle.frames.proofs.FrameList.{behind-frames}
-use Rattle.frames.proofs.FrameNumbers.{length-frames, edition-long, text_at}
-use Rattle.sheet_writer.proofs.WriteAnswer.{Fit, carried-fit, length-sheet, text-written, no_room, sheet-written}
+use Rattle.frames.proofs.FrameNumbers.{length-frames, edition_long, text_at}
+use Rattle.sheet_writer.proofs.WriteAnswer.{Fit, carried_fit, length-sheet, text-written, no_room, sheet-written}
 use Rattle.sheet_writer.proofs.writer.write_carried.Statement.{statement}
 use Rattle.sheet_writer.proofs.writer.write_carried.Tie as tie
 
 -- what the causes leave
 fit : (s : tie.Start) → Fit s.args.p s.args.signature.now s.args.message.now
-fit s = carried-fit s.args.p s.args.signature.now s.args.message.now s.requires
+fit s = carried_fit s.args.p s.args.signature.now s.args.message.now s.requires
 
 -- the sheet is short
 short : (c : tie.After-lines-length) → c.lines-length.result + 2 * length c.before.before.before.before.args.message.now + 3 ≤ 2400
@@ -26,7 +26,7 @@ short c =
       arith,
       c.lines-length.ensures,
       behind-frames p,
-      edition-long p.edition,
+      edition_long p.edition,
       (profile-limits p (fit s).passed).0.few-chains,
       (profile-limits p (fit s).passed).1,
       (fit s).short-text,
@@ -34,7 +34,7 @@ short c =
 
 -- behind all frames stands the text's
 frame-all : (c : tie.After-frame-count) → let p = c.before.before.before.before.before.before.before.before.before.before.before.args.p in
-    frame_at p c.frame-count.result ≡ textFrame
+    frame_at p c.frame-count.result ≡ text_frame
 frame-all c = text_at c.before.before.before.before.before.before.before.before.before.before.before.args.p c.frame-count.result
     (omega (arith, c.frame-count.ensures))
 
@@ -61,7 +61,7 @@ write-frame-requires c κs =
         lines.write-frames.ensures.0,
         lines.before.before.before.lines-length.ensures,
         lines.write-frames.auto.0,
-        line-long textFrame.head s.args.message.now,
+        line-long text_frame.head s.args.message.now,
       )),
     )
 

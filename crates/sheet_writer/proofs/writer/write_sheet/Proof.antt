@@ -5,23 +5,23 @@ use mathlib.Core.List.{[]}
 use borrow.Author.Rules.{rules}
 use lib.Dec.{eqb}
 use lib.ListN.{length}
-use Rattle.refusal.specs.Code.{outcomeCode, firstCause}
-use Rattle.refusal.proofs.Causes.{chain-begins, chain_next, granted-none}
-use Rattle.profile.specs.Checks.{profileCauses}
+use Rattle.refusal.specs.Code.{outcome_code, first_cause}
+use Rattle.refusal.proofs.Causes.{chain_begins, chain_next, granted-none}
+use Rattle.profile.specs.Checks.{profile_causes}
 use Rattle.profile.proofs.Limits.{profile-numbered}
-use Rattle.sheet_writer.specs.Operations.{carriedCauses}
+use Rattle.sheet_writer.specs.Operations.{carried_causes}
 use Rattle.sheet_writer.proofs.WriteAnswer.{carried-refused}
 use Rattle.sheet_writer.proofs.writer.write_sheet.Statement.{statement}
 use Rattle.sheet_writer.proofs.writer.write_sheet.Tie as tie
 
 -- the causes in their order
 answered : (c : tie.After-then2) → let a = c.before.before.before.before.before.before.before.before.args in
-    outcomeCode c.then2.result ≡ firstCause (carriedCauses a.p a.signature.now a.message.now)
+    outcome_code c.then2.result ≡ first_cause (carried_causes a.p a.signature.now a.message.now)
 answered c =
     let worded = c.before in
     let checked = worded.before in
     let a = c.before.before.before.before.before.before.before.before.args in
-    let begun = chain-begins (profileCauses a.p) (profile-numbered a.p) checked.check-profile.ensures in
+    let begun = chain_begins (profile_causes a.p) (profile-numbered a.p) checked.check-profile.ensures in
     let text = chain_next 16 refl begun checked.before.before.outside-text.ensures worded.then.ensures in
     (chain_next 13 refl text (ap (λ n. not (eqb (length a.signature.now) n)) checked.before.signature-length.ensures) c.then2.ensures).answer
 
@@ -30,7 +30,7 @@ write-carried-requires c κs =
     let told = c.before in
     let all = told.before.before in
     let a = all.before.before.before.before.before.before.before.before.args in
-    granted-none (carriedCauses a.p a.signature.now a.message.now) [] all.then2.result (answered all) told.enum-told2.given.1
+    granted-none (carried_causes a.p a.signature.now a.message.now) [] all.then2.result (answered all) told.enum-told2.given.1
 
 returns : tie.Need-returns
 returns c =

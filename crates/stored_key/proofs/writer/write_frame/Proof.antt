@@ -4,9 +4,9 @@ use Prim.Native.Nat.{◌+◌, ◌^◌}
 use native.Mathlib.Omega.{arith}
 use borrow.Author.Rules.{rules}
 use lib.ListN.{length, take}
-use Rattle.signing_key.specs.Counter.{markCounts}
-use Rattle.stored_key.specs.inner.Parts.{lastLength, lastBytes}
-use Rattle.stored_key.proofs.WriteAnswer.{last_taken, last-long, frame-written}
+use Rattle.signing_key.specs.Counter.{mark_counts}
+use Rattle.stored_key.specs.inner.Parts.{last_length, last_bytes}
+use Rattle.stored_key.proofs.WriteAnswer.{last_taken, last-long, frame_written}
 use Rattle.stored_key.proofs.writer.write_frame.Statement.{statement}
 use Rattle.stored_key.proofs.writer.write_frame.Tie as tie
 
@@ -15,19 +15,19 @@ longs s = search rules
 
 -- the bytes that are written last
 last-are : (c : tie.After-edition-bytes) → let key = c.before.before.before.before.before.before.args.key in
-    take (lastLength + c.edition-bytes.result) c.before.last-bytes.result ≡ lastBytes key.counter.next
-    (markCounts (2 ^ key.profile.height) key.counter) key.profile.edition
+    take (last_length + c.edition-bytes.result) c.before.last-bytes.result ≡ last_bytes key.counter.next
+    (mark_counts (2 ^ key.profile.height) key.counter) key.profile.edition
 last-are c =
     let key = c.before.before.before.before.before.before.args.key in
-    last_taken key.counter.next (markCounts (2 ^ key.profile.height) key.counter) key.profile.edition (lastLength + c.edition-bytes.result)
-    (ap (λ n. lastLength + n) c.edition-bytes.ensures.0) c.before.last-bytes.ensures
+    last_taken key.counter.next (mark_counts (2 ^ key.profile.height) key.counter) key.profile.edition (last_length + c.edition-bytes.result)
+    (ap (λ n. last_length + n) c.edition-bytes.ensures.0) c.before.last-bytes.ensures
 
-last-count : (c : tie.After-edition-bytes) → length (take (lastLength + c.edition-bytes.result)
-    c.before.last-bytes.result) ≡ lastLength + c.edition-bytes.result
+last-count : (c : tie.After-edition-bytes) → length (take (last_length + c.edition-bytes.result)
+    c.before.last-bytes.result) ≡ last_length + c.edition-bytes.result
 last-count c =
     let key = c.before.before.before.before.before.before.args.key in
-    ap length (last-are c) ∙ last-long key.counter.next (markCounts (2 ^ key.profile.height) key.counter) key.profile.edition
-    ∙ ap (λ n. lastLength + n) (sym c.edition-bytes.ensures.0)
+    ap length (last-are c) ∙ last-long key.counter.next (mark_counts (2 ^ key.profile.height) key.counter) key.profile.edition
+    ∙ ap (λ n. last_length + n) (sym c.edition-bytes.ensures.0)
 
 slice-aggregate-write-line : tie.Need-slice-aggregate-write-line
 slice-aggregate-write-line c = sym (last-count c.before.before.before.before.before.before)
@@ -46,7 +46,7 @@ returns c =
     let counted = front.before.before in
     let start = counted.before.before.before.before.before.before in
     let key = start.args.key in
-    frame-written key (longs start).0 (longs start).1 start.args.frame.now front.write-front.ensures (last-are counted)
+    frame_written key (longs start).0 (longs start).1 start.args.frame.now front.write-front.ensures (last-are counted)
     line.write-line.ensures.0 line.write-line.ensures.1
 
 pub write-frame-spec : {M : Type 1} → statement M

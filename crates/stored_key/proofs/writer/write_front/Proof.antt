@@ -3,8 +3,8 @@ use mathlib.Core.Path.{◌≡◌, sym, ap, ◌∙◌}
 use native.Mathlib.Omega.{arith}
 use borrow.Author.Rules.{rules}
 use lib.ListN.{length, take}
-use Rattle.stored_key.specs.KeyFields.{seedField}
-use Rattle.stored_key.specs.inner.Parts.{fieldPlace, frontBytes}
+use Rattle.stored_key.specs.KeyFields.{seed_field}
+use Rattle.stored_key.specs.inner.Parts.{field_place, front_bytes}
 use Rattle.stored_key.proofs.WriteAnswer.{front-taken, front_long, front-written}
 use Rattle.stored_key.proofs.writer.write_front.Statement.{statement}
 use Rattle.stored_key.proofs.writer.write_front.Tie as tie
@@ -16,10 +16,10 @@ longs s = search rules
 abbrev start : tie.After-profile-head → tie.Start
 start h = h.before.before
 
-front-are : (h : tie.After-profile-head) → take (fieldPlace seedField) h.profile-head.result ≡ frontBytes (start h).args.p
+front-are : (h : tie.After-profile-head) → take (field_place seed_field) h.profile-head.result ≡ front_bytes (start h).args.p
 front-are h = front-taken (start h).args.p h.profile-head.ensures
 
-front-count : (h : tie.After-profile-head) → length (take (fieldPlace seedField) h.profile-head.result) ≡ fieldPlace seedField
+front-count : (h : tie.After-profile-head) → length (take (field_place seed_field) h.profile-head.result) ≡ field_place seed_field
 front-count h = ap length (front-are h) ∙ front_long (start h).args.p
 
 slice-aggregate-write-bytes : tie.Need-slice-aggregate-write-bytes

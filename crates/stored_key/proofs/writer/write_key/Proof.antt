@@ -5,12 +5,12 @@ use native.Mathlib.Omega.{arith}
 use borrow.Author.Rules.{rules}
 use lib.Dec.{ltb}
 use lib.ListN.{length}
-use Rattle.refusal.specs.Code.{outcomeCode}
+use Rattle.refusal.specs.Code.{outcome_code}
 use Rattle.profile.proofs.Limits.{profile-limits}
-use Rattle.stored_key.specs.KeyFrame.{storedKey}
-use Rattle.stored_key.specs.Operations.{writeKeyCode}
-use Rattle.stored_key.specs.inner.Parts.{frameLength}
-use Rattle.stored_key.proofs.WriteAnswer.{stored-long, write-code, granted-passed, granted-room, key-refused, key-written}
+use Rattle.stored_key.specs.KeyFrame.{stored_key}
+use Rattle.stored_key.specs.Operations.{write_key_code}
+use Rattle.stored_key.specs.inner.Parts.{frame_length}
+use Rattle.stored_key.proofs.WriteAnswer.{stored-long, write_code, granted-passed, granted-room, key-refused, key-written}
 use Rattle.stored_key.proofs.writer.write_key.Statement.{statement}
 use Rattle.stored_key.proofs.writer.write_key.Tie as tie
 
@@ -21,15 +21,15 @@ longs : (s : tie.Start) → (length s.args.key.seed ≡ 16) × (length s.args.ke
 longs s = search rules
 
 -- how long the line is
-line : (t : tie.After-then) → 2 * frameLength + 1 + 2 * t.before.before.edition-bytes.result ≡ length (storedKey (start t).args.key)
+line : (t : tie.After-then) → 2 * frame_length + 1 + 2 * t.before.before.edition-bytes.result ≡ length (stored_key (start t).args.key)
 line t =
     let s = start t in
     omega (arith, stored-long s.args.key (longs s).0 (longs s).1, t.before.before.edition-bytes.ensures.0)
 
-answer : (t : tie.After-then) → outcomeCode t.then.result ≡ writeKeyCode (start t).args.key (start t).args.frame.now
+answer : (t : tie.After-then) → outcome_code t.then.result ≡ write_key_code (start t).args.key (start t).args.frame.now
 answer t =
     let a = (start t).args in
-    write-code a.key a.frame.now t.before.check-profile.ensures (ap (ltb (length a.frame.now)) (line t)) t.then.ensures
+    write_code a.key a.frame.now t.before.check-profile.ensures (ap (ltb (length a.frame.now)) (line t)) t.then.ensures
 
 returns : tie.Need-returns
 returns c =
@@ -41,15 +41,15 @@ returns c =
 abbrev looked : tie.After-enum-told2 → tie.After-then
 looked g = g.before.before
 
-zero : (g : tie.After-enum-told2) → outcomeCode (looked g).then.result ≡ 0
-zero g = ap outcomeCode g.enum-told2.given.1
+zero : (g : tie.After-enum-told2) → outcome_code (looked g).then.result ≡ 0
+zero g = ap outcome_code g.enum-told2.given.1
 
 write-frame-requires : tie.Need-write-frame-requires
 write-frame-requires c κs =
     let t = looked c.before in
     let s = start t in
     let key = s.args.key in
-    let granted : writeKeyCode key s.args.frame.now ≡ 0 = sym (answer t) ∙ zero c.before in (
+    let granted : write_key_code key s.args.frame.now ≡ 0 = sym (answer t) ∙ zero c.before in (
       profile-limits key.profile (granted-passed key s.args.frame.now granted),
       omega (arith, granted-room key s.args.frame.now granted, stored-long key (longs s).0 (longs s).1),
     )

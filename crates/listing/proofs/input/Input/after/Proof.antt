@@ -8,7 +8,7 @@ use borrow.Author.Rules.{rules}
 use borrow.Author.Tests.{eq-eqb, ne_eqb}
 use lib.ListN.{length, get_or}
 use lib.Seq.{take-suc-set}
-use Rattle.listing.specs.Input.{lineRead}
+use Rattle.listing.specs.Input.{line_read}
 use Rattle.listing.proofs.Reading.{room, no_byte, one_byte}
 use Rattle.listing.proofs.input.Input.after.Statement.{statement}
 use Rattle.listing.proofs.input.Input.after.Tie as tie
@@ -17,7 +17,7 @@ returns : tie.Need-returns
 returns c =
     let found = c.before.before.args.found.now in
     let none : length found ≡ 0 = c.if1.true in (
-      sym (ap (λ l. lineRead c.before.before.args.self ++ l) (no_byte found none) ∙ append-nil _),
+      sym (ap (λ l. line_read c.before.before.args.self ++ l) (no_byte found none) ∙ append-nil _),
       c.before.before.requires.0,
       sym (eq-eqb (length found) 0 none),
     )

@@ -4,12 +4,12 @@ use native.Mathlib.Omega.{arith}
 use borrow.Author.Rules.{rules}
 use borrow.Author.Tests.{lt-ltb, le-ltb}
 use lib.ListN.{length}
-use Rattle.sha256.specs.Running.{addCode, addState}
+use Rattle.sha256.specs.Running.{add_code, add_state}
 use Rattle.sha256.proofs.running.Hash.add.Statement.{statement}
 use Rattle.sha256.proofs.running.Hash.add.Tie as tie
 
 returns : tie.Need-returns
-unfolding addCode addState
+unfolding add_code add_state
 returns c =
     let args = c.before.before.before.args in
     let over : 65535 < args.self.total + length args.bytes.now = omega arith in
@@ -17,7 +17,7 @@ returns c =
     record { code = rw test; state = rw test }
 
 returns-2 : tie.Need-returns-2
-unfolding addCode addState
+unfolding add_code add_state
 returns-2 c =
     let args = c.before.before.before.before.args in
     let fits : args.self.total + length args.bytes.now ≤ 65535 = omega arith in

@@ -1,18 +1,18 @@
--- `hex::write_bytes` meets its contract. The invariant: the first i bytes are written.
+-- `hex_lines::write_bytes` meets its contract. The invariant: the first i bytes are written.
 use mathlib.Core.Path.{◌≡◌, refl, ◌∙◌}
 use mathlib.Core.List.{◌++◌}
 use Prim.Native.Nat.{◌+◌, ◌-◌, ◌*◌, ◌≤◌}
 use native.Mathlib.Omega.{arith}
 use borrow.Author.Rules.{rules}
 use lib.ListN.{length, take, drop}
-use Rattle.lists.specs.Joined.{joinTo}
-use Rattle.lists.proofs.Joins.{write-start, write-next, write-long}
-use Rattle.hex.proofs.Writing.{pair_of, pair-long, all-joined}
-use Rattle.hex.proofs.write_bytes.Statement.{statement}
-use Rattle.hex.proofs.write_bytes.Tie as tie
+use Rattle.lists.specs.Joined.{join_to}
+use Rattle.lists.proofs.Joins.{write_start, write_next, write_long}
+use Rattle.hex_lines.proofs.Writing.{pair_of, pair_long, all-joined}
+use Rattle.hex_lines.proofs.write_bytes.Statement.{statement}
+use Rattle.hex_lines.proofs.write_bytes.Tie as tie
 
 abbrev invariant-loop : tie.invariant-loop
-invariant-loop out₀ at bytes i₀ out i = (i ≤ length bytes) × (out ≡ take at out₀ ++ joinTo (pair_of bytes) i ++ drop (at + 2 * i) out₀)
+invariant-loop out₀ at bytes i₀ out i = (i ≤ length bytes) × (out ≡ take at out₀ ++ join_to (pair_of bytes) i ++ drop (at + 2 * i) out₀)
 
 abbrev decreases-loop : tie.decreases-loop
 decreases-loop out₀ at bytes i₀ out i = length bytes - i
@@ -22,11 +22,11 @@ kept-long : (q : tie.At-loop invariant-loop decreases-loop) → length q.loop.ou
 kept-long q =
     let s = q.before.before.before in
     let bytes = s.args.bytes.now in
-    write-long (pair_of bytes) 2 (length bytes) (λ i h. pair-long bytes i) s.args.at s.args.out.now s.requires q.loop.i q.loop.invariant.0
+    write_long (pair_of bytes) 2 (length bytes) (λ i h. pair_long bytes i) s.args.at s.args.out.now s.requires q.loop.i q.loop.invariant.0
     q.loop.invariant.1
 
 loop-holds : tie.Need-loop-init invariant-loop decreases-loop
-loop-holds c = let a = c.before.before.args in (omega arith, write-start (pair_of a.bytes.now) 2 a.at a.out.now)
+loop-holds c = let a = c.before.before.args in (omega arith, write_start (pair_of a.bytes.now) 2 a.at a.out.now)
 
 write-byte-requires : tie.Need-write-byte-requires invariant-loop decreases-loop
 write-byte-requires c κs = let head = c.before.before.before in omega (arith, head.before.before.before.requires, kept-long head)
@@ -37,7 +37,7 @@ loop-again c =
     let s = head.before.before.before in
     let bytes = s.args.bytes.now in (
       omega arith,
-      write-next (pair_of bytes) 2 (length bytes) (λ i h. pair-long bytes i) s.args.at s.args.out.now s.requires head.loop.i
+      write_next (pair_of bytes) 2 (length bytes) (λ i h. pair_long bytes i) s.args.at s.args.out.now s.requires head.loop.i
           (omega arith) refl head.loop.invariant.1 c.before.before.write_byte.ensures,
     )
 

@@ -1,4 +1,4 @@
--- `hex::read_line` meets its contract. The invariant: the first i bytes stand in front of the line from behind them on, and in front of what is read there.
+-- `hex_lines::read_line` meets its contract. The invariant: the first i bytes stand in front of the line from behind them on, and in front of what is read there.
 use mathlib.Core.Path.{◌≡◌, refl, sym, ◌∙◌}
 use mathlib.Core.Bool.{false}
 use mathlib.Core.List.{◌++◌}
@@ -7,18 +7,18 @@ use native.Mathlib.Omega.{arith}
 use borrow.Author.Rules.{rules}
 use lib.ListN.{length, get_or, take, drop, length-set}
 use lib.Seq.{length-take-le}
-use Rattle.hex.specs.inner.Digits.{readInto, ReadsLine}
-use Rattle.hex.specs.Hex.{lineEnd, readLine}
-use Rattle.hex.proofs.Reading.{ending-within, ahead, short-line, long-line, read-begins, read_next, read_all, into-begins, into_next, into-wrong}
-use Rattle.hex.proofs.Reading.{into-all, byte-room, answer-no, answer-yes}
-use Rattle.hex.proofs.read_line.Statement.{statement}
-use Rattle.hex.proofs.read_line.Tie as tie
+use Rattle.hex_lines.specs.inner.Digits.{read_into, ReadsLine}
+use Rattle.hex_lines.specs.Hex.{line_end, read_line}
+use Rattle.hex_lines.proofs.Reading.{ending-within, ahead, short-line, long-line, read_begins, read_next, read_all, into_begins, into_next, into_wrong}
+use Rattle.hex_lines.proofs.Reading.{into_all, byte_room, answer_no, answer_yes}
+use Rattle.hex_lines.proofs.read_line.Statement.{statement}
+use Rattle.hex_lines.proofs.read_line.Tie as tie
 
 abbrev invariant-loop : tie.invariant-loop
 invariant-loop chars at bytes₀ i₀ bytes i =
     (i ≤ length bytes) × (at + 2 * i ≤ length chars) × (length bytes ≡ length bytes₀)
-    × (readLine (drop at chars) ≡ ahead (take i bytes) (readLine (drop (at + 2 * i) chars)))
-    × (readInto chars at bytes₀ ≡ take i bytes ++ readInto chars (at + 2 * i) (drop i bytes))
+    × (read_line (drop at chars) ≡ ahead (take i bytes) (read_line (drop (at + 2 * i) chars)))
+    × (read_into chars at bytes₀ ≡ take i bytes ++ read_into chars (at + 2 * i) (drop i bytes))
 
 abbrev decreases-loop : tie.decreases-loop
 decreases-loop chars at bytes₀ i₀ bytes i = length bytes - i
@@ -32,15 +32,15 @@ read-long q = length-take-le q.loop.i q.loop.bytes q.loop.invariant.0
 
 -- all bytes have been read
 all_read : (q : tie.At-loop invariant-loop decreases-loop) → length q.loop.bytes ≤ q.loop.i
-    → q.loop.bytes ≡ readInto (start q).args.chars.now (start q).args.at (start q).args.bytes.now
-all_read q all = into-all (start q).args.chars.now (start q).args.at q.loop.bytes q.loop.i q.loop.invariant.4 all
+    → q.loop.bytes ≡ read_into (start q).args.chars.now (start q).args.at (start q).args.bytes.now
+all_read q all = into_all (start q).args.chars.now (start q).args.at q.loop.bytes q.loop.i q.loop.invariant.4 all
 
 -- all bytes have been read, and no ending stands behind them
 not-ended : (q : tie.At-loop invariant-loop decreases-loop) → length q.loop.bytes ≤ q.loop.i
-    → (get_or (start q).args.chars.now ((start q).args.at + 2 * q.loop.i) 0 ≡ lineEnd → ⊥)
+    → (get_or (start q).args.chars.now ((start q).args.at + 2 * q.loop.i) 0 ≡ line_end → ⊥)
     → ReadsLine (start q).args.chars.now (start q).args.at (start q).args.bytes.now q.loop.bytes false
 not-ended q all other =
-    answer-no _ _ _ (all_read q all) q.loop.invariant.3
+    answer_no _ _ _ (all_read q all) q.loop.invariant.3
     (long-line (take q.loop.i q.loop.bytes) _ (start q).args.chars.now ((start q).args.at + 2 * q.loop.i) (omega (arith, read-long q)) other)
 
 loop-holds : tie.Need-loop-init invariant-loop decreases-loop
@@ -49,8 +49,8 @@ loop-holds c =
       omega arith,
       omega arith,
       refl,
-      read-begins args.chars.now args.at args.bytes.now,
-      into-begins args.chars.now args.at
+      read_begins args.chars.now args.at args.bytes.now,
+      into_begins args.chars.now args.at
           args.bytes.now,
     )
 
@@ -62,7 +62,7 @@ returns c =
     let called = c.before.before in
     let q = called.before.before in
     let none = sym called.byte_at.ensures ∙ c.enum_told.given.1 in
-    answer-no _ _ _ (into-wrong _ _ q.loop.bytes q.loop.i q.loop.invariant.4 none) q.loop.invariant.3
+    answer_no _ _ _ (into_wrong _ _ q.loop.bytes q.loop.i q.loop.invariant.4 none) q.loop.invariant.3
     (short-line _ _ _ _ (omega (arith, read-long q)) none)
 
 loop-less : tie.Need-loop-smaller invariant-loop decreases-loop
@@ -75,7 +75,7 @@ loop-again c =
     let args = (start q).args in
     let byte = sym called.byte_at.ensures ∙ c.before.b.given.1 in (
       simp length-set (omega arith),
-      omega (arith, byte-room args.chars.now (args.at + 2 * q.loop.i) byte),
+      omega (arith, byte_room args.chars.now (args.at + 2 * q.loop.i) byte),
       simp length-set q.loop.invariant.2,
       read_next
           args.chars.now args.at q.loop.bytes q.loop.i (omega arith) byte q.loop.invariant.3,
@@ -102,7 +102,7 @@ returns-4 : tie.Need-returns-4 invariant-loop decreases-loop
 returns-4 c =
     let ended = c.before.before.before in
     let loop = ended.before.loop in
-    answer-yes _ _ _ (all_read ended.before ended.loop-test.false) loop.invariant.2
+    answer_yes _ _ _ (all_read ended.before ended.loop-test.false) loop.invariant.2
     (read_all _ _ loop.bytes loop.i loop.invariant.0 ended.loop-test.false loop.invariant.2 c.if2.false loop.invariant.3)
 
 pub read-line-spec : {M : Type 1} → statement M

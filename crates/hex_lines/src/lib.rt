@@ -1,7 +1,8 @@
 // Bytes as upper-case hex, two characters a byte, and lines of them.
+#![tactic(auto)]
 ghost use Rattle.std.specs.Prelude.{◌≡◌, [], ◌∷◌, ◌+◌, ◌*◌, ◌≤◌, ◌<◌, length};
-ghost use Rattle.hex.specs.Hex.{hexDigit, hexOf, line_of, digitOf};
-ghost use Rattle.hex.specs.inner.Digits.{byte_at, between, ReadsLine};
+ghost use Rattle.hex_lines.specs.Hex.{hex_digit, hex_of, line_of, digit_of};
+ghost use Rattle.hex_lines.specs.inner.Digits.{byte_at, between, ReadsLine};
 
 // What two characters are read as.
 #[derive(Drop)]
@@ -13,14 +14,14 @@ pub enum Digits {
 // The character of a digit.
 pub fn hex_digit(d: u8) -> u8
     requires { d < 16 }
-    ensures { result ≡ hexDigit d }
+    ensures { result ≡ hex_digit d }
 {
     if d < 10 { 48 + d } else { 55 + d }
 }
 
 // The digit that a character is; 16 where it is none.
 pub fn digit_of(c: u8) -> u8
-    ensures { result ≡ digitOf c }
+    ensures { result ≡ digit_of c }
 {
     if c < 48 {
         return 16;
@@ -85,7 +86,7 @@ pub fn read_line(chars: &[u8], at: usize, bytes: &mut [u8]) -> bool
 // Writes a byte as two characters from index `at` on.
 pub fn write_byte(out: &mut [u8], at: usize, byte: u8)
     requires { at + 2 ≤ length out.old }
-    ensures { out.new ≡ between out.old at (hexOf (byte ∷ [])) (at + 2) }
+    ensures { out.new ≡ between out.old at (hex_of (byte ∷ [])) (at + 2) }
 {
     let high = hex_digit(byte / 16);
     let low = hex_digit(byte % 16);
@@ -96,7 +97,7 @@ pub fn write_byte(out: &mut [u8], at: usize, byte: u8)
 // Writes bytes from index `at` on.
 pub fn write_bytes(out: &mut [u8], at: usize, bytes: &[u8])
     requires { at + 2 * length bytes.now ≤ length out.old }
-    ensures { out.new ≡ between out.old at (hexOf bytes.now) (at + 2 * length bytes.now) }
+    ensures { out.new ≡ between out.old at (hex_of bytes.now) (at + 2 * length bytes.now) }
 {
     let mut i = 0;
     while i < bytes.len() {

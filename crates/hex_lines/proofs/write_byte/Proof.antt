@@ -1,10 +1,10 @@
--- `hex::write_byte` meets its contract: two stores are a byte.
+-- `hex_lines::write_byte` meets its contract: two stores are a byte.
 use native.Mathlib.Omega.{arith}
 use borrow.Author.Rules.{rules}
 use lib.ListN.{length-set}
-use Rattle.hex.proofs.Writing.{stored-byte}
-use Rattle.hex.proofs.write_byte.Statement.{statement}
-use Rattle.hex.proofs.write_byte.Tie as tie
+use Rattle.hex_lines.proofs.Writing.{stored_byte}
+use Rattle.hex_lines.proofs.write_byte.Statement.{statement}
+use Rattle.hex_lines.proofs.write_byte.Tie as tie
 
 slice-write-out-2 : tie.Need-slice-write-out-2
 slice-write-out-2 c = simp length-set (omega arith)
@@ -12,7 +12,7 @@ slice-write-out-2 c = simp length-set (omega arith)
 returns : tie.Need-returns
 returns c =
     let args = c.before.before.before.args in
-    rw (c.before.hex-digit.ensures, c.hex-digit2.ensures) (stored-byte args.out.now args.at args.byte c.before.before.before.requires)
+    rw (c.before.hex_digit_lem.ensures, c.hex-digit2.ensures) (stored_byte args.out.now args.at args.byte c.before.before.before.requires)
 
 pub write-byte-spec : {M : Type 1} → statement M
 write-byte-spec =
