@@ -1,5 +1,5 @@
 #!/usr/bin/env python3
-"""Brings the repository's own definitions and lemmas to the spelling of today's Rattle, once, behind its porting scripts.
+"""Brings the repository's own definitions and lemmas to the spelling of today's Rattle, behind its porting scripts.
 
 usage: python3 tools/respell.py     at the top of the repository
 
@@ -49,8 +49,8 @@ def snake(word):
     return re.sub("(?<=[a-z0-9])[A-Z]", lambda m: "_" + m.group().lower(), word)
 
 
-def renamed(names, taken):
-    """The new name of each definition and lemma that gets one."""
+def renamed(names, stated, taken):
+    """The new name of each definition and lemma that gets one. What is stated, in specs/, has no dash."""
     spelt = names | WORDS | {snake(n) for n in names}
     new = {}
     for name in sorted(names):
@@ -59,7 +59,8 @@ def renamed(names, taken):
         words = name.split("-")
         text = snake(words[0])
         for before, word in zip(words, words[1:]):
-            text += ("-" if snake(before) in spelt and snake(word) in spelt else "_") + snake(word)
+            joined = name not in stated and snake(before) in spelt and snake(word) in spelt
+            text += ("-" if joined else "_") + snake(word)
         new[name] = text
     count = defaultdict(list)
     for name, text in new.items():
@@ -72,7 +73,7 @@ def renamed(names, taken):
 
 
 def main():
-    names, words = set(), set()
+    names, stated = set(), set()
     for path in files(".antt"):
         text = read(path)
         if not of_a_function(path):
@@ -80,8 +81,10 @@ def main():
                 found = NAMES.match(line) or DEFINES.match(line)
                 if found:
                     names.add(found.group(1))
+                    if path.split(os.sep)[2] == "specs":
+                        stated.add(found.group(1))
     definitions = {n for n in names if "-" not in n}
-    new = renamed(names, definitions)
+    new = renamed(names, stated, definitions)
     for path in files(".antt", ".edit"):
         write(path, WORD.sub(lambda m: new.get(m.group(), m.group()), read(path)))
     camel = {n: t for n, t in new.items() if "-" not in n}

@@ -26,7 +26,7 @@ def archive_parser(description):
 
 def archive_of(options):
     if options.archive is None:
-        command("rt", "staticlib", "zarosnik")
+        command("tools/archive")
     return (options.archive or ARCHIVE).resolve()
 
 

@@ -56,7 +56,7 @@ class Repository:
 
     def __init__(self):
         lines = (ROOT / "crates.txt").read_text(encoding="utf-8").splitlines()
-        self.crates = {line.split(":")[0] for line in lines if line and not line.startswith("#")}
+        self.crates = {line.split(":")[0].split()[0] for line in lines if line and not line.startswith("#")}
         self.definitions, self.items = defaultdict(set), defaultdict(set)
         self.fields, self.edits = defaultdict(set), defaultdict(set)
         for file in CRATES.glob("*/*/**/*.antt"):

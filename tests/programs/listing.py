@@ -20,7 +20,8 @@ from paths import ROOT, fail, say
 
 import zarosnik
 
-PROGRAM = ROOT / "target" / "bin" / "listing_main"
+CRATE = ROOT / "crates" / "listing_main"
+PROGRAM = CRATE / "out" / "listing_main"
 WORK_WORDS = 16000
 MOST = 256
 DIGITS = b"0123456789ABCDEF"
@@ -176,8 +177,8 @@ def main():
     example = [b"11%04X%s\n" % pair for pair in enumerate(EXAMPLE_ROWS)]
     if expected(EXAMPLE) != b"".join(example) or any(expected(m) != b"1F11\n" for m in MALFORMED):
         fail("the implementation here does not give the document's values")
-    check = ["rt", "check", "listing_main"]
-    build = subprocess.run(check, cwd=ROOT, capture_output=True, text=True)
+    with (CRATE / "stdin").open("rb") as given:
+        build = subprocess.run(["rt", "run"], cwd=CRATE, stdin=given, capture_output=True, text=True)
     if build.returncode:
         fail(f"listing_main is not built\n{build.stdout}{build.stderr}")
     tried = []

@@ -24,7 +24,7 @@ length_leaf_key d chains secret leaf = length_tweaked d _ _
 
 -- a shape within its limits has chains that fit
 pub chains_fit : (shape : Shape) → InLimits shape → ChainsFit (chains_of shape)
-chains_fit shape limits = record { few = limits.few-chains; some = omega (arith, limits.wide); narrow = limits.narrow }
+chains_fit shape limits = record { few = limits.few_chains; some = omega (arith, limits.wide); narrow = limits.narrow }
 
 -- what the running hash has taken after c tops, f 0, f 1, ..
 abbrev pub taken : (d : Domain) (leaf : ℕ) → (ℕ → List ℕ) → ℕ → List ℕ

@@ -52,7 +52,7 @@ pub fn write_values(
 }
 
 // A leaf key, and the steps that led to it.
-#[derive(Drop)]
+#[derive(Clone, Copy)]
 pub struct Key {
     pub key: [u8; 16],
     pub steps: u32,

@@ -1,5 +1,6 @@
 // Hash chains, and the chains of one leaf.
 #![tactic(auto)]
+
 ghost use Rattle.std.specs.Prelude.{◌≡◌};
 ghost use Rattle.chains.specs.Leaves.{chains_of};
 
@@ -9,7 +10,7 @@ pub mod leaves;
 pub mod steps;
 
 // The chains of a leaf (document 01: l chains of width w): how many, and the number of heights of each.
-#[derive(Drop)]
+#[derive(Clone, Copy)]
 pub struct Chains {
     pub count: u32,
     pub width: u32,

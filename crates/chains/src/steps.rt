@@ -26,7 +26,7 @@ fn chain_step(hasher: Hasher, leaf: Leaf, chain: Chain, height: Height, value: [
 }
 
 // A value, and the steps that led to it.
-#[derive(Drop)]
+#[derive(Clone, Copy)]
 pub struct Walked {
     pub value: [u8; 16],
     pub steps: u32,

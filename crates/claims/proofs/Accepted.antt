@@ -33,7 +33,7 @@ use Rattle.claims.proofs.LeafLaws.{leaf_inside, Free, CabinetOf}
 use Rattle.claims.proofs.Made.{number_of, Made, made-below, made-read}
 
 -- a profile that passes its checks, and a work slice that is long enough
-table_none : (p : Profile) (words : ℕ) → first_cause (profile_causes p) ≡ 0 → table_length p.shape ≤ words → first_cause (table_causes p words) ≡ 0
+pub table_none : (p : Profile) (words : ℕ) → first_cause (profile_causes p) ≡ 0 → table_length p.shape ≤ words → first_cause (table_causes p words) ≡ 0
 unfolding table_causes
 table_none p words none long =
     none_then (profile_causes p) ((ltb words (table_length p.shape), 5) ∷ []) none (profile-numbered p)

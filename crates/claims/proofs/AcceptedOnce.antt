@@ -24,7 +24,7 @@ use Rattle.claims.proofs.Judged.{before-numbered}
 use Rattle.claims.proofs.LeafLaws.{Free, free-before}
 
 -- none of the causes before the root holds, 14 among them
-accepted-free : (v : Verifier) (call : VerifyingCall) → verify_code v call ≡ 0 → Free v (leaf_in call.signature)
+pub accepted-free : (v : Verifier) (call : VerifyingCall) → verify_code v call ≡ 0 → Free v (leaf_in call.signature)
 unfolding verify_code causes_before_root
 accepted-free v call e =
     let message = call.message in

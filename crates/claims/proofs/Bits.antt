@@ -18,7 +18,7 @@ use Rattle.counts.specs.Table.{table_causes}
 use Rattle.counts.proofs.Answer.{count-some}
 use Rattle.counts.proofs.Room.{table-numbered}
 use Rattle.message.specs.Message.{count_too_small}
-use Rattle.message.proofs.NumberLaws.{bits-few, bits-held, bits-largest, number-of-bits, number-below-count, number-of_16_bytes}
+use Rattle.message.proofs.NumberLaws.{bits-few, bits-held, bits-largest, number-of-bits, number-below-count, number_of_16_bytes}
 use Rattle.signer.specs.Operations.{SigningCall, sign_causes, sign_code}
 use Rattle.signing_key.specs.declared.SigningKey.{SigningKey}
 use Rattle.verifier.specs.Verifying.{root_in, same_bytes}
@@ -34,11 +34,11 @@ numbers_fit =
     record {
       bits = number-of-bits;
       below = λ p leaf r seed root message limits. number-below-count p leaf r seed root message (count-some p.shape limits);
-      earlier = number-of_16_bytes;
+      earlier = number_of_16_bytes;
     }
 
 -- the causes of the table are 1 to 5, and 22
-table-without : (k : ℕ) (p : Profile) (words : ℕ) → 5 < k → k < 22 → Without k (table_causes p words)
+pub table-without : (k : ℕ) (p : Profile) (words : ℕ) → 5 < k → k < 22 → Without k (table_causes p words)
 unfolding table_causes
 table-without k p words low high = without-append k (profile_causes p) _ (profile-without p k (omega arith) high) (smaller_number 5 k low, tt)
 
@@ -70,24 +70,24 @@ module _ (key : SigningKey) (call : SigningCall) where
   sign_seven = never_seven key.profile (length call.work) (sign-own ++ ((count_too_small (count key.profile.shape), 19) ∷ []))
       (refl, (refl, (refl, (refl, tt))))
 
-  sign-nineteen : (sign_code key call ≡ 19) ↔ ((first_cause (sign-first ++ sign-own) ≡ 0) × (count key.profile.shape < 256))
+  sign_nineteen : (sign_code key call ≡ 19) ↔ ((first_cause (sign-first ++ sign-own) ≡ 0) × (count key.profile.shape < 256))
   unfolding sign_code
-  sign-nineteen =
+  sign_nineteen =
       nineteen sign-first sign-own [] (count key.profile.shape)
       (without-append 0 sign-first sign-own (table-numbered key.profile (length call.work)) (refl, (refl, (refl, tt))))
       (without-append 19 sign-first sign-own (table-without 19 key.profile (length call.work) (lit< tt) (lit< tt)) (refl, (refl, (refl, tt)))) tt
 
 module _ (v : Verifier) (call : VerifyingCall) where
-  abbrev verify_first : List (Bool × ℕ)
+  abbrev pub verify_first : List (Bool × ℕ)
   verify_first = table_causes v.profile (length call.work)
 
-  abbrev verify_own : List (Bool × ℕ)
+  abbrev pub verify_own : List (Bool × ℕ)
   verify_own = verify_causes v (length call.message) call.signature
 
-  abbrev verify_last : List (Bool × ℕ)
+  abbrev pub verify_last : List (Bool × ℕ)
   verify_last = (not (same_bytes (root_in v call.message call.signature) v.root), 15) ∷ []
 
-  verify_causes_lem : verify_code v call ≡ first_cause (verify_first ++ (verify_own ++ ((count_too_small (count v.profile.shape), 19) ∷ verify_last)))
+  pub verify_causes_lem : verify_code v call ≡ first_cause (verify_first ++ (verify_own ++ ((count_too_small (count v.profile.shape), 19) ∷ verify_last)))
   unfolding verify_code causes_before_root
   verify_causes_lem = ap first_cause (append_assoc verify_first (verify_own ++ ((count_too_small (count v.profile.shape), 19) ∷ [])) verify_last)
 
@@ -105,4 +105,4 @@ module _ (v : Verifier) (call : VerifyingCall) where
       (refl, tt))
 
 pub small-counts : SmallCounts
-small-counts = record { sign_seven = sign_seven; verify_seven = verify_seven; sign-nineteen = sign-nineteen; verify_nineteen = verify_nineteen }
+small-counts = record { sign_seven = sign_seven; verify_seven = verify_seven; sign_nineteen = sign_nineteen; verify_nineteen = verify_nineteen }

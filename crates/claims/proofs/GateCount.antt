@@ -27,6 +27,6 @@ gate-counted =
       counted = counted;
       large = large;
       bits = le_antisymm (bits-few (count gate_shape)) (bits-largest (count gate_shape) 128 (le_refl _) large);
-      sign-never-nineteen = λ key call edition e nineteen. not_small key.profile edition e ((small-counts.sign-nineteen key call).0 nineteen).1;
-      verify_never-nineteen = λ v call edition e nineteen. not_small v.profile edition e ((small-counts.verify_nineteen v call).0 nineteen).1;
+      sign_never_nineteen = λ key call edition e nineteen. not_small key.profile edition e ((small-counts.sign_nineteen key call).0 nineteen).1;
+      verify_never_nineteen = λ v call edition e nineteen. not_small v.profile edition e ((small-counts.verify_nineteen v call).0 nineteen).1;
     }

@@ -37,7 +37,7 @@ module _ (p : Profile) (seed secret : List ℕ) where
   all-accepted (next work ∷ checks) v [] of made free follow = all-accepted checks v [] of made free follow
   all-accepted (next work ∷ checks) v (one ∷ all) of made free follow = λ premise.
       let leaf = leaf_of one in
-      let ok = made-accepted p seed secret leaf one made.0 v of work free.0 (premise.0.long-enough refl) in
+      let ok = made-accepted p seed secret leaf one made.0 v of work free.0 (premise.0.long_enough refl) in
       let still =
       each_with (λ later. Free v (leaf_of later)) (Follows one) (λ later. Free (with_accepted v leaf) (leaf_of later))
       (λ later none follows. free-after v leaf (leaf_of later) free.0 none follows.0 follows.1) all free.1 follow.0 in

@@ -3,13 +3,16 @@ pub mod Accepted
 pub mod AcceptedOnce
 pub mod Bits
 pub mod GateCount
+pub mod History
 pub mod InOrder
+pub mod Issuing
 pub mod Judged
 pub mod Largest
 pub mod LeafLaws
 pub mod Made
 pub mod OrdersProved
 pub mod PowerCuts
+pub mod RoundIssues
 pub mod Rounds
 pub mod Sheets
 pub mod Source

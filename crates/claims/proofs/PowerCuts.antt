@@ -229,7 +229,7 @@ module _ (p : Profile) (seed secret : List ℕ) (seed_bytes : SeedBytes seed) (s
       where
         by : (g : Bool) → granted d.key c ≡ g → (m : ℕ) × Rises leaf_of (MadeOwn p seed secret) n (issued_by d.key c.call) m × DeskFrom (after_sign d c) m
         by true e =
-            let Stored-past = at.past (turn (eqb-true _ 0 e)) in
+            let stored_past = at.past (turn (eqb-true _ 0 e)) in
             rw e (
               counter.next,
               sign-granted d.key c p seed secret n at.from e,
@@ -238,7 +238,7 @@ module _ (p : Profile) (seed secret : List ℕ) (seed_bytes : SeedBytes seed) (s
                 in_tree = at.in_tree;
                 old = at.old;
                 is = at.is;
-                reached = Stored-past;
+                reached = stored_past;
                 below = at.below;
                 storing = at.storing;
                 past = at.past;

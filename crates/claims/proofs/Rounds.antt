@@ -33,7 +33,7 @@ both-made ended = refl
 
 module _ (p : Profile) (seed secret : List ℕ) (seed_bytes : SeedBytes seed) (secret_bytes : SeedBytes secret) (passed : first_cause (profile_causes p) ≡ 0) where
   -- a desk between two rounds: no store is in progress
-  abbrev Between : Desk → ℕ → Type 0
+  abbrev pub Between : Desk → ℕ → Type 0
   Between d n = DeskFrom p seed secret seed_bytes secret_bytes passed d n × (d.storing ≡ nothing)
 
   module _ (d : Desk) (n : ℕ) (at : DeskFrom p seed secret seed_bytes secret_bytes passed d n) where
@@ -51,9 +51,9 @@ module _ (p : Profile) (seed secret : List ℕ) (seed_bytes : SeedBytes seed) (s
 
     -- the store of the key in memory, whole
     stored-whole : (slice : List ℕ) → 89 ≤ length slice → d.storing ≡ nothing
-        → ((desk_after (desk_after d (store_begins slice)) store_ends).progress ≡ ended) × ((desk_after (desk_after d (store_begins slice)) store_ends).storing ≡ nothing)
+        → let after = desk_after (desk_after d (store_begins slice)) store_ends in (after.progress ≡ ended) × (after.storing ≡ nothing) × (after.key ≡ d.key)
     unfolding desk_after after_begin after_end
-    stored-whole slice room e = rw (e, written slice room) (both-made d.progress, refl)
+    stored-whole slice room e = rw (e, written slice room) (both-made d.progress, refl, refl)
 
   -- a desk stays one of this key by every step in turn
   after : (d : Desk) (n : ℕ) → DeskFrom p seed secret seed_bytes secret_bytes passed d n → (step : Step) → InTurn d step
@@ -83,7 +83,7 @@ module _ (p : Profile) (seed secret : List ℕ) (seed_bytes : SeedBytes seed) (s
     unfolding InTurn
     three = after storing two.0 two.1 store_ends tt
 
-    whole : (stored.progress ≡ ended) × (stored.storing ≡ nothing)
+    pub whole : (stored.progress ≡ ended) × (stored.storing ≡ nothing) × (stored.key ≡ reserved.key)
     unfolding desk_after after_reserve
     whole = stored-whole reserved one.0 one.1 slice room at.1
 
@@ -92,7 +92,7 @@ module _ (p : Profile) (seed secret : List ℕ) (seed_bytes : SeedBytes seed) (s
     turn = λ granted. whole.0
 
     -- all of it, and what follows
-    round_whole : (rest : List Step) → ((d : Desk) (m : ℕ) → Between d m → StoredFirst d rest) → StoredFirst d (round_of slice c ++ rest)
+    pub round_whole : (rest : List Step) → ((d : Desk) (m : ℕ) → Between d m → StoredFirst d rest) → StoredFirst d (round_of slice c ++ rest)
     unfolding Along InTurn desk_after after_sign
     round_whole rest then =
         let four = after stored three.0 three.1 (sign c) turn in

@@ -37,14 +37,14 @@ right-read p signature text r whole passed carried enough room =
     record {
       granted = reads.code ∙ code;
       no_line = reads.line ∙ rw code;
-      text-length = reads.text-length ∙ rw (code, is_read);
-      signature-read = reads.signature-written ∙ rw (code, is_read, ← carried.whole);
-      text-read = reads.text-written ∙ rw (code, is_read);
+      text_length = reads.text_length ∙ rw (code, is_read);
+      signature_read = reads.signature_written ∙ rw (code, is_read, ← carried.whole);
+      text_read = reads.text_written ∙ rw (code, is_read);
     }
 
 pub written-is-read : WrittenSheetIsRead
 unfolding write_sheet_code
-written-is-read p w signature-bytes text-bytes granted r same enough room =
+written-is-read p w signature_bytes text_bytes granted r same enough room =
     let signature = w.signature in
     let text = w.text in
     let whole = sheet_of p signature text in
@@ -57,11 +57,11 @@ written-is-read p w signature-bytes text-bytes granted r same enough room =
     rw (w.writes.written, none, long) (take_at whole (drop (length whole) w.slice) (length whole) refl) in
     right-read p signature text r (same ∙ front) fit.passed
     (record {
-      signature-bytes = signature-bytes;
-      text-bytes = text-bytes;
+      signature_bytes = signature_bytes;
+      text_bytes = text_bytes;
       whole = fit.whole;
-      some-text = fit.some-text;
-      short-text = fit.short-text;
+      some_text = fit.some_text;
+      short_text = fit.short_text;
     })
     enough room
 
@@ -71,7 +71,7 @@ right-written : (p : Profile) (signature text : List ℕ) (w : SheetWriting p) �
     → Gives (sheet_of p signature text) w
 right-written p signature text w own-signature own-text passed carried room =
     let none =
-    fit_carried p signature text (record { passed = passed; some-text = carried.some-text; short-text = carried.short-text; whole = carried.whole }) in
+    fit_carried p signature text (record { passed = passed; some_text = carried.some_text; short_text = carried.short_text; whole = carried.whole }) in
     let code = room-granted p signature text w.slice none room in
     let writes : WritesSheet p signature text w.slice w.slice' w.made = rw (own-signature, own-text) at w.writes in
     record { granted = writes.code ∙ code; bytes = writes.bytes ∙ rw code; written = writes.written ∙ rw code }
@@ -95,9 +95,9 @@ read-is-written p r granted w own-signature own-text room = by (read_sheet p r.s
         let right = (exact p (profile-limits p both.0) r.sheet signature text).0 q in
         let carried = right.0 in
         let front : take (signature_length p) r.signature_slice' ≡ signature =
-        rw (reads.signature-written, none, q) (take_at signature (drop (signature_length p) r.signature_slice) (signature_length p) carried.whole) in
-        let long : r.found.length ≡ length text = reads.text-length ∙ rw (none, q) in
+        rw (reads.signature_written, none, q) (take_at signature (drop (signature_length p) r.signature_slice) (signature_length p) carried.whole) in
+        let long : r.found.length ≡ length text = reads.text_length ∙ rw (none, q) in
         let words : take r.found.length r.text_slice' ≡ text =
-        rw (reads.text-written, none, q, long) (take_at text (drop (length text) r.text_slice) (length text) refl) in
+        rw (reads.text_written, none, q, long) (take_at text (drop (length text) r.text_slice) (length text) refl) in
         rw right.1
         (right-written p signature text w (own-signature ∙ front) (own-text ∙ words) both.0 carried (omega (arith, room, ap length right.1)))

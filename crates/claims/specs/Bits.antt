@@ -37,7 +37,7 @@ pub record SmallCounts : Type 0 where
   pub sign_seven : (key : SigningKey) (call : SigningCall) → sign_code key call ≡ 7 → ⊥
   pub verify_seven : (v : Verifier) (call : VerifyingCall) → verify_code v call ≡ 7 → ⊥
   -- "19 when the count is below 256": where no cause before it holds, exactly then
-  pub sign-nineteen : (key : SigningKey) (call : SigningCall)
+  pub sign_nineteen : (key : SigningKey) (call : SigningCall)
       → (sign_code key call ≡ 19)
       ↔ ((first_cause (table_causes key.profile (length call.work) ++ sign_causes key (length call.message) (length call.out)) ≡ 0)
       × (count key.profile.shape < 256))

@@ -32,5 +32,5 @@ pub record GateCount : Type 0 where
   pub large : 2 ^ 128 ≤ count gate_shape
   pub bits : number_bits (count gate_shape) ≡ 128
   -- of Sign and Check, in either edition and whatever else they are handed
-  pub sign-never-nineteen : (key : SigningKey) (call : SigningCall) (edition : ℕ) → key.profile ≡ gate edition → sign_code key call ≡ 19 → ⊥
-  pub verify_never-nineteen : (v : Verifier) (call : VerifyingCall) (edition : ℕ) → v.profile ≡ gate edition → verify_code v call ≡ 19 → ⊥
+  pub sign_never_nineteen : (key : SigningKey) (call : SigningCall) (edition : ℕ) → key.profile ≡ gate edition → sign_code key call ≡ 19 → ⊥
+  pub verify_never_nineteen : (v : Verifier) (call : VerifyingCall) (edition : ℕ) → v.profile ≡ gate edition → verify_code v call ≡ 19 → ⊥

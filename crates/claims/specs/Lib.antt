@@ -2,11 +2,14 @@
 -- statement, held by a
 -- function of src/, which holds those of the crates below too.
 pub mod Arrivals
+pub mod Arrived
 pub mod Bits
 pub mod Demand3
 pub mod Editions
 pub mod Gate
 pub mod Hashing
+pub mod History
+pub mod Issuing
 pub mod Judged
 pub mod Largest
 pub mod OneTime

@@ -46,6 +46,11 @@ unfoldable pub given_along : {State Call Item : Type 0} → (after : State → C
 given_along after gives s [] = []
 given_along after gives s (c ∷ calls) = gives s c ++ given_along after gives (after s c) calls
 
+-- the state that the last call of a list hands back, or the first state where there is no call
+unfoldable pub state_along : {State Call : Type 0} → (after : State → Call → State) → State → List Call → State
+state_along after s [] = s
+state_along after s (c ∷ calls) = state_along after (after s c) calls
+
 -- each call of a list is as `allowed` says, the first at a state and each other at the state that the one before handed back
 unfoldable pub Along : {State Call : Type 0} → (after : State → Call → State) (allowed : State → Call → Type 0) → State → List Call → Type 0
 Along after allowed s [] = Unit {0}
@@ -112,7 +117,7 @@ Every P (x ∷ xs) = P x × Every P xs
 -- "with long enough work slices", where "A work slice is long enough when 5 doesn't refuse it"; every other check is one of the "Refused
 -- checks in between"
 pub record CheckPremise (shape : Shape) (c : Checked) : Type 0 where
-  pub long-enough : c.own ≡ true → table_length shape ≤ length c.call.work
+  pub long_enough : c.own ≡ true → table_length shape ≤ length c.call.work
   pub refused : c.own ≡ false → verify_code c.cabinet c.call ≡ 0 → ⊥
 
 -- of a check of one of the signatures: "all of them are accepted. Each of these checks reports l × (w − 1) − s chain steps"

@@ -36,9 +36,9 @@ pub record SheetReading (p : Profile) : Type 0 where
 pub record Yields {p : Profile} (signature text : List ℕ) (r : SheetReading p) : Type 0 where
   pub granted : outcome_code r.found.outcome ≡ 0
   pub no_line : r.found.line ≡ 0
-  pub text-length : r.found.length ≡ length text
-  pub signature-read : r.signature_slice' ≡ signature ++ drop (length signature) r.signature_slice
-  pub text-read : r.text_slice' ≡ text ++ drop (length text) r.text_slice
+  pub text_length : r.found.length ≡ length text
+  pub signature_read : r.signature_slice' ≡ signature ++ drop (length signature) r.signature_slice
+  pub text_read : r.text_slice' ≡ text ++ drop (length text) r.text_slice
 
 -- "Reading a written sheet yields the same signature and text": the bytes that Write sheet wrote, read into slices that are long enough
 abbrev pub WrittenSheetIsRead : Type 0

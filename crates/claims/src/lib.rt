@@ -2,7 +2,7 @@
 // proved only with
 // the claim as it is stated, in specs/ here or of the crate that has the definitions.
 #![tactic(auto)]
-ghost use Rattle.numbers.specs.Order.{HighestDecides};
+ghost use Rattle.numbers.specs.Order.{HighestDecides, WalkEnds};
 ghost use Rattle.sha256_block.specs.Constants.{RootWords};
 ghost use Rattle.sha256.specs.Running.{RunningHash};
 ghost use Rattle.counts.specs.Counts.{CountsFit};
@@ -11,11 +11,14 @@ ghost use Rattle.listing.specs.Listing.{FirstEleven, Example};
 ghost use Rattle.sheet_reader.specs.Sheet.{Exact, ProfileLine};
 ghost use Rattle.stored_key.specs.RoundTrip.{WrittenKeyIsRead, ReadKeyIsWritten};
 ghost use Rattle.claims.specs.Arrivals.{NoLeafAcceptedTwice, ArrivalsAccepted};
+ghost use Rattle.claims.specs.Arrived.{ArrivedAccepted};
 ghost use Rattle.claims.specs.Bits.{LargestBits, NumbersFit, SmallCounts};
 ghost use Rattle.claims.specs.Demand3.{Demand3};
 ghost use Rattle.claims.specs.Editions.{JudgedByEdition, EditionsShare};
 ghost use Rattle.claims.specs.Gate.{GateFigures, GateCount};
 ghost use Rattle.claims.specs.Hashing.{AbcDigest};
+ghost use Rattle.claims.specs.History.{WindowHistory};
+ghost use Rattle.claims.specs.Issuing.{OrdersIssued, NoMoreThanLeaves, RoundsIssue};
 ghost use Rattle.claims.specs.Judged.{JudgedByRoot};
 ghost use Rattle.claims.specs.Largest.{LargestCode};
 ghost use Rattle.claims.specs.OneTime.{RecoversRevealed, ClimbsToRoot};
@@ -49,6 +52,10 @@ pub fn counts_fit()
 // Numbers compared.
 pub fn highest_word_decides()
     ensures { HighestDecides }
+{}
+
+pub fn walk_ends()
+    ensures { WalkEnds }
 {}
 
 // Bits by the count.
@@ -95,8 +102,16 @@ pub fn no_leaf_accepted_twice()
     ensures { NoLeafAcceptedTwice }
 {}
 
+pub fn window_history()
+    ensures { WindowHistory }
+{}
+
 pub fn arrivals_accepted()
     ensures { ArrivalsAccepted }
+{}
+
+pub fn arrived_accepted()
+    ensures { ArrivedAccepted }
 {}
 
 // Reserve, then sign.
@@ -106,6 +121,18 @@ pub fn power_cuts()
 
 pub fn rounds_in_turn()
     ensures { RoundsInTurn }
+{}
+
+pub fn orders_issued()
+    ensures { OrdersIssued }
+{}
+
+pub fn no_more_than_leaves()
+    ensures { NoMoreThanLeaves }
+{}
+
+pub fn rounds_issue()
+    ensures { RoundsIssue }
 {}
 
 pub fn written_key_is_read()

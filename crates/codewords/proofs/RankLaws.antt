@@ -16,7 +16,7 @@ use Rattle.refusal.specs.declared.Outcome.{Outcome}
 use Rattle.refusal.specs.declared.Outcome.TheVariants.{Granted, Refused}
 use Rattle.refusal.proofs.Causes.{Avoids, none_here, refused-number, code-kept}
 use Rattle.numbers.specs.Number.{value, to_words}
-use Rattle.numbers.proofs.NumberLaws.{value-to_words_5}
+use Rattle.numbers.proofs.NumberLaws.{value_to_words_5}
 use Rattle.profile.specs.declared.Shape.{Shape}
 use Rattle.counts.specs.Counts.{sum_to, share, D}
 use Rattle.counts.specs.Table.{rows, with_table, leaves_table, table_after}
@@ -95,7 +95,7 @@ module _ (number : List ℕ) (f : ℕ → ℕ) {j digit : ℕ} (more : j < digit
   unfolding sum_to
   sum-next =
       let below : value number + sum_to f j ≤ value number + sum_to f digit = omega (arith, sum_to_mono f j digit (omega arith)) in
-      let before : value n ≡ value number + sum_to f j = ap value so_far ∙ value-to_words_5 _ (lt_of_le_of_lt below small) in
+      let before : value n ≡ value number + sum_to f j = ap value so_far ∙ value_to_words_5 _ (lt_of_le_of_lt below small) in
       rw add-one (omega arith)
 
   pub skip_fits : value n + value share < 2 ^ 160
@@ -146,7 +146,7 @@ module _ {w s : ℕ} {row : List ℕ} (limits : (1 ≤ w) × (w ≤ 16) × (leng
         rw (drop-cons row place 0 more, others)
 
     value_so_far : value n ≡ rank w s row - rank w left (drop place row)
-    value_so_far = rw l.number (value-to_words_5 _ (lt_of_le_of_lt (omega arith) rank-small))
+    value_so_far = rw l.number (value_to_words_5 _ (lt_of_le_of_lt (omega arith) rank-small))
 
     pub number-words : n ≡ to_words 5 (value n)
     number-words = l.number ∙ ap (to_words 5) (sym value_so_far)
@@ -162,7 +162,7 @@ module _ {w s : ℕ} {row : List ℕ} (limits : (1 ≤ w) × (w ≤ 16) × (leng
           let low : j ≤ left = omega (arith, digit-within) in
           let at : i * (s + 1) + left - j ≡ i * (s + 1) + (left - j) = omega arith in
           let cell = cell_of w s (length row + 1) i (left - j) table holds (omega arith) (omega (arith, l.most)) in
-          rw (at, cell, value-to_words_5 (D w i (left - j)) (D-small w i (left - j) limits.0 limits.1 (omega arith))) (sym (share-low (D w i) left j low)))
+          rw (at, cell, value_to_words_5 (D w i (left - j)) (D-small w i (left - j) limits.0 limits.1 (omega arith))) (sym (share-low (D w i) left j low)))
 
       pub skipped-small : value n + sum_to (down_from table ((length row - 1 - place) * (s + 1) + left)) (get_or row place 0) < 2 ^ 160
       skipped-small = rw (skipped_at, value_so_far) (lt_of_le_of_lt (omega (arith, rank_split, l.passed)) rank-small)

@@ -12,7 +12,7 @@ use lib.Dec.{ltb}
 use lib.ListN.{length, take, set}
 use lib.Seq.{take-suc-set}
 use Rattle.numbers.specs.Number.{value, to_words}
-use Rattle.numbers.proofs.NumberLaws.{value-to_words_5}
+use Rattle.numbers.proofs.NumberLaws.{value_to_words_5}
 use Rattle.lists.proofs.Numbers.{lt_or_le}
 use Rattle.counts.specs.Counts.{sum_to, share, D}
 use Rattle.counts.proofs.CountLaws.{sum_to_mono, share-low, share-high, D-small}
@@ -67,7 +67,7 @@ module _ (w i t n j m : ℕ) (e : place (share (D w i) t) w 0 n ≡ record { dig
 -- a number of the table that is read, compared and taken off
 module _ (w i t j : ℕ) (one : 1 ≤ w) (narrow : w ≤ 16) (few : i ≤ 40) (within : j ≤ t) (n s : List ℕ) (p : s ≡ to_words 5 (D w i (t - j))) where
   share-is : value s ≡ share (D w i) t j
-  share-is = ap value p ∙ value-to_words_5 (D w i (t - j)) (D-small w i (t - j) one narrow few) ∙ sym (share-low (D w i) t j within)
+  share-is = ap value p ∙ value_to_words_5 (D w i (t - j)) (D-small w i (t - j) one narrow few) ∙ sym (share-low (D w i) t j within)
 
   pub holds : ltb (value n) (value s) ≡ true → value n < share (D w i) t j
   holds e = rw share-is at (ltb-true (value n) (value s) e)
@@ -77,4 +77,4 @@ module _ (w i t j : ℕ) (one : 1 ≤ w) (narrow : w ≤ 16) (few : i ≤ 40) (w
 
   pub taken_off : (r : List ℕ) → value n < 2 ^ 160 → r ≡ to_words 5 (value n - value s) → value r ≡ value n - share (D w i) t j
   taken_off r small e =
-      ap value e ∙ value-to_words_5 (value n - value s) (lt_of_le_of_lt (sub-le (value n) (value s)) small) ∙ ap (λ k. value n - k) share-is
+      ap value e ∙ value_to_words_5 (value n - value s) (lt_of_le_of_lt (sub-le (value n) (value s)) small) ∙ ap (λ k. value n - k) share-is

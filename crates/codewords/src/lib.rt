@@ -1,5 +1,6 @@
 // Codewords and their numbers: Spread and Gather.
 #![tactic(auto)]
+
 pub mod ranking;
 pub mod unranking;
 

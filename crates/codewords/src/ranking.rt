@@ -14,7 +14,7 @@ use profile::Shape;
 use refusal::{Outcome, Refusal};
 
 // What Gather answers. Refused, the number is zero.
-#[derive(Drop)]
+#[derive(Clone, Copy)]
 pub struct Ranked {
     pub outcome: Outcome,
     pub number: [u32; 5],

@@ -10,7 +10,7 @@ use Rattle.refusal.specs.Code.{outcome_code, first_cause}
 use Rattle.refusal.specs.declared.Outcome.{Outcome}
 use Rattle.refusal.proofs.Causes.{Avoids, kind_then}
 use Rattle.numbers.specs.Number.{value, to_words}
-use Rattle.numbers.proofs.NumberLaws.{value-to_words_5}
+use Rattle.numbers.proofs.NumberLaws.{value_to_words_5}
 use Rattle.profile.specs.Checks.{InLimits}
 use Rattle.profile.specs.declared.Shape.{Shape}
 use Rattle.counts.specs.Counts.{count, CountsFit}
@@ -32,7 +32,7 @@ last_cell shape more = cell_row shape.width shape.sum (shape.chains + 1) shape.c
 module _ (shape : Shape) (limits : InLimits shape) where
   count-below : count shape < 2 ^ 160
   unfolding count
-  count-below = D-small shape.width shape.chains shape.sum (omega (arith, limits.wide)) limits.narrow limits.few-chains
+  count-below = D-small shape.width shape.chains shape.sum (omega (arith, limits.wide)) limits.narrow limits.few_chains
 
   -- some row has the sum
   pub count-some : 0 < count shape
@@ -40,7 +40,7 @@ module _ (shape : Shape) (limits : InLimits shape) where
   count-some = D-some shape.width shape.chains shape.sum (omega (arith, limits.wide)) limits.reached
 
   pub count-value : {n : List ℕ} → n ≡ to_words 5 (count shape) → value n ≡ count shape
-  count-value e = ap value e ∙ value-to_words_5 (count shape) count-below
+  count-value e = ap value e ∙ value_to_words_5 (count shape) count-below
 
 pub counts_fit : CountsFit
 counts_fit = record { below = count-below }

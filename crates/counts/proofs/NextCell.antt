@@ -6,7 +6,7 @@ use native.Mathlib.Nat.{suc-mul, mul-le-mul}
 use native.Mathlib.Omega.{arith}
 use lib.ListN.{take, drop}
 use Rattle.numbers.specs.Number.{value}
-use Rattle.numbers.proofs.NumberLaws.{value-to_words_5}
+use Rattle.numbers.proofs.NumberLaws.{value_to_words_5}
 use Rattle.counts.specs.Counts.{share, D}
 use Rattle.counts.specs.Table.{rows}
 use Rattle.counts.proofs.CountLaws.{share-low, share-high, D-window, D-small, D-sum-small}
@@ -29,7 +29,7 @@ module _ (w i t : ℕ) (one : 1 ≤ w) (narrow : w ≤ 16) (some : 0 < i) (few :
   pub above : (s u : ℕ) (table : List ℕ) → take (5 * (i * (s + 1))) table ≡ rows w s i → u ≤ s
       → value (take 5 (drop (5 * ((i - 1) * (s + 1) + u)) table)) ≡ D w (i - 1) u
   above s u table e h =
-      ap value (cell_of w s i (i - 1) u table e (omega arith) (omega arith)) ∙ value-to_words_5 (D w (i - 1) u) (D-small w (i - 1) u one narrow (omega arith))
+      ap value (cell_of w s i (i - 1) u table e (omega arith) (omega arith)) ∙ value_to_words_5 (D w (i - 1) u) (D-small w (i - 1) u one narrow (omega arith))
 
   slides : D w i t + share (D w (i - 1)) t w ≡ share (D w i) t 1 + D w (i - 1) t
   slides = rw (← lower) at (D-window w (i - 1) t one)

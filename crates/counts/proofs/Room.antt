@@ -95,4 +95,4 @@ module _ (p : Profile) (words : ℕ) where
 
 -- the table of a shape within its limits is small
 pub table-small : (shape : Shape) → InLimits shape → (shape.chains + 1) * (shape.sum + 1) ≤ 24641
-table-small shape h = row_small (shape.chains + 1) shape.sum (omega (arith, h.few-chains)) (sum-small shape h)
+table-small shape h = row_small (shape.chains + 1) shape.sum (omega (arith, h.few_chains)) (sum-small shape h)

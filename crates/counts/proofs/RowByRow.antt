@@ -28,7 +28,7 @@ row_to w s (suc i) = let row = row_to w s i in windows 0 row (zeros w ++ row)
 length-windows : (sum : ℕ) (entering leaving : List ℕ) → length (windows sum entering leaving) ≡ length entering
 unfolding windows
 length-windows sum [] leaving = refl
-length-windows sum (x ∷ entering) leaving = ap suc (length-windows _ entering (drop 1 leaving))
+length-windows sum (x ∷ entering) leaving = ap suc (length-windows (sum + x - get_or leaving 0 0) entering (drop 1 leaving))
 
 -- the next number of row suc i, from the one before it, the number that enters and the one that leaves
 next-window : (w i k x y : ℕ) → 1 ≤ w → x ≡ D w i (k + 0) → y ≡ share (D w i) (k + 0) w → share (D w (suc i)) k 1 + x - y ≡ D w (suc i) k

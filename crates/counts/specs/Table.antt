@@ -1,5 +1,5 @@
 -- Document 01, Counts and rows: the table in the work slice.
-use Rattle.std.specs.Prelude.{◌≡◌, Bool, ◌||◌, cond, List, [], ◌∷◌, ◌++◌, ℕ, zero, suc, ◌+◌, ◌*◌, ltb, eqb, length, take, drop}
+use Rattle.std.specs.Prelude.{◌≡◌, Bool, ◌||◌, cond, List, [], ◌∷◌, ◌++◌, ℕ, zero, suc, ◌+◌, ◌*◌, ltb, eqb, take, drop}
 use Rattle.numbers.specs.Number.{to_words}
 use Rattle.profile.specs.Checks.{profile_causes}
 use Rattle.profile.specs.declared.Shape.{Shape}

@@ -1,5 +1,6 @@
 // How many codewords a shape has, with the table of all counts that lead there.
 #![tactic(auto)]
+
 pub mod cells;
 pub mod table;
 

@@ -15,7 +15,7 @@ use profile::{Profile, Shape, check_profile, check_shape};
 use refusal::{Outcome, Refusal};
 
 // What Count answers. Refused, the count is zero.
-#[derive(Drop)]
+#[derive(Clone, Copy)]
 pub struct Counted {
     pub outcome: Outcome,
     pub count: [u32; 5],

@@ -1,4 +1,3 @@
 -- The laws of places and of the frame parser.
 pub mod ParserLaws
 pub mod PlaceLaws
-pub mod ReaderLaws

@@ -10,14 +10,14 @@ use hex_lines::{Digits, byte_at};
 use profile::Profile;
 
 // How many bytes a line has.
-#[derive(Drop)]
+#[derive(Clone, Copy)]
 pub enum Found {
     Wrong,
     Bytes(usize),
 }
 
 // What a frame's line is found to be: wrong, or the index behind it.
-#[derive(Drop)]
+#[derive(Clone, Copy)]
 pub enum Step {
     Wrong,
     Next(usize),

@@ -1,5 +1,6 @@
 // The reader: the sheet frame after frame, each call picking up behind the last.
 #![tactic(auto)]
+
 ghost use Rattle.std.specs.Prelude.{◌≡◌, suc};
 ghost use Rattle.frames.specs.Frames.{SizesInLimits, frame_at};
 ghost use Rattle.frame_reader.specs.Places.{place_after, place_at};
@@ -12,7 +13,7 @@ use places::take_frame;
 use profile::Profile;
 
 // Where the reader stands: at the index where the next line begins, with its number, or at the first line that is not right.
-#[derive(Drop)]
+#[derive(Clone, Copy)]
 pub struct Place {
     pub at: usize,
     pub line: usize,
@@ -20,7 +21,7 @@ pub struct Place {
 }
 
 // A sheet, and where in it the next call picks up.
-#[derive(Drop)]
+#[derive(Clone, Copy)]
 struct Reader<'a> {
     sheet: &'a [u8],
     place: Place,
@@ -41,7 +42,7 @@ impl<'a> Reader<'a> {
 }
 
 // Where a reader stood before the text's frame, and where it stands behind it.
-#[derive(Drop)]
+#[derive(Clone, Copy)]
 pub struct Passed {
     pub text: Place,
     pub end: Place,

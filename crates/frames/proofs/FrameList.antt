@@ -70,7 +70,7 @@ module _ (p : Profile) where
   pub profile-below : SizesInLimits p → Below 256 (profile_frame p).head
   unfolding profile_frame
   profile-below h zero = lit< tt
-  profile-below h (suc zero) = omega (arith, h.0.few-chains)
+  profile-below h (suc zero) = omega (arith, h.0.few_chains)
   profile-below h (suc (suc zero)) = omega (arith, h.0.narrow)
   profile-below h (suc (suc (suc zero))) = omega (arith, h.1)
   profile-below h (suc (suc (suc (suc i)))) = below-append 256 (to_bytes 2 p.shape.sum) (edition_byte p.edition) (to_bytes_lt 2 p.shape.sum)
@@ -81,7 +81,7 @@ module _ (p : Profile) where
   frames-bytes h =
       let head : (kind i : ℕ) → kind < 256 → i < 256 → Below 256 (kind ∷ i ∷ []) =
       λ kind i small few. below_cons 256 kind (i ∷ []) small (below_cons 256 i [] few (λ j. lit< tt)) in
-      let values = all-values (λ f. Below 256 f.head) (λ i low. head 4 i (lit< tt) (omega (arith, h.0.few-chains)))
+      let values = all-values (λ f. Below 256 f.head) (λ i low. head 4 i (lit< tt) (omega (arith, h.0.few_chains)))
       (λ i low. head 5 i (lit< tt) (omega (arith, h.1))) in
       (below-by_test 256 (71 ∷ 79 ∷ 49 ∷ []) tt, (profile-below h, (below-by_test 256 (2 ∷ []) tt, (below-by_test 256 (3 ∷ []) tt, values))))
 

@@ -50,7 +50,7 @@ module _ (p : Profile) where
       omega (arith, length-append (numbered 4 0 chains) (numbered 5 0 p.height), length-numbered 4 0 chains, length-numbered 5 0 p.height)
 
   pub frames-few : SizesInLimits p → length (frames p) ≤ 54
-  frames-few h = omega (arith, length-frames, h.0.few-chains, h.1)
+  frames-few h = omega (arith, length-frames, h.0.few_chains, h.1)
 
   -- behind the first four
   behind_four : (j : ℕ) → frame_at p (4 + j) ≡ get_or (numbered 4 0 chains ++ numbered 5 0 p.height) j text_frame

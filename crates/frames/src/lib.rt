@@ -1,6 +1,7 @@
 // The frames of a profile's sheet, numbered from 0: how many bytes each has, and its fixed ones. The reader and the writer
 // take them from here.
 #![tactic(auto)]
+
 ghost use Rattle.std.specs.Prelude.{◌≡◌, [], ◌∷◌, ◌++◌, ◌+◌, ◌≤◌, ◌<◌, length, get_or};
 ghost use Rattle.octets.specs.Bytes.{to_bytes};
 ghost use Rattle.frames.specs.Frames.{SizesInLimits, first_characters, edition_byte, frames, frame_at};
@@ -32,7 +33,7 @@ const FRONT_LINES: usize = 2 * (FIRST + KIND + LEAF + KIND + VALUE) + FRONT;
 const NUMBERED_LINE: usize = 2 * (NUMBERED + VALUE) + 1;
 
 // How many bytes a frame has: the fixed ones, and behind them at least and at most so many.
-#[derive(Drop)]
+#[derive(Clone, Copy)]
 pub struct Size {
     pub fixed: usize,
     pub low: usize,

@@ -22,13 +22,13 @@ module _ (chars : List ℕ) (at : ℕ) where
   unfolding byte_at
   byte_short h = rw (lt-ltb (length chars) (at + 2) h)
 
-  pub byte_first-wrong : at + 2 ≤ length chars → 16 ≤ digit_of (get_or chars at 0) → byte_at chars at ≡ Wrong
+  pub byte_first_wrong : at + 2 ≤ length chars → 16 ≤ digit_of (get_or chars at 0) → byte_at chars at ≡ Wrong
   unfolding byte_at byte_of
-  byte_first-wrong h k = rw (le-ltb (length chars) (at + 2) h, le-ltb (digit_of (get_or chars at 0)) 16 k)
+  byte_first_wrong h k = rw (le-ltb (length chars) (at + 2) h, le-ltb (digit_of (get_or chars at 0)) 16 k)
 
-  pub byte_second-wrong : at + 2 ≤ length chars → digit_of (get_or chars at 0) < 16 → 16 ≤ digit_of (get_or chars (at + 1) 0) → byte_at chars at ≡ Wrong
+  pub byte_second_wrong : at + 2 ≤ length chars → digit_of (get_or chars at 0) < 16 → 16 ≤ digit_of (get_or chars (at + 1) 0) → byte_at chars at ≡ Wrong
   unfolding byte_at byte_of
-  byte_second-wrong h k l =
+  byte_second_wrong h k l =
       rw (le-ltb (length chars) (at + 2) h, lt-ltb (digit_of (get_or chars at 0)) 16 k, le-ltb (digit_of (get_or chars (at + 1) 0)) 16 l)
 
   pub byte_right : at + 2 ≤ length chars → digit_of (get_or chars at 0) < 16 → digit_of (get_or chars (at + 1) 0) < 16
@@ -56,8 +56,8 @@ module _ (chars : List ℕ) (at : ℕ) where
       by : (t u v : Bool) → ltb (length chars) (at + 2) ≡ t → ltb (digit_of (get_or chars at 0)) 16 ≡ u → ltb (digit_of (get_or chars (at + 1) 0)) 16 ≡ v
           → read_line (drop at chars) ≡ behind b (read_line (drop (at + 2) chars))
       by true u v p q r = absurd (never (byte_short (ltb-true _ _ p)))
-      by false false v p q r = absurd (never (byte_first-wrong (ltb-false _ _ p) (ltb-false _ _ q)))
-      by false true false p q r = absurd (never (byte_second-wrong (ltb-false _ _ p) (ltb-true _ _ q) (ltb-false _ _ r)))
+      by false false v p q r = absurd (never (byte_first_wrong (ltb-false _ _ p) (ltb-false _ _ q)))
+      by false true false p q r = absurd (never (byte_second_wrong (ltb-false _ _ p) (ltb-true _ _ q) (ltb-false _ _ r)))
       by false true true p q r =
           let room = ltb-false (length chars) (at + 2) p in
           let high = ltb-true (digit_of (get_or chars at 0)) 16 q in

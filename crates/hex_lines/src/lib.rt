@@ -1,11 +1,12 @@
 // Bytes as upper-case hex, two characters a byte, and lines of them.
 #![tactic(auto)]
+
 ghost use Rattle.std.specs.Prelude.{◌≡◌, [], ◌∷◌, ◌+◌, ◌*◌, ◌≤◌, ◌<◌, length};
 ghost use Rattle.hex_lines.specs.Hex.{hex_digit, hex_of, line_of, digit_of};
 ghost use Rattle.hex_lines.specs.inner.Digits.{byte_at, between, ReadsLine};
 
 // What two characters are read as.
-#[derive(Drop)]
+#[derive(Clone, Copy)]
 pub enum Digits {
     Wrong,
     Byte(u8),

@@ -51,11 +51,6 @@ left-all i h = by i.ended h
 pub room : (i : Input) → length i.bytes ≡ 11 → 0 < left_of i → i.long < 11
 room i long h = omega (arith, (still_open (line_read i) (rw (left-all i h) at h)).1, length-take i.long i.bytes)
 
--- a read found nothing
-pub no_byte : (found : List ℕ) → length found ≡ 0 → found ≡ []
-no_byte [] none = refl
-no_byte (c ∷ more) none = absurd (omega arith)
-
 -- the byte that a read found
 pub one_byte : (found : List ℕ) → (length found ≡ 0 → ⊥) → length found ≤ 1 → (get_or found 0 0 ∷ []) ≡ found
 one_byte [] some few = absurd (some refl)

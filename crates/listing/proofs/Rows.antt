@@ -58,9 +58,6 @@ module _ (shape : Shape) (n : ℕ) {m : ℕ} {row' : List ℕ} (same : m ≡ n) 
       let row = take_at (row_of shape n) (drop shape.chains (replicate 40 0)) shape.chains (row_long shape n below) in
       rw (append-nil, add-three, placed, same, row, high, low)
 
-  pub row_taken : length (take (shape.chains + 3) (17 ∷ n / 256 ∷ n % 256 ∷ (row' ++ []))) ≡ shape.chains + 3
-  row_taken = ap length row_bytes ∙ bytes-long shape n below
-
   pub row_printed : line_of (take (shape.chains + 3) (17 ∷ n / 256 ∷ n % 256 ∷ (row' ++ []))) ≡ row_line shape n
   unfolding row_line
   row_printed = ap line_of row_bytes

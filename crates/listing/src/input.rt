@@ -3,7 +3,7 @@ ghost use Rattle.std.specs.Prelude.{◌≡◌, false, [], ◌++◌, ◌≤◌, �
 ghost use Rattle.listing.specs.Input.{to_read, line_read, left_of};
 
 // The first `long` bytes were read, and whether a read found the end of the input.
-#[derive(Drop)]
+#[derive(Clone, Copy)]
 pub struct Input {
     pub bytes: [u8; 11],
     pub long: usize,

@@ -1,5 +1,6 @@
 // The listing: for a shape in one line of hex, a line for each of the first numbers and its codeword.
 #![tactic(auto)]
+
 ghost use Rattle.std.specs.Prelude.{◌≡◌, ◌++◌, ◌+◌, ◌*◌, ◌≤◌, ◌<◌, min, length, take, drop};
 ghost use Rattle.numbers.specs.Number.{value};
 ghost use Rattle.hex_lines.specs.Hex.{read_line};
@@ -20,7 +21,7 @@ use profile::Shape;
 use refusal::{Outcome, code};
 
 // What the first line asks.
-#[derive(Drop)]
+#[derive(Clone, Copy)]
 pub enum Request {
     Malformed,
     Asked(Shape),

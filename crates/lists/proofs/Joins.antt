@@ -62,8 +62,8 @@ written_behind front v o m k long e w =
 -- a loop that writes values of length k into the slice o, from index `at` on
 module _ (f : ℕ → List ℕ) (k n : ℕ) (each : (c : ℕ) → c < n → length (f c) ≡ k) (at : ℕ) (o : List ℕ) (fits : at + k * n ≤ length o) where
   -- what is before the value c, after c turns
-  length-written : (c : ℕ) → c ≤ n → length (take at o ++ join_to f c) ≡ at + k * c
-  length-written c h =
+  length_written : (c : ℕ) → c ≤ n → length (take at o ++ join_to f c) ≡ at + k * c
+  length_written c h =
       length-append (take at o) (join_to f c) ∙ rw (length-take-le at o (omega arith), length-join_to f k c (λ d low. each d (omega arith)))
 
   -- a turn
@@ -71,14 +71,14 @@ module _ (f : ℕ → List ℕ) (k n : ℕ) (each : (c : ℕ) → c < n → leng
       → out' ≡ take (at + k * c) out ++ v ++ drop (at + k * c + k) out → out' ≡ take at o ++ join_to f (c + 1) ++ drop (at + k * (c + 1)) o
   write_next c {v} h s e w =
       let past : at + k * c + k ≡ at + k * (c + 1) = omega (arith, mul-suc k c) in
-      written_behind (take at o ++ join_to f c) v o (at + k * c) k (length-written c (omega arith)) e w
+      written_behind (take at o ++ join_to f c) v o (at + k * c) k (length_written c (omega arith)) e w
       ∙ rw (s, past, join_to-behind (take at o) f c)
 
   -- the slice keeps its length
   pub write_long : (c : ℕ) {out : List ℕ} → c ≤ n → out ≡ take at o ++ join_to f c ++ drop (at + k * c) o → length out ≡ length o
   write_long c h e =
       let within : k * c ≤ k * n = mul-le-mul_left k h in
-      ap length e ∙ length-append (take at o ++ join_to f c) (drop (at + k * c) o) ∙ omega (arith, length-written c h, length-drop (at + k * c) o)
+      ap length e ∙ length-append (take at o ++ join_to f c) (drop (at + k * c) o) ∙ omega (arith, length_written c h, length-drop (at + k * c) o)
 
 -- before the first turn
 pub write_start : (f : ℕ → List ℕ) (k at : ℕ) (o : List ℕ) → o ≡ take at o ++ join_to f 0 ++ drop (at + k * 0) o

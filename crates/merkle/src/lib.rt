@@ -1,5 +1,6 @@
 // Hash trees over any leaves of 16 bytes: a node from its children, and the climb from a leaf along siblings.
 #![tactic(auto)]
+
 ghost use Rattle.std.specs.Prelude.{◌≡◌, ◌*◌, ◌^◌, ◌≤◌, ◌<◌, length};
 ghost use Rattle.tweak.specs.Tweak.{Seeded};
 ghost use Rattle.merkle.specs.Nodes.{parent_of, sibling as siblingOf, climbed_once, climbed};

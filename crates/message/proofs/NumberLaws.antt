@@ -65,8 +65,8 @@ pub bits-largest : (n b : ℕ) → b ≤ 128 → 2 ^ b ≤ n → b ≤ number_bi
 bits-largest n b few held = (largest-bits n).top b few (le_trans held (le-max_left n 1))
 
 -- the exponent of the highest power of two in the count, up to 128
-pub bits-of_log : (n k : ℕ) → Log2 n k → number_bits n ≡ min k 128
-bits-of_log n k log =
+pub bits_of_log : (n k : ℕ) → Log2 n k → number_bits n ≡ min k 128
+bits_of_log n k log =
     let most : number_bits n < k + 1 = held_fits {w = k + 1} (largest-bits n).held log.below (omega arith) in
     let least : min k 128 ≤ number_bits n = (largest-bits n).top (min k 128) (min-le_right k 128) (le_trans (pow_mono (min-le_left k 128)) log.least) in
     omega (arith, most, least, bits-few n)
@@ -105,10 +105,10 @@ module _ (p : Profile) (leaf : ℕ) (r seed root message : List ℕ) where
   number_fits large = number-below-count (omega (arith, ltb-false (count p.shape) 256 large))
 
   -- with 128 bits it is the number of the first 16 bytes
-  pub number-of_16_bytes : 2 ^ 128 ≤ count p.shape
+  pub number_of_16_bytes : 2 ^ 128 ≤ count p.shape
       → message_number p leaf r seed root message ≡ from_bytes (take 16 (message_digest p.edition leaf r seed root message))
   unfolding message_number
-  number-of_16_bytes many =
+  number_of_16_bytes many =
       let bytes = message_digest p.edition leaf r seed root message in
       let all : number_bits (count p.shape) ≡ 128 = omega (arith, bits-few (count p.shape), bits-largest (count p.shape) 128 (le_refl 128) many) in
       ap (λ b. first_bits b bytes) all

@@ -1,5 +1,5 @@
 -- Document 01, Tree, key and cabinet: the digest. Document 02, point 3: the message number; point 6: the leaf inside the digest.
-use Rattle.std.specs.Prelude.{Bool, cond, List, [], ◌++◌, ℕ, zero, suc, ◌+◌, ◌*◌, ◌^◌, ltb, leb, eqb}
+use Rattle.std.specs.Prelude.{Bool, cond, List, [], ◌++◌, ℕ, zero, suc, ◌^◌, ltb, leb, eqb}
 use Rattle.octets.specs.Bytes.{to_bytes, first_bits}
 use Rattle.sha256.specs.Digest.{digest}
 use Rattle.profile.specs.declared.Profile.{Profile}

@@ -1,5 +1,6 @@
 // The digest of an order, and its number.
 #![tactic(auto)]
+
 ghost use Rattle.std.specs.Prelude.{◌≡◌, cond, ◌++◌, ◌≤◌, eqb, length, take};
 ghost use Rattle.octets.specs.Bytes.{from_bytes, first_bits};
 ghost use Rattle.numbers.specs.Number.{value};

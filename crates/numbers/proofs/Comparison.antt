@@ -1,9 +1,9 @@
 -- A comparison of numbers in words, least first: the highest words that differ decide, and the walk down from the highest words ends there.
-use Rattle.std.proofs.Common.{◌≡◌, ℕ, zero, suc, ◌+◌, ◌^◌, ◌<◌, ◌≤◌, Bool, true, false, cond, eqb, ltb, ◌⊎◌, List, [], ◌∷◌, ◌++◌, length, get_or, drop, sym, refl, ap, ◌∙◌, inl, inr, le_of_eq, le_refl, le_of_suc-le-suc, not-suc-le-zero, le_of_lt, arith, drop_of_length-le, drop-cons, le-ltb, lt-ltb, eq-eqb, ne_eqb, eqb-true}
+use Rattle.std.proofs.Common.{◌≡◌, ℕ, zero, suc, ◌+◌, ◌^◌, ◌<◌, ◌≤◌, Bool, true, false, eqb, ◌⊎◌, List, [], ◌∷◌, ◌++◌, length, get_or, drop, sym, refl, ap, ◌∙◌, inl, inr, le_of_eq, le_refl, le_of_suc-le-suc, not-suc-le-zero, le_of_lt, arith, drop_of_length-le, drop-cons, le-ltb, lt-ltb, eq-eqb, ne_eqb, eqb-true}
 use mathlib.Core.Option.{Option, none, some}
 use borrow.Author.Tests.{eqb-false}
 use Rattle.numbers.specs.Number.{value}
-use Rattle.numbers.specs.Order.{order_of, order_at, walk_below, walk, highest_below, highest_differing, pairs_looked, WalkEnds, HighestDecides}
+use Rattle.numbers.specs.Order.{order_of, order_at, walk_below, highest_below, highest_differing, pairs_looked, WalkEnds, HighestDecides}
 use Rattle.lists.proofs.Lists.{Below}
 use Rattle.lists.proofs.Numbers.{lt_or_le}
 
@@ -16,15 +16,6 @@ order_equal {m} {n} same = rw (same, le-ltb n n (le_refl n))
 
 pub order-above : {m n : ℕ} → n < m → order_of m n ≡ 2
 order-above {m} {n} more = rw (le-ltb m n (le_of_lt more), lt-ltb n m more)
-
--- the first of two numbers is below the second exactly where the number of their order is 0
-pub order_less : (m n : ℕ) {k : ℕ} → k ≡ order_of m n → eqb k 0 ≡ ltb m n
-order_less m n {k} is-order = rw is-order (by (ltb m n) (ltb n m))
-  where
-    by : (less greater : Bool) → eqb (cond less 0 (cond greater 2 1)) 0 ≡ less
-    by true greater = refl
-    by false true = refl
-    by false false = refl
 
 -- below place 0 no words differ
 pub highest-none : (a b : List ℕ) → highest_below 0 a b ≡ none

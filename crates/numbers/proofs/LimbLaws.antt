@@ -6,28 +6,6 @@ use Rattle.numbers.proofs.NumberLaws.{to_words-split}
 use Rattle.numbers.specs.inner.Limbs.{upper, number}
 use Rattle.numbers.specs.declared.limbs.Limbs.{Limbs}
 
--- two limbs and a one are less than twice 2 ^ 64
-pub over-one : (x y z limb over : ℕ) → x < 2 ^ 64 → y < 2 ^ 64 → z ≤ 1 → limb + 2 ^ 64 * over ≡ x + y + z → over ≤ 1
-over-one x y z limb over hx hy hz e = omega arith
-
--- a carry, and two of them, are small
-pub one-small : {over : ℕ} → over ≤ 1 → over < 2 ^ 32
-one-small h = omega arith
-
-pub both_small : {first second : ℕ} → first ≤ 1 → second ≤ 1 → first + second < 2 ^ 64
-both_small h k = omega arith
-
--- two sums in turn
-pub carried : (a b carry sum first limb second : ℕ) → sum + 2 ^ 64 * first ≡ a + carry → limb + 2 ^ 64 * second ≡ sum + b
-    → limb + 2 ^ 64 * (first + second) ≡ a + b + carry
-carried a b carry sum first limb second e f = omega arith
-
--- the limb that is left of a, added again to what was taken off
-pub added_again : (a b borrow left limb sum over : ℕ) → sum < 2 ^ 64 → (left + b) % 2 ^ 64 ≡ a → (limb + borrow) % 2 ^ 64 ≡ left
-    → sum + 2 ^ 64 * over ≡ limb + b + borrow
-    → limb + b + borrow ≡ a + 2 ^ 64 * over
-added_again a b borrow left limb sum over h e f g = omega arith
-
 -- what is above a limb of a number that is small
 above-small : (x n m : ℕ) → x + 2 ^ 64 * n < 2 ^ 64 * m → n < m
 above-small x n m h = omega arith

@@ -1,6 +1,6 @@
 -- Powers of two: the highest in a number, found by shifts, and a shift word by word.
 use Rattle.std.proofs.Common.{◌≡◌, ℕ, suc, ◌+◌, ◌-◌, ◌*◌, ◌/◌, ◌%◌, ◌^◌, ◌<◌, ◌≤◌, max, Bool, true, false, ltb, ◌⊎◌, List, [], ◌∷◌, ◌++◌, length, get_or, sym, refl, ap, ◌∙◌, inl, inr, le_trans, le_of_eq, le_of_lt, div-lt_iff_lt-mul, add_comm, mul-le-mul_left, le-div_iff_mul-le, arith, pow_pos, pow_mono, pow-add, shr-shr, ltb-false, ltb-true}
-use native.Mathlib.Nat.{zero-div, le-max_left, le-max_right}
+use native.Mathlib.Nat.{zero-div, le-max_left}
 use lib.Pow.{pow-lt, field, mod-mod-pow}
 use Rattle.numbers.specs.Number.{value}
 use Rattle.numbers.specs.Powers.{Log2}
@@ -11,9 +11,6 @@ use Rattle.lists.proofs.Numbers.{lt_or_le}
 pub record Shifted (x j left : ℕ) : Type 0 where
   pub quotient : left ≡ x / 2 ^ j
   pub held : 2 ^ j ≤ max x 1
-
-pub shift_none : (x : ℕ) → Shifted x 0 x
-shift_none x = record { quotient = omega arith; held = le-max_right x 1 }
 
 -- a power of two in what is left, times what was shifted out, is in the number
 held_more : (d : ℕ) {x j left : ℕ} → Shifted x j left → 2 ^ d ≤ left → 2 ^ (j + d) ≤ x
@@ -109,9 +106,9 @@ value_shifted t (x ∷ xs) few words =
     ∙ ap (λ k. k / 2 ^ t) upper in
     rw (value_shifted t xs few (λ j. words (suc j)), ← window all (x + 2 ^ 32 * get_or xs 0 0) t few (two_lowest x xs), ← swapped) (omega arith)
 
-pub value-shifted_5 : (t : ℕ) (n : List ℕ) {a b c d e : ℕ} → length n ≡ 5 → t < 32 → Below (2 ^ 32) n
+pub value_shifted_5 : (t : ℕ) (n : List ℕ) {a b c d e : ℕ} → length n ≡ 5 → t < 32 → Below (2 ^ 32) n
     → a ≡ shifted_word t (get_or n 0 0) (get_or n 1 0) → b ≡ shifted_word t (get_or n 1 0) (get_or n 2 0) → c ≡ shifted_word t (get_or n 2 0) (get_or n 3 0)
     → d ≡ shifted_word t (get_or n 3 0) (get_or n 4 0) → e ≡ shifted_word t (get_or n 4 0) 0
     → value (a ∷ b ∷ c ∷ d ∷ e ∷ []) ≡ value n / 2 ^ t
-value-shifted_5 t n long few words ea eb ec ed ee =
+value_shifted_5 t n long few words ea eb ec ed ee =
     rw (ea, eb, ec, ed, ee) (ap (λ l. value (shifted_words t l)) (sym (five 0 n long)) ∙ value_shifted t n (le_of_lt few) words)

@@ -6,7 +6,7 @@ ghost use Rattle.numbers.specs.inner.Limbs.{number};
 
 use std::num::{wrapping_add_u64, wrapping_sub_u64};
 
-#[derive(Drop)]
+#[derive(Clone, Copy)]
 pub struct Limbs {
     pub low: u64,
     pub middle: u64,
@@ -14,7 +14,7 @@ pub struct Limbs {
 }
 
 // A limb of a sum or a difference, and what goes into the next limb: a carry, or a borrow.
-#[derive(Drop)]
+#[derive(Clone, Copy)]
 struct Digit {
     limb: u64,
     over: u64,

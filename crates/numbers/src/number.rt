@@ -23,7 +23,7 @@ pub fn subtract(a: [u32; 5], b: [u32; 5]) -> [u32; 5]
 }
 
 // How the first of two numbers stands to the second.
-#[derive(Drop)]
+#[derive(Clone, Copy)]
 pub enum Order {
     Less,
     Equal,
@@ -42,7 +42,7 @@ pub fn order_code(o: Order) -> u32
 }
 
 // The order of two numbers, and how many pairs of words were looked at to find it.
-#[derive(Drop)]
+#[derive(Clone, Copy)]
 pub struct Compared {
     pub order: Order,
     pub looked: u32,

@@ -62,7 +62,7 @@ module _ (p : Profile) (work : List ℕ) (leaf : ℕ) (wrong : Bool) (size : ℕ
   pub place-placeable : {left counted row : List ℕ} → FillsPast m p.shape work left counted → length row ≡ 40 → m ≡ 0 → Placeable p.shape counted left row
   place-placeable fills long none =
       let limits = (table-passed p (length work) (none_before first own early between code none).0).limits in
-      placeable work limits (omega (arith, limits.few-chains)) fills none
+      placeable work limits (omega (arith, limits.few_chains)) fills none
 
 -- what a grant tells: no cause holds, and the codeword stands in front of the row
 pub record Grants (code : ℕ) (p : Profile) (n : ℕ) (wrong : Bool) (row row' : List ℕ) : Type 0 where

@@ -16,14 +16,14 @@ use refusal::{Outcome, Refusal};
 use tweak::{Leaf, first_hasher};
 
 // What Leaf key answers. Refused, the key is zero.
-#[derive(Drop)]
+#[derive(Clone, Copy)]
 pub struct LeafKey {
     pub outcome: Outcome,
     pub key: [u8; 16],
 }
 
 // What Recover answers. Refused, the key and the steps are zero.
-#[derive(Drop)]
+#[derive(Clone, Copy)]
 pub struct Recovered {
     pub outcome: Outcome,
     pub key: [u8; 16],

@@ -50,7 +50,7 @@ in_limits shape e =
     let l = not_outside 1 40 shape.chains first.0 in
     let w = not_outside 2 16 shape.width second.0 in
     let s = not_outside 0 (shape.chains * (shape.width - 1)) shape.sum third.0 in
-    record { some_chain = l.0; few-chains = l.1; wide = w.0; narrow = w.1; reached = s.1 }
+    record { some_chain = l.0; few_chains = l.1; wide = w.0; narrow = w.1; reached = s.1 }
 
 module _ (p : Profile) where
   -- the causes behind those of the shape
@@ -86,7 +86,7 @@ module _ (p : Profile) where
 
 -- the largest sum: 40 chains of 15
 pub sum-small : (shape : Shape) → InLimits shape → shape.sum ≤ 600
-sum-small shape limits = le_trans limits.reached (mul-le-mul {n₂ = 40} {m₂ = 15} limits.few-chains (omega arith))
+sum-small shape limits = le_trans limits.reached (mul-le-mul {n₂ = 40} {m₂ = 15} limits.few_chains (omega arith))
 
 -- a leaf of the tree
 pub leaf_within : (h leaf : ℕ) → leaf_beyond h leaf ≡ false → leaf < 2 ^ h

@@ -16,7 +16,7 @@ shape_causes shape =
 -- the same as facts: the shape is within its limits
 pub record InLimits (shape : Shape) : Type 0 where
   pub some_chain : 1 ≤ shape.chains
-  pub few-chains : shape.chains ≤ 40
+  pub few_chains : shape.chains ≤ 40
   pub wide : 2 ≤ shape.width
   pub narrow : shape.width ≤ 16
   pub reached : shape.sum ≤ shape.chains * (shape.width - 1)

@@ -1,5 +1,6 @@
 // A profile and its checks.
 #![tactic(auto)]
+
 ghost use Rattle.std.specs.Prelude.{◌≡◌, ◌-◌, ◌*◌};
 ghost use Rattle.refusal.specs.Code.{outcome_code, first_cause};
 ghost use Rattle.profile.specs.Checks.{outside as outsideOf, shape_causes, profile_causes, leaf_beyond, counted_leaves};
@@ -7,7 +8,7 @@ ghost use Rattle.profile.specs.Checks.{outside as outsideOf, shape_causes, profi
 use refusal::{Outcome, Refusal};
 
 // The shape of a codeword (document 01: a row of lengths): l chains, lengths below the width w, the sum s.
-#[derive(Drop)]
+#[derive(Clone, Copy)]
 pub struct Shape {
     pub chains: u32,
     pub width: u32,
@@ -15,7 +16,7 @@ pub struct Shape {
 }
 
 // A shape, the height h of the tree, and the edition, 1 or 2 (document 02, point 6).
-#[derive(Drop)]
+#[derive(Clone, Copy)]
 pub struct Profile {
     pub shape: Shape,
     pub height: u32,

@@ -6,7 +6,7 @@ ghost use Rattle.refusal.specs.Code.{code, outcome_code, then_code};
 
 // Every cause of documents 01 and 02, in the order of their codes, which are the documents' numbers. Those from 23 on belong to
 // points of document 02 that are still to come.
-#[derive(Drop)]
+#[derive(Clone, Copy)]
 pub enum Refusal {
     ChainCount,
     Width,
@@ -44,7 +44,7 @@ pub enum Refusal {
 }
 
 // The answer of an operation that gives no value of its own.
-#[derive(Drop)]
+#[derive(Clone, Copy)]
 pub enum Outcome {
     Granted,
     Refused(Refusal),

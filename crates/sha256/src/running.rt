@@ -10,7 +10,7 @@ use refusal::{Outcome, Refusal};
 use sha256_block::{HashWords, compress, initial};
 
 // Of the block, total modulo 64 bytes are pending; the others count for nothing.
-#[derive(Drop)]
+#[derive(Clone, Copy)]
 pub struct Hash {
     pub words: HashWords,
     pub block: [u8; 64],
@@ -18,7 +18,7 @@ pub struct Hash {
 }
 
 // What add answers, with the state that it hands back.
-#[derive(Drop)]
+#[derive(Clone, Copy)]
 pub struct Added {
     pub outcome: Outcome,
     pub hash: Hash,

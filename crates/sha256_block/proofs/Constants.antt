@@ -1,4 +1,4 @@
--- The constants keep the rule of FIPS 180-4: the primes are the first sixty_four, and each word is from the whole part of a root of its prime.
+-- The constants keep the rule of FIPS 180-4: the primes are the first sixty-four, and each word is from the whole part of a root of its prime.
 use Rattle.std.proofs.Common.{◌≡◌, ℕ, zero, suc, ◌+◌, ◌*◌, ◌^◌, ◌<◌, ◌≤◌, Bool, true, false, cond, leb, List, [], ◌∷◌, length, get_or, take, refl, ap, ◌∙◌, pow-suc, arith, length-take-le, get_or-take, leb-false, leb-true}
 use lib.ListN.{length-map, get_or-map}
 use Rattle.lists.proofs.Lists.{Below, below-by_test}
@@ -50,14 +50,14 @@ unfolding listed
 small_eight = rw primes-listed (below-by_test 64 (take 8 listed) tt)
 
 -- each round word is from the cube root of its prime
-round-word_rule : (k : ℕ) → IsRootWord 3 (get_or primes k 0) (get_or round_words k 0)
+round_word_rule : (k : ℕ) → IsRootWord 3 (get_or primes k 0) (get_or round_words k 0)
 unfolding round_words root_word whole_root root_from
-round-word_rule k = rw (get_or-map (root_word 3) primes k 0) (root-word 3 (get_or primes k 0) (omega arith) (omega (arith, small k)))
+round_word_rule k = rw (get_or-map (root_word 3) primes k 0) (root-word 3 (get_or primes k 0) (omega arith) (omega (arith, small k)))
 
 -- each of the eight initial words is from the square root of its prime
-initial-word_rule : (k : ℕ) → k < 8 → IsRootWord 2 (get_or primes k 0) (get_or initial_words k 0)
+initial_word_rule : (k : ℕ) → k < 8 → IsRootWord 2 (get_or primes k 0) (get_or initial_words k 0)
 unfolding initial_words root_word whole_root root_from
-initial-word_rule k h =
+initial_word_rule k h =
     let same = get_or-take 8 primes k 0 h in
     rw (get_or-map (root_word 2) (take 8 primes) k 0, same) (root-word 2 (get_or primes k 0) (omega arith) (omega (arith, rw same at (small_eight k))))
 
@@ -77,8 +77,8 @@ place : (q : ℕ) → q < 312 → IsPrime q → (i : ℕ) × (i < length primes)
 unfolding primes
 place q h prime = none_missed 0 312 q (omega arith) h prime
 
-first-primes : FirstPrimes 64 primes
-first-primes =
+first_primes : FirstPrimes 64 primes
+first_primes =
     record {
       many = sixty_four;
       each = λ i h. (each_prime 0 primes rise i (rw sixty_four h)).1;
@@ -92,9 +92,9 @@ pub root-words : RootWords
 unfolding round_words initial_words
 root-words =
     record {
-      first-primes = first-primes;
-      many-rounds = length-map primes (root_word 3) ∙ sixty_four;
-      round-word = λ i h. round-word_rule i;
-      many-initial = length-map (take 8 primes) (root_word 2) ∙ length-take-le 8 primes (omega (arith, sixty_four));
-      initial-word = initial-word_rule;
+      first_primes = first_primes;
+      many_rounds = length-map primes (root_word 3) ∙ sixty_four;
+      round_word = λ i h. round_word_rule i;
+      many_initial = length-map (take 8 primes) (root_word 2) ∙ length-take-le 8 primes (omega (arith, sixty_four));
+      initial_word = initial_word_rule;
     }

@@ -29,11 +29,11 @@ unfolding is_prime
 prime_by_test n e =
     let parts = both (leb 2 n) (not (has_divisor n (n - 1))) e in
     let two = leb-true 2 n parts.0 in
-    record { above-one = two; undivided = λ d low high. divisor_found n (n - 1) (not-true (has_divisor n (n - 1)) parts.1) d low (omega arith) }
+    record { above_one = two; undivided = λ d low high. divisor_found n (n - 1) (not-true (has_divisor n (n - 1)) parts.1) d low (omega arith) }
 
 prime_passes : (n : ℕ) → IsPrime n → is_prime n ≡ true
 unfolding is_prime
-prime_passes n p = rw (le-leb 2 n p.above-one, divisor_real n (n - 1) (λ c low high. p.undivided c low (omega (arith, p.above-one))))
+prime_passes n p = rw (le-leb 2 n p.above_one, divisor_real n (n - 1) (λ c low high. p.undivided c low (omega (arith, p.above_one))))
 
 -- primes, rising from n on
 abbrev pub PrimesFrom : ℕ → List ℕ → Type 0

@@ -45,7 +45,7 @@ whole_root e n = root_from e n 35 0
 unfoldable pub root_word : ℕ → ℕ → ℕ
 root_word e p = whole_root e (p * 2 ^ (32 * e)) % 2 ^ 32
 
--- 4.2.2: K_0, …, K_63, from the cube roots of the first sixty_four primes
+-- 4.2.2: K_0, …, K_63, from the cube roots of the first sixty-four primes
 unfoldable pub round_words : List ℕ
 round_words = map (root_word 3) primes
 
@@ -55,7 +55,7 @@ initial_words = map (root_word 2) (take 8 primes)
 
 -- n is prime
 pub record IsPrime (n : ℕ) : Type 0 where
-  pub above-one : 2 ≤ n
+  pub above_one : 2 ≤ n
   pub undivided : (d : ℕ) → 2 ≤ d → d < n → n % d ≢ 0
 
 -- the first k primes, in rising order: all primes up to the last of them, and nothing else
@@ -65,12 +65,12 @@ pub record FirstPrimes (k : ℕ) (ps : List ℕ) : Type 0 where
   pub rising : (i j : ℕ) → i < j → j < k → slice_index ps i < slice_index ps j
   pub none_missed : (q : ℕ) → IsPrime q → q ≤ slice_index ps (k - 1) → (i : ℕ) × (i < k) × (slice_index ps i ≡ q)
 
--- 4.2.2: "the first thirty-two bits of the fractional parts of the cube roots of the first sixty_four prime numbers"; 5.3.3: "the first
+-- 4.2.2: "the first thirty-two bits of the fractional parts of the cube roots of the first sixty-four prime numbers"; 5.3.3: "the first
 -- thirty-two bits of the
 -- fractional parts of the square roots of the first eight prime numbers"
 pub record RootWords : Type 0 where
-  pub first-primes : FirstPrimes 64 primes
-  pub many-rounds : length round_words ≡ 64
-  pub round-word : (i : ℕ) → i < 64 → IsRootWord 3 (slice_index primes i) (slice_index round_words i)
-  pub many-initial : length initial_words ≡ 8
-  pub initial-word : (i : ℕ) → i < 8 → IsRootWord 2 (slice_index primes i) (slice_index initial_words i)
+  pub first_primes : FirstPrimes 64 primes
+  pub many_rounds : length round_words ≡ 64
+  pub round_word : (i : ℕ) → i < 64 → IsRootWord 3 (slice_index primes i) (slice_index round_words i)
+  pub many_initial : length initial_words ≡ 8
+  pub initial_word : (i : ℕ) → i < 8 → IsRootWord 2 (slice_index primes i) (slice_index initial_words i)

@@ -7,7 +7,7 @@ use super::functions::{big_sigma0, big_sigma1, ch, maj, small_sigma0, small_sigm
 use std::num::wrapping_add_u32;
 
 // The eight words of a hash value, H_0 to H_7, and the eight working variables.
-#[derive(Drop)]
+#[derive(Clone, Copy)]
 pub struct HashWords {
     pub a: u32,
     pub b: u32,

@@ -1,5 +1,6 @@
 // FIPS 180-4: the functions, the constants and the compression of one block of SHA-256.
 #![tactic(auto)]
+
 pub mod compression;
 mod functions;
 

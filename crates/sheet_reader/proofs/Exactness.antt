@@ -38,8 +38,8 @@ pub record Apart (fs : List Frame) (sheet signature text : List ℕ) : Type 0 wh
   pub whole : length signature ≡ total fs
   pub below : Below 256 signature
   pub text-below : Below 256 text
-  pub some-text : 1 ≤ length text
-  pub short-text : length text ≤ 200
+  pub some_text : 1 ≤ length text
+  pub short_text : length text ≤ 200
 
 not_read : {A : Type 0} (n : ℕ) (signature text : List ℕ) → wrong_line n ≡ read signature text → A
 not_read n signature text e = let z : ◌≡◌ {A = ℕ} 0 1 = cc in absurd (omega arith)
@@ -59,8 +59,8 @@ read-text line sheet signature text e = by (read_frame text_frame sheet) refl e
           whole = rw (← none);
           below = rw (← none) (λ i. lit< tt);
           text-below = rw same at f.below;
-          some-text = rw same at f.some;
-          short-text = rw same at f.few;
+          some_text = rw same at f.some;
+          short_text = rw same at f.few;
         }
     by (right bytes (c ∷ rest)) q e = not_read (suc line) signature text e
 
@@ -77,8 +77,8 @@ one_more f fs sheet bytes rest more text s g a =
       whole = length-append bytes more ∙ omega (arith, a.whole);
       below = below-append 256 bytes more g.below a.below;
       text-below = a.text-below;
-      some-text = a.some-text;
-      short-text = a.short-text;
+      some_text = a.some_text;
+      short_text = a.short_text;
     }
 
 pub read-lines : (fs : List Frame) (line : ℕ) (sheet signature text : List ℕ) → Sized fs → read_frames fs line sheet ≡ read signature text
@@ -109,11 +109,11 @@ exact p within sheet signature text = (there, back)
     there e =
         let a = read-lines (frames p) 1 sheet signature text (frames-sized p) e in (
           record {
-            signature-bytes = a.below;
-            text-bytes = a.text-below;
+            signature_bytes = a.below;
+            text_bytes = a.text-below;
             whole = a.whole ∙ frames-total p;
-            some-text = a.some-text;
-            short-text = a.short-text;
+            some_text = a.some_text;
+            short_text = a.short_text;
           },
           a.lines,
         )
@@ -121,5 +121,5 @@ exact p within sheet signature text = (there, back)
     back : Carried p signature text × (sheet ≡ sheet_of p signature text) → read_sheet p sheet ≡ read signature text
     back c =
         let d = c.0 in
-        let last = rw append-nil at (frame_read text_frame text [] (below-by_test 256 (6 ∷ []) tt) d.text-bytes d.some-text d.short-text) in
-        rw c.1 (lines-read (frames p) 1 signature text (frames-sized p) (frames-bytes p within) (d.whole ∙ sym (frames-total p)) d.signature-bytes last)
+        let last = rw append-nil at (frame_read text_frame text [] (below-by_test 256 (6 ∷ []) tt) d.text_bytes d.some_text d.short_text) in
+        rw c.1 (lines-read (frames p) 1 signature text (frames-sized p) (frames-bytes p within) (d.whole ∙ sym (frames-total p)) d.signature_bytes last)

@@ -90,8 +90,8 @@ module _ (p q : Profile) (passed-p : first_cause (profile_causes p) ≡ 0) (pass
         append_assoc (line_of first_frame.head) (line_of (head ++ []) ++ behind) last
         ∙ ap (λ l. line_of first_frame.head ++ l) (append_assoc (line_of (head ++ [])) behind last ∙ ap (λ l. line_of l ++ later) (append-nil head))
 
-  other-profile : (p ≡ q → ⊥) → (signature text : List ℕ) → read_sheet p (sheet_of q signature text) ≡ wrong_line 2
-  other-profile other signature text =
+  other_profile : (p ≡ q → ⊥) → (signature text : List ℕ) → read_sheet p (sheet_of q signature text) ≡ wrong_line 2
+  other_profile other signature text =
       rw (sheet-lines signature text)
       (wrong_frame_lem p (line_of (profile_frame q).head ++ later signature text)
       (λ tail e.
@@ -103,4 +103,4 @@ module _ (p q : Profile) (passed-p : first_cause (profile_causes p) ≡ 0) (pass
       right-bytes e = cc
 
 pub profile-line : ProfileLine
-profile-line = record { wrong_frame_lem = wrong_frame_lem; other-profile = other-profile }
+profile-line = record { wrong_frame_lem = wrong_frame_lem; other_profile = other_profile }

@@ -89,7 +89,7 @@ module _ (p : Profile) (sheet : List ℕ) where
   line_small h = by (read_sheet p sheet) refl
     where
       by : (r : Reading) → read_sheet p sheet ≡ r → line_in r ≤ 56
-      by (wrong_line n) e = omega (arith, line-counted (frames p) 1 sheet n e, length-frames p, h.0.few-chains, h.1)
+      by (wrong_line n) e = omega (arith, line-counted (frames p) 1 sheet n e, length-frames p, h.0.few_chains, h.1)
       by (read signature text) e = omega arith
 
 module _ (p : Profile) (sheet signature message : List ℕ) where
@@ -106,9 +106,9 @@ module _ (p : Profile) (sheet signature message : List ℕ) where
       record {
         code = refused_then (profile_causes p) late o e r q;
         line = rw other;
-        text-length = rw some;
-        signature-written = rw some;
-        text-written = rw some;
+        text_length = rw some;
+        signature_written = rw some;
+        text_written = rw some;
       }
 
   module _ (none : first_cause (profile_causes p) ≡ 0) where
@@ -123,7 +123,7 @@ module _ (p : Profile) (sheet signature message : List ℕ) where
     late-refused o r line e q told =
         let code : outcome_code o ≡ sheet_code p sheet signature message = e ∙ sym code_then in
         let some = refused-number o (sheet_code p sheet signature message) r code q in
-        record { code = code; line = told ∙ by (read_sheet p sheet) refl; text-length = rw some; signature-written = rw some; text-written = rw some }
+        record { code = code; line = told ∙ by (read_sheet p sheet) refl; text_length = rw some; signature_written = rw some; text_written = rw some }
       where
         by : (r : Reading) → read_sheet p sheet ≡ r → line_in r ≡ cond (eqb (sheet_code p sheet signature message) 17) (line_in r) 0
         by (wrong_line n) q = let seventeen : sheet_code p sheet signature message ≡ 17 = code_then ∙ rw q in rw seventeen
@@ -165,7 +165,7 @@ module _ (p : Profile) (sheet signature message : List ℕ) where
         record {
           code = code;
           line = rw zero;
-          text-length = rw (zero, w.is_read) w.long;
-          signature-written = rw (zero, w.is_read) (s ∙ rw (signature-here p sheet w.signature w.text apart));
-          text-written = rw (zero, w.is_read) (m ∙ rw (place, w.long, text-here p sheet w.signature w.text apart));
+          text_length = rw (zero, w.is_read) w.long;
+          signature_written = rw (zero, w.is_read) (s ∙ rw (signature-here p sheet w.signature w.text apart));
+          text_written = rw (zero, w.is_read) (m ∙ rw (place, w.long, text-here p sheet w.signature w.text apart));
         }

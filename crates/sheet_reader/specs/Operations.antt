@@ -42,9 +42,9 @@ sheet_code p sheet signature message = first_cause (profile_causes p ++ sheet_ca
 pub record ReadsSheet (p : Profile) (sheet signature message signature' message' : List ℕ) (r : SheetRead) : Type 0 where
   pub code : outcome_code r.outcome ≡ sheet_code p sheet signature message
   pub line : r.line ≡ cond (eqb (sheet_code p sheet signature message) 17) (line_in (read_sheet p sheet)) 0
-  pub text-length : r.length ≡ cond (eqb (sheet_code p sheet signature message) 0) (length (text_in (read_sheet p sheet))) 0
-  pub signature-written : signature'
+  pub text_length : r.length ≡ cond (eqb (sheet_code p sheet signature message) 0) (length (text_in (read_sheet p sheet))) 0
+  pub signature_written : signature'
       ≡ cond (eqb (sheet_code p sheet signature message) 0) (signature_in (read_sheet p sheet) ++ drop (signature_length p) signature) signature
-  pub text-written : message'
+  pub text_written : message'
       ≡ cond (eqb (sheet_code p sheet signature message) 0)
       (text_in (read_sheet p sheet) ++ drop (length (text_in (read_sheet p sheet))) message) message

@@ -42,11 +42,11 @@ read_sheet p sheet = read_frames (frames p) 1 sheet
 
 -- what a sheet can carry: a signature of the right length, and a text of 1 to 200 bytes
 pub record Carried (p : Profile) (signature text : List ℕ) : Type 0 where
-  pub signature-bytes : (i : ℕ) → get_or signature i 0 < 256
-  pub text-bytes : (i : ℕ) → get_or text i 0 < 256
+  pub signature_bytes : (i : ℕ) → get_or signature i 0 < 256
+  pub text_bytes : (i : ℕ) → get_or text i 0 < 256
   pub whole : length signature ≡ signature_length p
-  pub some-text : 1 ≤ length text
-  pub short-text : length text ≤ 200
+  pub some_text : 1 ≤ length text
+  pub short_text : length text ≤ 200
 
 -- for every profile within these limits, in any edition: what is read is a right sheet, and each right sheet is read as what it carries
 abbrev pub Exact : Type 0
@@ -61,5 +61,5 @@ pub record ProfileLine : Type 0 where
   pub wrong_frame_lem : (p : Profile) (rest : List ℕ) → ((tail : List ℕ) → rest ≡ line_of (profile_frame p).head ++ tail → ⊥)
       → read_sheet p (line_of first_frame.head ++ rest) ≡ wrong_line 2
   -- so every sheet of another profile that passes its checks, and be it another in its edition alone
-  pub other-profile : (p q : Profile) → first_cause (profile_causes p) ≡ 0 → first_cause (profile_causes q) ≡ 0 → (p ≡ q → ⊥)
+  pub other_profile : (p q : Profile) → first_cause (profile_causes p) ≡ 0 → first_cause (profile_causes q) ≡ 0 → (p ≡ q → ⊥)
       → (signature text : List ℕ) → read_sheet p (sheet_of q signature text) ≡ wrong_line 2

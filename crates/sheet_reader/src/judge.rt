@@ -9,7 +9,7 @@ use frames::{frame_count, frame_size};
 use profile::Profile;
 
 // How a sheet is judged: its first wrong line, 0 where none is, and else the length of its text.
-#[derive(Drop)]
+#[derive(Clone, Copy)]
 pub struct Judged {
     pub line: usize,
     pub length: usize,

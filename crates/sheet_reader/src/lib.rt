@@ -1,5 +1,6 @@
 // Read sheet: the signature and the text that a sheet carries.
 #![tactic(auto)]
+
 ghost use Rattle.std.specs.Prelude.{◌≡◌};
 ghost use Rattle.refusal.specs.Code.{first_cause};
 ghost use Rattle.profile.specs.Checks.{profile_causes};
@@ -15,7 +16,7 @@ use refusal::{Outcome, Refusal};
 use signature::signature_length;
 
 // What Read sheet answers. The line is 0 unless a line is wrong; refused, the length is 0.
-#[derive(Drop)]
+#[derive(Clone, Copy)]
 pub struct SheetRead {
     pub outcome: Outcome,
     pub line: u32,

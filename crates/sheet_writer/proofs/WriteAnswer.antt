@@ -36,8 +36,8 @@ module _ (p : Profile) (signature message : List ℕ) where
   -- a profile, a text and a signature that none of these causes refuses
   pub record Fit : Type 0 where
     pub passed : first_cause (profile_causes p) ≡ 0
-    pub some-text : 1 ≤ length message
-    pub short-text : length message ≤ 200
+    pub some_text : 1 ≤ length message
+    pub short_text : length message ≤ 200
     pub whole : length signature ≡ signature_length p
 
   pub carried_fit : first_cause (carried_causes p signature message) ≡ 0 → Fit
@@ -50,8 +50,8 @@ module _ (p : Profile) (signature message : List ℕ) where
       let limits = not_outside 1 200 (length message) text.0 in
       record {
         passed = both.0;
-        some-text = limits.0;
-        short-text = limits.1;
+        some_text = limits.0;
+        short_text = limits.1;
         whole = eqb-true (length signature) (signature_length p) (not-false same bytes.0);
       }
 
@@ -59,7 +59,7 @@ module _ (p : Profile) (signature message : List ℕ) where
   unfolding outside_text
   fit_carried fit =
       none_then (profile_causes p) own fit.passed (profile-numbered p)
-      ∙ rw (inside 1 200 (length message) fit.some-text fit.short-text, eq-eqb (length signature) (signature_length p) fit.whole)
+      ∙ rw (inside 1 200 (length message) fit.some_text fit.short_text, eq-eqb (length signature) (signature_length p) fit.whole)
 
   module _ (whole : length signature ≡ signature_length p) where
     length-frames-lines : length (lines_of (frames p) signature) ≡ behind_all 0 (frames p)
@@ -71,12 +71,12 @@ module _ (p : Profile) (signature message : List ℕ) where
         ∙ omega (arith, length-frames-lines, line-long text_frame.head message)
 
     -- the text's line behind those of the frames
-    pub text-written : (sheet : List ℕ) {out out' : List ℕ} {at end : ℕ} → at ≡ behind_all 0 (frames p) → end ≡ at + length (frame_line text_frame message)
+    pub text_written : (sheet : List ℕ) {out out' : List ℕ} {at end : ℕ} → at ≡ behind_all 0 (frames p) → end ≡ at + length (frame_line text_frame message)
         → out ≡ lines_of (frames p) signature ++ drop at sheet
         → out' ≡ take at out ++ frame_line text_frame message ++ drop end out → (end ≡ length (sheet_of p signature message))
         × (out' ≡ sheet_of p signature message ++ drop end sheet)
     unfolding sheet_of
-    text-written sheet {out} {out'} {at} {end} place q e w =
+    text_written sheet {out} {out'} {at} {end} place q e w =
         let k : ℕ = length (frame_line text_frame message) in (
           omega (arith, length-sheet, line-long text_frame.head message),
           written_behind (lines_of (frames p) signature) (frame_line text_frame message) sheet at k (length-frames-lines ∙ sym place) e (w ∙ rw q) ∙ rw (← q),

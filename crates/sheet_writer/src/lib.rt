@@ -1,5 +1,6 @@
 // Write sheet: a signature and its text as the sheet that the reader takes.
 #![tactic(auto)]
+
 mod lines;
 mod writer;
 

@@ -10,7 +10,7 @@ use refusal::{Outcome, Refusal};
 use signature::{outside_text, signature_length};
 
 // What Write sheet answers: refused, no byte is written.
-#[derive(Drop)]
+#[derive(Clone, Copy)]
 pub struct SheetWritten {
     pub outcome: Outcome,
     pub length: usize,

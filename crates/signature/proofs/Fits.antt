@@ -5,6 +5,6 @@ use Prim.Native.Nat.{ℕ, ◌≤◌}
 use Rattle.profile.proofs.Limits.{not_outside}
 use Rattle.signature.specs.Signature.{outside_text}
 
-pub short-text : (bytes : ℕ) → outside_text bytes ≡ false → bytes ≤ 200
+pub short_text : (bytes : ℕ) → outside_text bytes ≡ false → bytes ≤ 200
 unfolding outside_text
-short-text bytes within = (not_outside 1 200 bytes within).1
+short_text bytes within = (not_outside 1 200 bytes within).1

@@ -1,5 +1,6 @@
 // How long an order's text and a signature are, and what stands where in a signature.
 #![tactic(auto)]
+
 ghost use Rattle.std.specs.Prelude.{◌≡◌, ◌≤◌, length};
 ghost use Rattle.signature.specs.Signature.{outside_text, signature_length, leaf_in, random_in};
 

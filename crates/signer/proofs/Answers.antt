@@ -1,6 +1,6 @@
 -- What Sign answers and leaves on each way out.
 use mathlib.Core.Path.{◌≡◌, refl, ◌∙◌, sym, ap}
-use mathlib.Core.Bool.{Bool, true, false, not}
+use mathlib.Core.Bool.{Bool, false, not}
 use mathlib.Core.List.{List, [], ◌∷◌, ◌++◌}
 use Prim.Native.Nat.{ℕ, ◌^◌, ◌<◌, ◌≤◌}
 use native.Mathlib.Nat.{zero-add}
@@ -18,7 +18,7 @@ use Rattle.numbers.specs.Number.{value}
 use Rattle.profile.specs.Checks.{InLimits}
 use Rattle.profile.specs.declared.Shape.{Shape}
 use Rattle.signature.specs.Signature.{outside_text, joined_parts, signature_length}
-use Rattle.signature.proofs.Fits.{short-text}
+use Rattle.signature.proofs.Fits.{short_text}
 use Rattle.signing_key.specs.Counter.{mark_counts, cleared}
 use Rattle.signing_key.specs.Key.{recounted}
 use Rattle.signing_key.specs.declared.SigningKey.{SigningKey}
@@ -136,7 +136,7 @@ module _ (key : SigningKey) (call : SigningCall) {n m : ℕ} (checked : n ≡ fi
         record {
           limits = passed.limits;
           low = passed.low;
-          short = short-text (length call.message) text.0;
+          short = short_text (length call.message) text.0;
           some = leaf.0;
           in_tree = omega arith;
           held = table-held shape call.work (rw none at fills.table);

@@ -101,7 +101,7 @@ fn key_signature(
 }
 
 // What Sign answers, with the key that it hands back.
-#[derive(Drop)]
+#[derive(Clone, Copy)]
 pub struct Signed {
     pub outcome: Outcome,
     pub key: SigningKey,

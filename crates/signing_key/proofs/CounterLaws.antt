@@ -27,9 +27,9 @@ from_low low high x some = by (leb x high) refl
     by false e = sym (ap not (outside_high low high x some (leb-false x high e)))
 
 -- where neither the code so far nor the causes behind it refuse, each of them is 0
-pub none-of_then : (n : ℕ) (more : List (Bool × ℕ)) → then_first n more ≡ 0 → (n ≡ 0) × (first_cause more ≡ 0)
-none-of_then zero more e = (refl, e)
-none-of_then (suc n) more e = absurd (omega (arith, rw (ne_eqb (suc n) 0 (λ z. omega arith)) at e))
+pub none_of_then : (n : ℕ) (more : List (Bool × ℕ)) → then_first n more ≡ 0 → (n ≡ 0) × (first_cause more ≡ 0)
+none_of_then zero more e = (refl, e)
+none_of_then (suc n) more e = absurd (omega (arith, rw (ne_eqb (suc n) 0 (λ z. omega arith)) at e))
 
 module _ (leaves : ℕ) (c : Counter) where
   -- a mark that counts: the marked leaf is one of so many

@@ -1,5 +1,5 @@
 -- Document 02, point 5: Reserve of a profile's key, whose tree has 2^h leaves.
-use Rattle.std.specs.Prelude.{Bool, List, ◌++◌, ℕ, ◌^◌}
+use Rattle.std.specs.Prelude.{◌++◌, ℕ, ◌^◌}
 use Rattle.refusal.specs.Code.{first_cause}
 use Rattle.profile.specs.Checks.{profile_causes}
 use Rattle.profile.specs.declared.Profile.{Profile}

@@ -1,5 +1,6 @@
 // A key, the counter of its leaves, and Reserve.
 #![tactic(auto)]
+
 ghost use Rattle.std.specs.Prelude.{◌≡◌, ◌+◌, ◌^◌, ◌<◌};
 ghost use Rattle.refusal.specs.Code.{outcome_code, then_first};
 ghost use Rattle.signing_key.specs.Counter as spec;
@@ -10,14 +11,14 @@ use profile::{Profile, check_profile, leaf_count};
 use refusal::{Outcome, Refusal};
 
 // What of a key counts its leaves: the next one, and a mark, which says that the one before it is reserved for a signature.
-#[derive(Drop)]
+#[derive(Clone, Copy)]
 pub struct Counter {
     pub next: u32,
     pub mark: bool,
 }
 
 // A key (document 01): its profile, both seeds, and the counter of its leaves.
-#[derive(Drop)]
+#[derive(Clone, Copy)]
 pub struct SigningKey {
     pub profile: Profile,
     pub seed: [u8; 16],
@@ -75,7 +76,7 @@ fn advance(c: Counter) -> Counter
 }
 
 // What Reserve answers, with the counter that it hands back.
-#[derive(Drop)]
+#[derive(Clone, Copy)]
 pub struct Reserved {
     pub outcome: Outcome,
     pub counter: Counter,

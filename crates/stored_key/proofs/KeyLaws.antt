@@ -130,7 +130,7 @@ module _ (key : SigningKey) where
     module _ (passed : first_cause (profile_causes key.profile) ≡ 0) where
       pub key-bytes-below : Below 256 (key_bytes key)
       unfolding key_bytes
-      key-bytes-below zero = omega (arith, (profile-limits key.profile passed).0.few-chains)
+      key-bytes-below zero = omega (arith, (profile-limits key.profile passed).0.few_chains)
       key-bytes-below (suc zero) = omega (arith, (profile-limits key.profile passed).0.narrow)
       key-bytes-below (suc (suc zero)) = omega (arith, (profile-limits key.profile passed).1)
       key-bytes-below (suc (suc (suc i))) =

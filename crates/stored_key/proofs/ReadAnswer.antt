@@ -2,7 +2,7 @@
 use mathlib.Core.Path.{◌≡◌, refl, sym, ap, ◌∙◌}
 use mathlib.Core.Bool.{Bool, true, false, cond, true≢false}
 use mathlib.Core.List.{List, [], ◌∷◌, append-nil}
-use Prim.Native.Nat.{ℕ, ◌+◌, ◌-◌, ◌*◌, ◌^◌, ◌≤◌, ◌<◌}
+use Prim.Native.Nat.{ℕ, ◌+◌, ◌-◌, ◌*◌, ◌^◌, ◌≤◌}
 use native.Mathlib.Omega.{arith}
 use borrow.Author.Tests.{lt-ltb, eq-eqb, ltb-true, eqb-true}
 use lib.Dec.{ltb, eqb}
@@ -28,10 +28,6 @@ use Rattle.stored_key.specs.inner.Parts.{field_place, frame_length, framed_test,
 use Rattle.stored_key.specs.declared.reader.KeyRead.{KeyRead}
 use Rattle.stored_key.proofs.KeyLaws.{idle-profile}
 use Rattle.stored_key.proofs.StoredLaws.{RightFrame, right-line, right-read, right-long, wrong-read}
-
--- an element that is there, whatever stands for one that is not
-pub any_default : (l : List ℕ) (i d e : ℕ) → i < length l → get_or l i d ≡ get_or l i e
-any_default l i d e h = cc (drop-cons l i d h, drop-cons l i e h)
 
 module _ (bytes : List ℕ) (long : frame_length ≤ length bytes) where
   -- the profile behind the kind

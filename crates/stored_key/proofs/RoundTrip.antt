@@ -5,7 +5,7 @@ use mathlib.Core.List.{List, []}
 use Prim.Native.Nat.{ℕ, ◌^◌}
 use native.Mathlib.Omega.{arith}
 use borrow.Author.Tests.{eqb-true}
-use lib.ListN.{length, get_or, take, drop}
+use lib.ListN.{length, take, drop}
 use lib.Seq.{take_at}
 use Rattle.refusal.specs.Code.{outcome_code}
 use Rattle.lists.proofs.Tests.{both}
@@ -65,18 +65,18 @@ module _ {frame bytes : List ℕ} (r : RightFrame frame bytes) (counts : IdleIn 
       by true false e m = absurd (true≢false (sym (marked-mark (key_in bytes).profile (key_in bytes).counter e) ∙ m))
       by false true e m = absurd (counts (idle e m))
 
-  no_idle-mark : without_idle_mark (key_in bytes) ≡ key_in bytes
+  no_idle_mark : without_idle_mark (key_in bytes) ≡ key_in bytes
   unfolding without_idle_mark
-  no_idle-mark = rw same-mark
+  no_idle_mark = rw same-mark
 
   frame_again : stored_key (key_in bytes) ≡ frame
   unfolding stored_key
-  frame_again = rw (no_idle-mark, bytes_again bytes r.below r.some r.few r.mark r.last) (sym r.line)
+  frame_again = rw (no_idle_mark, bytes_again bytes r.below r.some r.few r.mark r.last) (sym r.line)
 
 pub read-is-written : ReadKeyIsWritten
 read-is-written frame found r granted counts slice slice' made room w =
     let of = read_right frame (answer-stored r granted) in
-    let same : found.key ≡ key_in of.0 = of.2 ∙ no_idle-mark of.1 counts in
+    let same : found.key ≡ key_in of.0 = of.2 ∙ no_idle_mark of.1 counts in
     let again : stored_key found.key ≡ frame = ap stored_key same ∙ frame_again of.1 counts in
     let zero = room-granted found.key slice (rw same of.1.passed) (rw again room) in
     let written = granted-written found.key slice w zero in

@@ -49,10 +49,6 @@ pub front-taken : (p : Profile) {head : List ℕ} → head ≡ 7 ∷ p.shape.cha
 unfolding to_bytes
 front-taken p e = ap (take (field_place seed_field)) e
 
-pub front_long : (p : Profile) → length (front_bytes p) ≡ field_place seed_field
-unfolding to_bytes
-front_long p = refl
-
 -- what stands in front of the last bytes
 pub front-written : (p : Profile) (seed secret o : List ℕ) {o₁ o₂ o₃ : List ℕ} → length seed ≡ 16 → length secret ≡ 16
     → o₁ ≡ take 0 o ++ hex_of (front_bytes p) ++ drop (0 + 2 * length (front_bytes p)) o
@@ -65,10 +61,6 @@ front-written p seed secret o seed_long secret_long e₁ e₂ e₃ =
     let second = rw seed_long at (bytes-behind front seed o (2 * field_place seed_field) refl e₁ e₂) in
     let long : 2 * length (front ++ seed) ≡ 2 * field_place secret_field = omega (arith, length-append front seed) in
     bytes-behind (front ++ seed) secret o (2 * field_place secret_field) long second e₃ ∙ rw secret_long
-
-pub last-long : (next : ℕ) (mark : Bool) (edition : ℕ) → length (last_bytes next mark edition) ≡ last_length + length (edition_byte edition)
-unfolding to_bytes
-last-long next mark edition = omega arith
 
 -- the last bytes of edition 2, as far as another edition has them
 pub last_taken : (next : ℕ) (mark : Bool) (edition count : ℕ) {last : List ℕ} → count ≡ last_length + length (edition_byte edition) → last ≡ last_bytes next mark 2
@@ -145,9 +137,9 @@ module _ (key : SigningKey) (frame : List ℕ) where
         let some = refused-number o (write_key_code key frame) r answer q in
         record { code = answer; bytes = rw some; written = rw some }
 
-    pub key-written : {frame' : List ℕ} {end : ℕ} → outcome_code o ≡ 0 → end ≡ length (stored_key key) → frame' ≡ stored_key key ++ drop end frame
+    pub key_written : {frame' : List ℕ} {end : ℕ} → outcome_code o ≡ 0 → end ≡ length (stored_key key) → frame' ≡ stored_key key ++ drop end frame
         → WritesKey key frame frame' (record { outcome = o; length = end })
     unfolding bytes_written frame_after
-    key-written zero e w =
+    key_written zero e w =
         let none : write_key_code key frame ≡ 0 = sym answer ∙ zero in
         record { code = answer; bytes = rw none e; written = rw none (w ∙ rw e) }

@@ -1,5 +1,6 @@
 // The stored key (document 02, point 5): one frame of kind 07, written and read.
 #![tactic(auto)]
+
 mod fields;
 mod reader;
 mod writer;

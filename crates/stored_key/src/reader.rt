@@ -16,7 +16,7 @@ use refusal::{Outcome, Refusal};
 use signing_key::{Counter, SigningKey, mark_stands};
 
 // What Read key answers: refused, the line is 1 and the key is all zero.
-#[derive(Drop)]
+#[derive(Clone, Copy)]
 pub struct KeyRead {
     pub outcome: Outcome,
     pub line: u32,

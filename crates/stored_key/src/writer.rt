@@ -17,7 +17,7 @@ use refusal::{Outcome, Refusal};
 use signing_key::{Counter, SigningKey, mark_stands};
 
 // What Write key answers: refused, no byte is written.
-#[derive(Drop)]
+#[derive(Clone, Copy)]
 pub struct KeyWritten {
     pub outcome: Outcome,
     pub length: usize,

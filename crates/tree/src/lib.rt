@@ -1,5 +1,6 @@
 // The tree over the leaf keys: nodes, the way up from a leaf, the root from what a signature shows, and Root.
 #![tactic(auto)]
+
 ghost use Rattle.std.specs.Prelude.{◌≡◌, ◌++◌, ◌+◌, ◌-◌, ◌*◌, ◌^◌, ◌≤◌, ◌<◌, length, take, drop};
 ghost use Rattle.tweak.specs.Tweak.{Seeded};
 ghost use Rattle.chains.specs.Leaves.{ChainsFit, leaf_key, steps_left};
@@ -16,21 +17,21 @@ use refusal::Outcome;
 use tweak::{Hasher, Leaf, first_hasher};
 
 // What Root answers. Refused, the root is zero.
-#[derive(Drop)]
+#[derive(Clone, Copy)]
 pub struct TreeRoot {
     pub outcome: Outcome,
     pub root: [u8; 16],
 }
 
 // The siblings on the way up from a leaf, from the bottom, and the root above them. A tree has at most ten heights.
-#[derive(Drop)]
+#[derive(Clone, Copy)]
 pub struct Way {
     pub siblings: [u8; 160],
     pub root: [u8; 16],
 }
 
 // The root that values and siblings lead to, and the chain steps made on the way.
-#[derive(Drop)]
+#[derive(Clone, Copy)]
 pub struct RootFound {
     pub root: [u8; 16],
     pub steps: u32,

@@ -1,34 +1,38 @@
 // The running hash from a state that a caller hands in, which the C interface does not have.
 use super::input::word;
 use super::output::{decimal, hex, outcome_is};
+use super::streams::Streams;
 use sha256::Hash;
 use sha256_block::HashWords;
+use std::io;
 
 // Two pieces, one after the other; what the state then holds, and the digest.
-pub fn hash(one: &[u8], two: &[u8]) {
-    let last = add(add(state(), one), two);
-    state_is(b", total ", last);
+pub fn hash(s: &mut Streams, one: &[u8], two: &[u8]) -> io::Result<()> {
+    let start = state(s)?;
+    let first = add(s, start, one)?;
+    let last = add(s, first, two)?;
+    state_is(s, b", total ", last)?;
     let finished = last.finish();
-    state_is(b", finished: total ", finished);
+    state_is(s, b", finished: total ", finished)?;
     let digest = finished.digest();
-    hex(b", digest ", &digest);
+    hex(s, b", digest ", &digest)
 }
 
-fn add(hash: Hash, piece: &[u8]) -> Hash {
+fn add(s: &mut Streams, hash: Hash, piece: &[u8]) -> io::Result<Hash> {
     let a = hash.add(piece);
     let outcome = a.outcome;
     let after = a.hash;
-    outcome_is(outcome);
-    after
+    outcome_is(s, outcome)?;
+    Ok(after)
 }
 
 // The start, or a state that no run reaches, at any total: every byte of its block is 0xA5, also where nothing is pending.
-fn state() -> Hash {
-    if word() == 0 {
-        return Hash::start();
+fn state(s: &mut Streams) -> io::Result<Hash> {
+    if word(s)? == 0 {
+        return Ok(Hash::start());
     }
-    let total = word();
-    Hash {
+    let total = word(s)?;
+    Ok(Hash {
         words: HashWords {
             a: 0x01234567,
             b: 0x89abcdef,
@@ -41,12 +45,12 @@ fn state() -> Hash {
         },
         block: [0xa5; 64],
         total: (total % 65536) as u16,
-    }
+    })
 }
 
-fn state_is(label: &[u8], hash: Hash) {
+fn state_is(s: &mut Streams, label: &[u8], hash: Hash) -> io::Result<()> {
     let total = hash.total;
     let block = hash.block;
-    decimal(label, total as u32);
-    hex(b", block ", &block);
+    decimal(s, label, total as u32)?;
+    hex(s, b", block ", &block)
 }

@@ -1,41 +1,43 @@
 // What is read. Bytes that are missing count as 0.
-ghost use Rattle.std.specs.Prelude.{◌≤◌};
+ghost use Rattle.std.specs.Prelude.{◌≤◌, IfOk};
 
+use super::streams::{Streams, read_full};
 use octets::word_at;
 use profile::{Profile, Shape};
+use std::io;
 
-pub fn word() -> u32 {
+pub fn word(s: &mut Streams) -> io::Result<u32> {
     let mut bytes = [0u8; 4];
-    io::read_full(0, &mut bytes);
-    word_at(&bytes, 0)
+    read_full(s, &mut bytes)?;
+    Ok(word_at(&bytes, 0))
 }
 
 // A length, and no more than there are.
-pub fn length(most: usize) -> usize
-    ensures { result ≤ most }
+pub fn length(s: &mut Streams, most: usize) -> io::Result<usize>
+    ensures { IfOk result (λ n. n ≤ most) }
 {
-    let n = word() as usize;
-    if n < most { n } else { most }
+    let n = word(s)? as usize;
+    Ok(if n < most { n } else { most })
 }
 
-pub fn value() -> [u8; 16] {
+pub fn value(s: &mut Streams) -> io::Result<[u8; 16]> {
     let mut bytes = [0u8; 16];
-    io::read_full(0, &mut bytes);
-    bytes
+    read_full(s, &mut bytes)?;
+    Ok(bytes)
 }
 
-pub fn number() -> [u32; 5] {
-    [word(), word(), word(), word(), word()]
+pub fn number(s: &mut Streams) -> io::Result<[u32; 5]> {
+    Ok([word(s)?, word(s)?, word(s)?, word(s)?, word(s)?])
 }
 
-pub fn profile() -> Profile {
-    Profile {
+pub fn profile(s: &mut Streams) -> io::Result<Profile> {
+    Ok(Profile {
         shape: Shape {
-            chains: word(),
-            width: word(),
-            sum: word(),
+            chains: word(s)?,
+            width: word(s)?,
+            sum: word(s)?,
         },
-        height: word(),
-        edition: word(),
-    }
+        height: word(s)?,
+        edition: word(s)?,
+    })
 }

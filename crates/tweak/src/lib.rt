@@ -1,5 +1,6 @@
 // Addresses (FIPS 205) and the tweaked hash.
 #![tactic(auto)]
+
 ghost use Rattle.std.specs.Prelude.{◌≡◌, ◌++◌, take};
 ghost use Rattle.sha256.specs.Digest.{padding, word_bytes};
 ghost use Rattle.sha256.specs.Running.{add_state, finished, hashed};
@@ -11,7 +12,7 @@ use sha256::{Hash, put};
 use sha256_block::{HashWords, compress, initial};
 
 // What the hashes of one tree share (FIPS 205: PK.seed and the first two fields of an address).
-#[derive(Drop)]
+#[derive(Clone, Copy)]
 pub struct Domain {
     pub seed: [u8; 16],
     pub layer: u8,
@@ -19,21 +20,21 @@ pub struct Domain {
 }
 
 // A domain with the hash value after its seed's block, which every tweaked hash of the domain goes on from.
-#[derive(Drop)]
+#[derive(Clone, Copy)]
 pub struct Hasher {
     pub domain: Domain,
     pub words: HashWords,
 }
 
 // Leaf, chain and height numbers have the same width; each is a type of its own, so that none can stand in another's field.
-#[derive(Drop)]
+#[derive(Clone, Copy)]
 pub struct Leaf(pub u32);
 
-#[derive(Drop)]
+#[derive(Clone, Copy)]
 pub struct Chain(pub u32);
 
 // The height of a place in a chain.
-#[derive(Drop)]
+#[derive(Clone, Copy)]
 pub struct Height(pub u32);
 
 // The 22 bytes of an address.

@@ -15,7 +15,7 @@ use Rattle.refusal.proofs.Causes.{Avoids, none_here, refused-number, code-kept, 
 use Rattle.profile.specs.Checks.{InLimits, leaf_beyond}
 use Rattle.profile.specs.declared.Shape.{Shape}
 use Rattle.signature.specs.Signature.{outside_text, signature_length, leaf_in, random_in, values_in, siblings_in}
-use Rattle.signature.proofs.Fits.{short-text}
+use Rattle.signature.proofs.Fits.{short_text}
 use Rattle.counts.specs.Counts.{count}
 use Rattle.counts.specs.Table.{table_length, table_causes, leaves_table}
 use Rattle.counts.specs.inner.Filling.{FillsPast}
@@ -177,7 +177,7 @@ module _ (v : Verifier) (call : VerifyingCall) {n m : ℕ} (checked : n ≡ firs
       record {
         limits = within.limits;
         low = within.low;
-        short = short-text (length message) text.0;
+        short = short_text (length message) text.0;
         long = eqb-true (length signature) (signature_length v.profile) (not-false exact long.0);
         free = (none_here (passed v.window (leaf_in signature)) 14 [] refl leaf.1).0;
         held = table-held shape call.work (rw q at fills.table);

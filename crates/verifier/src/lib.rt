@@ -1,5 +1,6 @@
 // The checking cabinet: Check.
 #![tactic(auto)]
+
 ghost use Rattle.std.specs.Prelude.{◌≡◌, false, cond, ◌≤◌, eqb, length, take};
 ghost use Rattle.refusal.specs.Code.{outcome_code, then_first};
 ghost use Rattle.numbers.specs.Number.{value};
@@ -29,7 +30,7 @@ use window::{Window, passed, take};
 
 // A cabinet (document 01; document 02, point 4): its profile, the public seed, the root, and the window over the leaves that
 // it has accepted.
-#[derive(Drop)]
+#[derive(Clone, Copy)]
 pub struct Verifier {
     pub profile: Profile,
     pub seed: [u8; 16],
@@ -38,7 +39,7 @@ pub struct Verifier {
 }
 
 // What Check answers, with the cabinet that it hands back and the chain steps made.
-#[derive(Drop)]
+#[derive(Clone, Copy)]
 pub struct Verdict {
     pub outcome: Outcome,
     pub verifier: Verifier,

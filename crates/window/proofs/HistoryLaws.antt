@@ -110,7 +110,7 @@ module _ (before : List ℕ) (w : Window) (leaf : ℕ) (was : History before w) 
 
         now : (eqb x leaf ≡ true) ⊎ (leb (x + 32) leaf ≡ true) → PassedBy accepted x
         now (inl same) = inl (Memᴰ.cast (eqb-true x leaf same) own)
-        now (inr far) = inr (leaf, own, leb-true (x + 32) leaf far)
+        now (inr far) = inr (leaf, own, omega (arith, leb-true (x + 32) leaf far))
 
         by : (passed w x ≡ true) ⊎ (behind leaf x ≡ true) → PassedBy accepted x
         by (inl e) = earlier ((was.passes x).0 e)

@@ -1,10 +1,11 @@
 // The window over the leaves: which ones a cabinet still takes, and what it keeps of those that it took.
 #![tactic(auto)]
+
 ghost use Rattle.std.specs.Prelude.{◌≡◌, false, ◌<◌};
 ghost use Rattle.window.specs.Window as spec;
 
 // The highest accepted leaf, and 32 marks: bit i says that the leaf i below the highest was accepted.
-#[derive(Drop)]
+#[derive(Clone, Copy)]
 pub struct Window {
     pub highest: u32,
     pub marks: u32,

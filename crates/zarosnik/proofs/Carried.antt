@@ -93,20 +93,20 @@ module _ {p q : Profile} (e : p ≡ q) {r : ℕ} where
       → RecoverCall q seed leaf number values work work' a.key a.steps r
   recover_call {seed} {leaf} {number} {values} {work} {work'} {a} h n =
       subst (λ (s : Profile). RecoverCall s seed leaf number values work work' a.key a.steps r) e
-      (record { answer = a; recovers = h; returned = n; key-written = refl; steps-written = refl })
+      (record { answer = a; recovers = h; returned = n; key_written = refl; steps_written = refl })
 
   pub read-sheet-call : {sheet signature message signature' message' : List ℕ} {a : SheetRead}
       → ReadsSheet p sheet signature message signature' message' a → r ≡ outcome_code a.outcome
       → ReadSheetCall q sheet signature message signature' message' a.length a.line r
   read-sheet-call {sheet} {signature} {message} {signature'} {message'} {a} h n =
       subst (λ (s : Profile). ReadSheetCall s sheet signature message signature' message' a.length a.line r) e
-      (record { answer = a; reads = h; returned = n; length-written = refl; line-written = refl })
+      (record { answer = a; reads = h; returned = n; length_written = refl; line_written = refl })
 
-  pub write_sheet-call : {signature message sheet sheet' : List ℕ} {a : SheetWritten}
+  pub write_sheet_call : {signature message sheet sheet' : List ℕ} {a : SheetWritten}
       → WritesSheet p signature message sheet sheet' a → r ≡ outcome_code a.outcome → WriteSheetCall q signature message sheet sheet' a.length r
-  write_sheet-call {signature} {message} {sheet} {sheet'} {a} h n =
+  write_sheet_call {signature} {message} {sheet} {sheet'} {a} h n =
       subst (λ (s : Profile). WriteSheetCall s signature message sheet sheet' a.length r) e
-      (record { answer = a; writes = h; returned = n; length-written = refl })
+      (record { answer = a; writes = h; returned = n; length_written = refl })
 
   pub reserve-call : {next mark mark' : ℕ} {c : Counter} {a : Reserved} → Reserves p c a → c ≡ counter_of next mark → r ≡ outcome_code a.outcome
       → mark' ≡ mark_left (outcome_code a.outcome) mark a.counter.mark
@@ -117,8 +117,8 @@ module _ {p q : Profile} (e : p ≡ q) {r : ℕ} where
         answer = a;
         reserves = rw f at h;
         returned = n;
-        next-written = refl;
-        mark-written = m ∙ ap (λ k. mark_left k mark a.counter.mark) (sym n);
+        next_written = refl;
+        mark_written = m ∙ ap (λ k. mark_left k mark a.counter.mark) (sym n);
       })
 
   pub verify_call : {seed root : List ℕ} {highest marks : ℕ} {call : VerifyingCall} {work' : List ℕ} {a : Verdict}
@@ -133,8 +133,8 @@ module _ {p q : Profile} (e : p ≡ q) {r : ℕ} where
         answer = a;
         verifies = h;
         returned = n;
-        verifier-kept = only_window v a.verifier (leaf_in call.signature) (eqb (verify_code v call) 0) h.verifier;
-        steps-written = refl;
+        verifier_kept = only_window v a.verifier (leaf_in call.signature) (eqb (verify_code v call) 0) h.verifier;
+        steps_written = refl;
       })
 
 -- a key of a profile that is named by numbers
@@ -144,10 +144,10 @@ key_of {seed} {secret} {c} e f = f ∙ ap (λ (s : Profile). key_with s seed sec
 
 -- of a key
 module _ {k key : SigningKey} (e : k ≡ key) {r : ℕ} where
-  pub write_key-call : {frame frame' : List ℕ} {a : KeyWritten} → WritesKey k frame frame' a → r ≡ outcome_code a.outcome
+  pub write_key_call : {frame frame' : List ℕ} {a : KeyWritten} → WritesKey k frame frame' a → r ≡ outcome_code a.outcome
       → WriteKeyCall key frame frame' a.length r
-  write_key-call {frame} {frame'} {a} h n =
-      subst (λ (x : SigningKey). WriteKeyCall x frame frame' a.length r) e (record { answer = a; writes = h; returned = n; length-written = refl })
+  write_key_call {frame} {frame'} {a} h n =
+      subst (λ (x : SigningKey). WriteKeyCall x frame frame' a.length r) e (record { answer = a; writes = h; returned = n; length_written = refl })
 
   pub sign-call : {call : SigningCall} {work' out' : List ℕ} {mark mark' : ℕ} {a : Signed} → Signs k call work' out' a → r ≡ outcome_code a.outcome
       → mark' ≡ mark_left (outcome_code a.outcome) mark a.key.counter.mark → SignCall key call work' out' mark mark' r
@@ -158,6 +158,6 @@ module _ {k key : SigningKey} (e : k ≡ key) {r : ℕ} where
         answer = a;
         signs = h;
         returned = n;
-        mark-written = m ∙ ap (λ c. mark_left c mark a.key.counter.mark) (sym n);
-        key-kept = only_mark k a.key (eqb (sign_code k call) 0) h.key';
+        mark_written = m ∙ ap (λ c. mark_left c mark a.key.counter.mark) (sym n);
+        key_kept = only_mark k a.key (eqb (sign_code k call) 0) h.key';
       })

@@ -101,8 +101,8 @@ pub record CompareCall (first second : List ℕ) (order' looked' r : ℕ) : Type
   pub answer : Compared
   pub compares : Compares first second answer
   pub returned : r ≡ 0
-  pub order-written : order' ≡ order_code answer.order
-  pub looked-written : looked' ≡ answer.looked
+  pub order_written : order' ≡ order_code answer.order
+  pub looked_written : looked' ≡ answer.looked
 
 -- Leaf key
 pub record LeafKeyCall (p : Profile) (seed secret : List ℕ) (leaf : ℕ) (key' : List ℕ) (r : ℕ) : Type 0 where
@@ -129,54 +129,54 @@ pub record RecoverCall (p : Profile) (seed : List ℕ) (leaf : ℕ) (number valu
   pub answer : Recovered
   pub recovers : Recovers p seed leaf (value number) values work work' answer
   pub returned : r ≡ outcome_code answer.outcome
-  pub key-written : key' ≡ answer.key
-  pub steps-written : steps' ≡ answer.steps
+  pub key_written : key' ≡ answer.key
+  pub steps_written : steps' ≡ answer.steps
 
 -- Reserve: next leaf and mark are written back
 pub record ReserveCall (p : Profile) (next mark next' mark' code : ℕ) : Type 0 where
   pub answer : Reserved
   pub reserves : Reserves p (counter_of next mark) answer
   pub returned : code ≡ outcome_code answer.outcome
-  pub next-written : next' ≡ answer.counter.next
-  pub mark-written : mark' ≡ mark_left code mark answer.counter.mark
+  pub next_written : next' ≡ answer.counter.next
+  pub mark_written : mark' ≡ mark_left code mark answer.counter.mark
 
 -- Sign: the mark is written back, and the rest of the key that comes back is the rest of the key given
 pub record SignCall (key : SigningKey) (call : SigningCall) (work' out' : List ℕ) (mark mark' code : ℕ) : Type 0 where
   pub answer : Signed
   pub signs : Signs key call work' out' answer
   pub returned : code ≡ outcome_code answer.outcome
-  pub mark-written : mark' ≡ mark_left code mark answer.key.counter.mark
-  pub key-kept : answer.key ≡ recounted key (record { next = key.counter.next; mark = answer.key.counter.mark })
+  pub mark_written : mark' ≡ mark_left code mark answer.key.counter.mark
+  pub key_kept : answer.key ≡ recounted key (record { next = key.counter.next; mark = answer.key.counter.mark })
 
 -- Check: the highest leaf and the marks are written back, and the rest of the cabinet that comes back is the rest of the cabinet given
 pub record VerifyCall (v : Verifier) (call : VerifyingCall) (work' : List ℕ) (highest' marks' steps' code : ℕ) : Type 0 where
   pub answer : Verdict
   pub verifies : Verifies v call work' answer
   pub returned : code ≡ outcome_code answer.outcome
-  pub verifier-kept : answer.verifier ≡ verifier_of v.profile v.seed v.root highest' marks'
-  pub steps-written : steps' ≡ answer.steps
+  pub verifier_kept : answer.verifier ≡ verifier_of v.profile v.seed v.root highest' marks'
+  pub steps_written : steps' ≡ answer.steps
 
 -- Read sheet
 pub record ReadSheetCall (p : Profile) (sheet signature message signature' message' : List ℕ) (written' line' r : ℕ) : Type 0 where
   pub answer : SheetRead
   pub reads : ReadsSheet p sheet signature message signature' message' answer
   pub returned : r ≡ outcome_code answer.outcome
-  pub length-written : written' ≡ answer.length
-  pub line-written : line' ≡ answer.line
+  pub length_written : written' ≡ answer.length
+  pub line_written : line' ≡ answer.line
 
 -- Write sheet
 pub record WriteSheetCall (p : Profile) (signature message sheet sheet' : List ℕ) (written' r : ℕ) : Type 0 where
   pub answer : SheetWritten
   pub writes : WritesSheet p signature message sheet sheet' answer
   pub returned : r ≡ outcome_code answer.outcome
-  pub length-written : written' ≡ answer.length
+  pub length_written : written' ≡ answer.length
 
 -- Write key
 pub record WriteKeyCall (key : SigningKey) (frame frame' : List ℕ) (written' r : ℕ) : Type 0 where
   pub answer : KeyWritten
   pub writes : WritesKey key frame frame' answer
   pub returned : r ≡ outcome_code answer.outcome
-  pub length-written : written' ≡ answer.length
+  pub length_written : written' ≡ answer.length
 
 -- Read key: the profile as l, w, s, h, edition
 pub record ReadKeyCall (frame fields' seed' secret' : List ℕ) (next' mark' line' r : ℕ) : Type 0 where
@@ -186,6 +186,6 @@ pub record ReadKeyCall (frame fields' seed' secret' : List ℕ) (next' mark' lin
   pub fields_written : fields' ≡ numbers_of answer.key.profile
   pub seed_written : seed' ≡ answer.key.seed
   pub secret_written : secret' ≡ answer.key.secret
-  pub next-written : next' ≡ answer.key.counter.next
-  pub mark-written : mark' ≡ mark_word answer.key.counter.mark
-  pub line-written : line' ≡ answer.line
+  pub next_written : next' ≡ answer.key.counter.next
+  pub mark_written : mark' ≡ mark_word answer.key.counter.mark
+  pub line_written : line' ≡ answer.line
