@@ -2,6 +2,7 @@
 // proved only with
 // the claim as it is stated, in specs/ here or of the crate that has the definitions.
 #![tactic(auto)]
+
 ghost use Rattle.numbers.specs.Order.{HighestDecides, WalkEnds};
 ghost use Rattle.sha256_block.specs.Constants.{RootWords};
 ghost use Rattle.sha256.specs.Running.{RunningHash};

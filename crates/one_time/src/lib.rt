@@ -1,5 +1,6 @@
 // The one-time signatures of a leaf: Leaf key, Reveal and Recover.
 #![tactic(auto)]
+
 ghost use Rattle.std.specs.Prelude.{◌≡◌, false, length};
 ghost use Rattle.refusal.specs.Code.{code, outcome_code, then_first};
 ghost use Rattle.numbers.specs.Number.{value};

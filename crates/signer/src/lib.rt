@@ -1,5 +1,6 @@
 // Sign: the signature of a message, with the leaf that the key has marked.
 #![tactic(auto)]
+
 ghost use Rattle.std.specs.Prelude.{◌≡◌, ◌*◌, ◌≤◌, take};
 ghost use Rattle.refusal.specs.Code.{outcome_code, then_first};
 ghost use Rattle.profile.specs.Checks.{InLimits};

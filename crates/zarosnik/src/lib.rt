@@ -3,6 +3,7 @@
 // `next`, `highest` and `written` are the header's `data`, `public_seed`, `secret_seed`, `next_leaf`, `highest_leaf` and `message_written`,
 // and `length` is its `sheet_written` or `frame_written`. `profile` is a function here: `fields` is the header's `profile`.
 #![tactic(auto)]
+
 ghost use Rattle.std.specs.Prelude.{◌≡◌, cond, eqb, List, ℕ, replicate};
 ghost use Rattle.refusal.specs.Code.{outcome_code};
 ghost use Rattle.sha256.specs.Digest.{digest as digestOf};
