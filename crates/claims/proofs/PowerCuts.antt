@@ -14,7 +14,7 @@ use Rattle.refusal.specs.Code.{first_cause}
 use Rattle.profile.specs.Checks.{profile_causes}
 use Rattle.profile.specs.declared.Profile.{Profile}
 use Rattle.profile.proofs.Limits.{profile-passed, leaves-few}
-use Rattle.signing_key.specs.Counter.{reserved, cleared, counter_after}
+use Rattle.signing_key.specs.Counter.{cleared, counter_after}
 use Rattle.signing_key.specs.Operations.{reserve_code}
 use Rattle.signing_key.specs.Key.{fresh_key, reserved_key}
 use Rattle.signing_key.specs.declared.Counter.{Counter}

@@ -39,7 +39,9 @@ fn sign_outcome(checked: Outcome, key: SigningKey, text: usize, bytes: usize) ->
         .then(unmarked, Refusal::NoMark)
 }
 
-// Makes a signature: the leaf, R, the values that the codeword shows, and the siblings. The longest has 820 bytes.
+// Makes a signature: the leaf, R, the values that the codeword shows, and the siblings. The longest has 820 bytes. What it is made in
+// is not on the stack while the tree is hashed.
+#[inline(never)]
 fn make_signature(
     hasher: Hasher,
     p: Profile,

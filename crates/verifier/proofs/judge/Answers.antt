@@ -1,5 +1,5 @@
 -- Refused before the chains, or decided by the recovered root.
-use Rattle.std.proofs.Common.{◌≡◌, ℕ, Bool, false, not, List, sym, ap, ◌∙◌}
+use Rattle.std.proofs.Common.{◌≡◌, ℕ, Bool, false, not, List, ap, ◌∙◌}
 use Rattle.refusal.specs.Code.{outcome_code, then_code}
 use Rattle.refusal.specs.declared.Outcome.{Outcome}
 use Rattle.refusal.specs.declared.Outcome.TheVariants.{Granted}
