@@ -1,11 +1,11 @@
-"""What every test begins with. Each folder has this file, by a link; a test that imports it first can
-import from all folders. Their modules have names of their own.
+"""What every test begins with. Each folder with tests has a copy of this file; a test that imports it
+first can import from all folders. Their modules have names of their own.
 """
 
 import sys
 from pathlib import Path
 
-TESTS = Path(__file__).resolve().parent
+TESTS = next(folder for folder in Path(__file__).resolve().parents if folder.name == "tests")
 ROOT = TESTS.parent
 sys.path += [str(folder) for folder in sorted(TESTS.iterdir()) if folder.is_dir()]
 
