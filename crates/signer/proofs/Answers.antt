@@ -34,9 +34,8 @@ use Rattle.codewords.proofs.TableOperation.{early-code, none_before, answer-afte
 use Rattle.tweak.specs.Tweak.{first_domain}
 use Rattle.tweak.specs.declared.Domain.{Domain}
 use Rattle.chains.specs.Leaves.{chains_of, revealed}
-use Rattle.chains.specs.declared.Chains.{Chains}
 use Rattle.chains.proofs.RowFront.{revealed-front}
-use Rattle.tree.specs.Tree.{root_at, root_of, siblings_of}
+use Rattle.tree.specs.Tree.{root_of, siblings_of}
 use Rattle.message.specs.Message.{message_number, count_too_small}
 use Rattle.message.proofs.NumberLaws.{number_fits}
 use Rattle.signer.specs.Signing.{leaf_to_sign, key_number, signature_of, key_signature}
@@ -44,11 +43,11 @@ use Rattle.signer.specs.inner.Making.{ReadyToSign}
 use Rattle.signer.specs.Operations.{SigningCall, sign_causes, sign_code, key_after, output_after, Signs}
 
 -- the message number, with the root that the key's seeds give
-pub number_is : (key : SigningKey) (r message : List ℕ) {d : Domain} {chains : Chains} {root : List ℕ} {n : ℕ} → d ≡ first_domain key.seed
-    → chains ≡ chains_of key.profile.shape → root ≡ root_at d chains key.secret key.profile.height
+pub number_is : (key : SigningKey) (r message : List ℕ) {d : Domain} {root : List ℕ} {n : ℕ} → d ≡ first_domain key.seed
+    → root ≡ root_of d key.profile key.secret
     → n ≡ message_number key.profile (leaf_to_sign key) r key.seed root message → n ≡ key_number key r message
 unfolding key_number
-number_is key r message domain all above e = e ∙ rw (above, domain, all)
+number_is key r message domain above e = e ∙ rw (above, domain)
 
 -- below the count, where that is not too small
 pub key-number-fits : (key : SigningKey) (r message : List ℕ) → count_too_small (count key.profile.shape) ≡ false
@@ -59,18 +58,18 @@ key-number-fits key r message =
 
 -- the codeword in the row, in front of what else it has, and the signature made of it
 pub signature-is : (key : SigningKey) (r message : List ℕ) → count_too_small (count key.profile.shape) ≡ false
-    → (more made : List ℕ) {d : Domain} {chains : Chains} {row siblings : List ℕ} {k : ℕ} → d ≡ first_domain key.seed
-    → chains ≡ chains_of key.profile.shape → k ≡ key_number key r message → row ≡ row_of key.profile.shape k ++ more
-    → siblings ≡ siblings_of d chains key.secret key.profile.height (leaf_to_sign key)
+    → (more made : List ℕ) {d : Domain} {row siblings : List ℕ} {k : ℕ} → d ≡ first_domain key.seed
+    → k ≡ key_number key r message → row ≡ row_of key.profile.shape k ++ more
+    → siblings ≡ siblings_of d (chains_of key.profile.shape) key.secret key.profile.height (leaf_to_sign key)
     → take (signature_length key.profile) made
     ≡ joined_parts (leaf_to_sign key) r (revealed d (chains_of key.profile.shape) key.secret (leaf_to_sign key) row) siblings
     → take (signature_length key.profile) made ≡ key_signature key r message
 unfolding key_signature signature_of
-signature-is key r message large more made {d} {chains} {row} domain all number placed way parts =
+signature-is key r message large more made {d} {row} domain number placed way parts =
     let shape = key.profile.shape in
     let n = key_number key r message in
     let front : take shape.chains row ≡ row_of shape n = rw (placed, number) (row_front shape n (key-number-fits key r message large) more) in
-    parts ∙ rw (revealed-front (chains_of shape) row front d key.secret (leaf_to_sign key), way, all, domain)
+    parts ∙ rw (revealed-front (chains_of shape) row front d key.secret (leaf_to_sign key), way, domain)
 
 -- the causes before 19: those of the table, then those of the order
 module _ (key : SigningKey) (call : SigningCall) {n m : ℕ} (checked : n ≡ first_cause (table_causes key.profile (length call.work)))

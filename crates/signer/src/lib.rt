@@ -1,11 +1,13 @@
 // Sign: the signature of a message, with the leaf that the key has marked.
 #![tactic(auto)]
 
-ghost use Rattle.std.specs.Prelude.{◌≡◌, ◌*◌, ◌≤◌, take};
+ghost use Rattle.std.specs.Prelude.{◌≡◌, ◌++◌, ◌*◌, ◌^◌, ◌≤◌, ◌<◌, length, take, drop};
 ghost use Rattle.refusal.specs.Code.{outcome_code, then_first};
+ghost use Rattle.octets.specs.Bytes.{to_bytes};
 ghost use Rattle.profile.specs.Checks.{InLimits};
 ghost use Rattle.tweak.specs.Tweak.{Seeded};
 ghost use Rattle.chains.specs.Leaves.{chains_of, revealed};
+ghost use Rattle.tree.specs.Tree.{root_of, siblings_of};
 ghost use Rattle.signature.specs.Signature.{joined_parts, signature_length};
 ghost use Rattle.signer.specs.Signing.{key_signature};
 ghost use Rattle.signer.specs.Operations.{SigningCall, sign_causes, Signs};
@@ -21,7 +23,7 @@ use profile::Profile;
 use refusal::{Outcome, Refusal};
 use signature::{outside_text, signature_length};
 use signing_key::{SigningKey, clear, mark_stands, with_counter};
-use tree::way_up;
+use tree::Way;
 use tweak::{Hasher, Leaf, first_hasher};
 
 // The causes of Sign between 5 and 19, behind an outcome.
@@ -37,6 +39,27 @@ fn sign_outcome(checked: Outcome, key: SigningKey, text: usize, bytes: usize) ->
         .then(outside, Refusal::MessageLength)
         .then(short, Refusal::OutputTooShort)
         .then(unmarked, Refusal::NoMark)
+}
+
+// Writes the four bytes of a leaf's number at the front.
+fn write_leaf(out: &mut [u8], leaf: u32)
+    requires { 4 ≤ length out.old }
+    ensures { out.new ≡ to_bytes 4 leaf ++ drop 4 out.old }
+{
+    write_word(out, 0, leaf);
+}
+
+// The way up from a leaf of the tree of a profile.
+fn way_up(hasher: Hasher, p: Profile, secret: &[u8; 16], leaf: u32) -> Way
+    requires seeded { Seeded hasher }
+    requires in_limits { InLimits p.shape × (p.height ≤ 10) × (leaf < 2 ^ p.height) }
+    ensures siblings { take (16 * p.height) result.siblings ≡ siblings_of hasher.domain (chains_of p.shape) secret.now p.height leaf }
+    ensures root { result.root ≡ root_of hasher.domain p secret.now }
+{
+    let shape = p.shape;
+    let chains = chains_of(shape);
+    let height = p.height;
+    tree::way_up(hasher, chains, secret, height, leaf)
 }
 
 // Makes a signature: the leaf, R, the values that the codeword shows, and the siblings. The longest has 820 bytes. What it is made in
@@ -62,7 +85,7 @@ fn make_signature(
     let count = shape.chains;
     let height = p.height;
     let mut made = [0u8; 820];
-    write_word(&mut made, 0, leaf);
+    write_leaf(&mut made, leaf);
     write_16(&mut made, 4, r);
     write_values(hasher, chains, secret, Leaf(leaf), row, &mut made, 20);
     copy(
@@ -87,14 +110,12 @@ fn key_signature(
 {
     let p = key.profile;
     let shape = p.shape;
-    let chains = chains_of(shape);
-    let height = p.height;
     let seed = key.seed;
     let secret = key.secret;
     let counter = key.counter;
     let leaf = counter.next - 1;
     let hasher = first_hasher(seed);
-    let way = way_up(hasher, chains, &secret, height, leaf);
+    let way = way_up(hasher, p, &secret, leaf);
     let root = way.root;
     let number = message_number(p, count, leaf, r, seed, root, message);
     let mut row = [0u8; 40];

@@ -2,16 +2,17 @@
 use mathlib.Core.Path.{◌≡◌, refl, sym, ap, ◌∙◌}
 use mathlib.Core.Bool.{Bool, cond}
 use mathlib.Core.List.{List, [], ◌∷◌, ◌++◌, append_assoc}
-use Prim.Native.Nat.{ℕ, ◌+◌, ◌*◌, ◌^◌, ◌≤◌}
+use Prim.Native.Nat.{ℕ, ◌+◌, ◌*◌, ◌^◌, ◌≤◌, ◌<◌}
 use native.Mathlib.Omega.{arith}
-use borrow.Author.Tests.{le-ltb, ltb-false}
+use borrow.Author.Tests.{lt-ltb, le-ltb}
 use lib.Dec.{ltb}
 use lib.ListN.{length, take, drop, length-append}
-use Rattle.refusal.specs.Code.{outcome_code, first_cause, then_code}
+use Rattle.refusal.specs.Code.{outcome_code, first_cause}
 use Rattle.refusal.specs.declared.Refusal.{Refusal}
+use Rattle.refusal.specs.declared.Refusal.TheVariants.{OutputTooShort}
 use Rattle.refusal.specs.declared.Outcome.{Outcome}
-use Rattle.refusal.specs.declared.Outcome.TheVariants.{Refused}
-use Rattle.refusal.proofs.Causes.{none_then, none-of-append, none_here, refused-number, chain_begins, chain_next}
+use Rattle.refusal.specs.declared.Outcome.TheVariants.{Granted, Refused}
+use Rattle.refusal.proofs.Causes.{none_then, none-of-append, refused_then, refused-some}
 use Rattle.octets.specs.Bytes.{to_bytes}
 use Rattle.lists.proofs.Joins.{written_behind}
 use Rattle.hex_lines.specs.Hex.{hex_of, line_end, line_of}
@@ -49,6 +50,10 @@ pub front-taken : (p : Profile) {head : List ℕ} → head ≡ 7 ∷ p.shape.cha
 unfolding to_bytes
 front-taken p e = ap (take (field_place seed_field)) e
 
+pub front_long : (p : Profile) → length (front_bytes p) ≡ field_place seed_field
+unfolding to_bytes
+front_long p = refl
+
 -- what stands in front of the last bytes
 pub front-written : (p : Profile) (seed secret o : List ℕ) {o₁ o₂ o₃ : List ℕ} → length seed ≡ 16 → length secret ≡ 16
     → o₁ ≡ take 0 o ++ hex_of (front_bytes p) ++ drop (0 + 2 * length (front_bytes p)) o
@@ -61,6 +66,10 @@ front-written p seed secret o seed_long secret_long e₁ e₂ e₃ =
     let second = rw seed_long at (bytes-behind front seed o (2 * field_place seed_field) refl e₁ e₂) in
     let long : 2 * length (front ++ seed) ≡ 2 * field_place secret_field = omega (arith, length-append front seed) in
     bytes-behind (front ++ seed) secret o (2 * field_place secret_field) long second e₃ ∙ rw secret_long
+
+pub last-long : (next : ℕ) (mark : Bool) (edition : ℕ) → length (last_bytes next mark edition) ≡ last_length + length (edition_byte edition)
+unfolding to_bytes
+last-long next mark edition = omega arith
 
 -- the last bytes of edition 2, as far as another edition has them
 pub last_taken : (next : ℕ) (mark : Bool) (edition count : ℕ) {last : List ℕ} → count ≡ last_length + length (edition_byte edition) → last ≡ last_bytes next mark 2
@@ -95,34 +104,21 @@ module _ (key : SigningKey) (seed_long : length key.seed ≡ 16) (secret_long : 
             ∙ ap (λ l. line_of l ++ drop end o) (sym (key_parts (without_idle_mark key))),
       )
 
--- the causes one after another, and the answer behind them
+-- the two answers to a profile within its limits, and the one to another
 module _ (key : SigningKey) (frame : List ℕ) where
   abbrev late : List (Bool × ℕ)
   late = (ltb (length frame) (length (stored_key key)), 6) ∷ []
 
-  pub write_code : {n m : ℕ} {short : Bool} → n ≡ first_cause (profile_causes key.profile) → short ≡ ltb (length frame) (length (stored_key key))
-      → m ≡ then_code n short 6 → m ≡ write_key_code key frame
-  unfolding write_key_code
-  write_code checked means e = (chain_next 6 refl (chain_begins (profile_causes key.profile) (profile-numbered key.profile) checked) means e).answer
-
-  -- granted, none of them holds
-  none-held : write_key_code key frame ≡ 0 → (first_cause (profile_causes key.profile) ≡ 0) × (first_cause late ≡ 0)
-  unfolding write_key_code
-  none-held zero = none-of-append (profile_causes key.profile) late (profile-numbered key.profile) zero
+  pub profile-refused : (o : Outcome) → outcome_code o ≡ first_cause (profile_causes key.profile) → (r : Refusal) → o ≡ Refused r
+      → WritesKey key frame frame (record { outcome = o; length = 0 })
+  unfolding write_key_code bytes_written frame_after
+  profile-refused o e r q =
+      let some = refused-some (profile_causes key.profile) late o e r q in
+      record { code = refused_then (profile_causes key.profile) late o e r q; bytes = rw some; written = rw some }
 
   pub granted-passed : write_key_code key frame ≡ 0 → first_cause (profile_causes key.profile) ≡ 0
-  granted-passed zero = (none-held zero).0
-
-  pub granted-room : write_key_code key frame ≡ 0 → length (stored_key key) ≤ length frame
-  granted-room zero =
-      ltb-false (length frame) (length (stored_key key)) (none_here (ltb (length frame) (length (stored_key key))) 6 [] refl (none-held zero).1).0
-
-  -- and where there is room, none behind the profile's
-  pub room-granted : first_cause (profile_causes key.profile) ≡ 0 → length (stored_key key) ≤ length frame → write_key_code key frame ≡ 0
   unfolding write_key_code
-  room-granted none room =
-      none_then (profile_causes key.profile) late none (profile-numbered key.profile)
-      ∙ rw (le-ltb (length frame) (length (stored_key key)) room)
+  granted-passed zero = (none-of-append (profile_causes key.profile) late (profile-numbered key.profile) zero).0
 
   -- what is left where nothing is refused
   pub granted-written : {frame' : List ℕ} {made : KeyWritten} → WritesKey key frame frame' made → write_key_code key frame ≡ 0
@@ -130,16 +126,24 @@ module _ (key : SigningKey) (frame : List ℕ) where
   unfolding bytes_written frame_after
   granted-written w zero = (rw zero at w.bytes, rw zero at w.written)
 
-  module _ (o : Outcome) (answer : outcome_code o ≡ write_key_code key frame) where
-    pub key-refused : (r : Refusal) → o ≡ Refused r → WritesKey key frame frame (record { outcome = o; length = 0 })
-    unfolding bytes_written frame_after
-    key-refused r q =
-        let some = refused-number o (write_key_code key frame) r answer q in
-        record { code = answer; bytes = rw some; written = rw some }
+  module _ (none : first_cause (profile_causes key.profile) ≡ 0) where
+    code_then : write_key_code key frame ≡ first_cause late
+    unfolding write_key_code
+    code_then = none_then (profile_causes key.profile) late none (profile-numbered key.profile)
 
-    pub key_written : {frame' : List ℕ} {end : ℕ} → outcome_code o ≡ 0 → end ≡ length (stored_key key) → frame' ≡ stored_key key ++ drop end frame
-        → WritesKey key frame frame' (record { outcome = o; length = end })
+    pub no_room : length frame < length (stored_key key) → WritesKey key frame frame (record { outcome = Refused OutputTooShort; length = 0 })
     unfolding bytes_written frame_after
-    key_written zero e w =
-        let none : write_key_code key frame ≡ 0 = sym answer ∙ zero in
-        record { code = answer; bytes = rw none e; written = rw none (w ∙ rw e) }
+    no_room short =
+        let six : write_key_code key frame ≡ 6 = code_then ∙ rw (lt-ltb (length frame) (length (stored_key key)) short) in
+        record { code = sym six; bytes = rw six; written = rw six }
+
+    pub room-granted : length (stored_key key) ≤ length frame → write_key_code key frame ≡ 0
+    room-granted room = code_then ∙ rw (le-ltb (length frame) (length (stored_key key)) room)
+
+    pub key_written : {frame' : List ℕ} {end : ℕ} → length (stored_key key) ≤ length frame → end ≡ length (stored_key key)
+        → frame' ≡ stored_key key ++ drop end frame
+        → WritesKey key frame frame' (record { outcome = Granted; length = end })
+    unfolding bytes_written frame_after
+    key_written room e w =
+        let zero = room-granted room in
+        record { code = sym zero; bytes = rw zero e; written = rw zero (w ∙ rw e) }

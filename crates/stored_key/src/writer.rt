@@ -1,6 +1,8 @@
 // Write key: the frame of a key.
 ghost use Rattle.std.specs.Prelude.{◌≡◌, cond, ◌++◌, ◌+◌, ◌*◌, ◌^◌, ◌≤◌, length, drop};
+ghost use Rattle.refusal.specs.Code.{first_cause};
 ghost use Rattle.hex_lines.specs.Hex.{hex_of};
+ghost use Rattle.profile.specs.Checks.{profile_causes};
 ghost use Rattle.frames.specs.Frames.{SizesInLimits, edition_byte};
 ghost use Rattle.signing_key.specs.Counter as counting;
 ghost use Rattle.stored_key.specs.KeyFields.{next_field};
@@ -65,24 +67,37 @@ fn write_frame(key: SigningKey, frame: &mut [u8]) -> usize
     write_line(frame, 2 * NEXT_AT, &last[..count])
 }
 
-// Write key: the frame of a key into the first bytes of `frame`. Nothing is written unless the frame has room.
+// Write key for a profile within its limits: nothing is written unless the frame has room.
+fn write_checked(key: SigningKey, frame: &mut [u8]) -> KeyWritten
+    requires { first_cause (profile_causes key.profile) ≡ 0 }
+    ensures { WritesKey key frame.old frame.new result }
+{
+    let p = key.profile;
+    if frame.len() < LINE_LENGTH + 2 * edition_bytes(p.edition) {
+        KeyWritten {
+            outcome: Outcome::Refused(Refusal::OutputTooShort),
+            length: 0,
+        }
+    } else {
+        let end = write_frame(key, frame);
+        KeyWritten {
+            outcome: Outcome::Granted,
+            length: end,
+        }
+    }
+}
+
+// Write key: the frame of a key into the first bytes of `frame`.
 pub fn write_key(key: SigningKey, frame: &mut [u8]) -> KeyWritten
     ensures { WritesKey key frame.old frame.new result }
 {
     let p = key.profile;
-    let short = frame.len() < LINE_LENGTH + 2 * edition_bytes(p.edition);
-    let outcome = check_profile(p).then(short, Refusal::OutputTooShort);
+    let outcome = check_profile(p);
     match outcome {
         Outcome::Refused(_) => KeyWritten {
             outcome: outcome,
             length: 0,
         },
-        Outcome::Granted => {
-            let end = write_frame(key, frame);
-            KeyWritten {
-                outcome: outcome,
-                length: end,
-            }
-        }
+        Outcome::Granted => write_checked(key, frame),
     }
 }

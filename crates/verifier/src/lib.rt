@@ -13,7 +13,7 @@ ghost use Rattle.chains.specs.Leaves.{chains_of, steps_left};
 ghost use Rattle.tree.specs.Tree.{recovered_root};
 ghost use Rattle.message.specs.Message.{count_too_small};
 ghost use Rattle.window.specs.Window as window;
-ghost use Rattle.verifier.specs.Verifying.{with_accepted, row_in, same_bytes};
+ghost use Rattle.verifier.specs.Verifying.{with_accepted, number_in, row_in, same_bytes};
 ghost use Rattle.verifier.specs.Operations.{verify_causes, Verifies};
 ghost use Rattle.verifier.specs.inner.Judging.{Ready, Judges};
 
@@ -46,6 +46,24 @@ pub struct Verdict {
     pub steps: u32,
 }
 
+// The cabinet that has accepted a leaf which was not passed.
+fn take_leaf(v: Verifier, leaf: u32) -> Verifier
+    requires { window.passed v.window leaf ≡ false }
+    ensures { result ≡ with_accepted v leaf }
+{
+    let profile = v.profile;
+    let seed = v.seed;
+    let root = v.root;
+    let before = v.window;
+    let after = take(before, leaf);
+    Verifier {
+        profile: profile,
+        seed: seed,
+        root: root,
+        window: after,
+    }
+}
+
 // The cabinet behind an outcome: granted, it has accepted the leaf, which was not passed; refused, it is as it was.
 fn verifier_after(outcome: Outcome, v: Verifier, leaf: u32) -> Verifier
     requires { outcome_code outcome ≡ 0 → window.passed v.window leaf ≡ false }
@@ -53,19 +71,7 @@ fn verifier_after(outcome: Outcome, v: Verifier, leaf: u32) -> Verifier
 {
     match outcome {
         Outcome::Refused(_) => v,
-        Outcome::Granted => {
-            let profile = v.profile;
-            let seed = v.seed;
-            let root = v.root;
-            let before = v.window;
-            let after = take(before, leaf);
-            Verifier {
-                profile: profile,
-                seed: seed,
-                root: root,
-                window: after,
-            }
-        }
+        Outcome::Granted => take_leaf(v, leaf),
     }
 }
 
@@ -83,8 +89,22 @@ fn same_root(a: [u8; 16], b: [u8; 16]) -> bool
     true
 }
 
-// The row of the message number, with the signature's leaf and R and the cabinet's root, in front of zeros, from a table that
-// is filled; the count is not too small. The signature may be without its siblings.
+// The message number, with the signature's leaf and R and the cabinet's root, for the count of the cabinet's profile.
+fn number_in(v: Verifier, count: [u32; 5], message: &[u8], signature: &[u8]) -> [u32; 5]
+    requires count_value { value count ≡ counts.count v.profile.shape }
+    requires message_len_bound { (length message.now ≤ 200) × (20 ≤ length signature.now) }
+    ensures { value result ≡ number_in v message.now signature.now }
+{
+    let p = v.profile;
+    let seed = v.seed;
+    let root = v.root;
+    let leaf = leaf_in(signature);
+    let r = random_in(signature);
+    message_number(p, count, leaf, r, seed, root, message)
+}
+
+// The row of that number, in front of zeros, from a table that is filled; the count is not too small. The signature may be
+// without its siblings.
 pub fn row_in(
     v: Verifier,
     count: [u32; 5],
@@ -99,11 +119,7 @@ pub fn row_in(
 {
     let p = v.profile;
     let shape = p.shape;
-    let seed = v.seed;
-    let root = v.root;
-    let leaf = leaf_in(signature);
-    let r = random_in(signature);
-    let number = message_number(p, count, leaf, r, seed, root, message);
+    let number = number_in(v, count, message, signature);
     let mut row = [0u8; 40];
     write_codeword(shape, number, table, &mut row);
     row

@@ -6,7 +6,7 @@ pub write_codeword-requires-clause-number_bound : goal.write_codeword-requires-c
 write_codeword-requires-clause-number_bound c =
     let key = c.args.key in
     let message = c.args.message.now in
-    let number = number_is key c.args.r message c.first_hasher-hasher.ensures.domain c.chains_of-chains.ensures c.way_up-way.ensures.root
+    let number = number_is key c.args.r message c.first_hasher-hasher.ensures.domain c.way_up-way.ensures.root
     c.message_number-number.ensures in
     rw number (key-number-fits key c.args.r message c.requires.large)
 
@@ -15,7 +15,7 @@ returns c =
     let key = c.args.key in
     let message = c.args.message.now in
     let domain = c.first_hasher-hasher.ensures.domain in
-    let number = number_is key c.args.r message domain c.chains_of-chains.ensures c.way_up-way.ensures.root
+    let number = number_is key c.args.r message domain c.way_up-way.ensures.root
     c.message_number-number.ensures in
-    signature-is key c.args.r message c.requires.large _ _ domain c.chains_of-chains.ensures number c.write_codeword.ensures
+    signature-is key c.args.r message c.requires.large _ _ domain number c.write_codeword.ensures
     c.way_up-way.ensures.siblings c.make_signature.ensures

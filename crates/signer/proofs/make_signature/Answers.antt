@@ -15,4 +15,4 @@ returns c =
     let enough : 16 * a.p.height ≤ length a.siblings = omega (arith, c.requires.in_limits.1) in
     signature-made a.p a.leaf a.r (revealed d chains a.secret.now a.leaf a.row) a.siblings (replicate 820 0)
     long (length-revealed d chains a.secret.now a.leaf a.row) enough
-    c.write_word.ensures c.write_16.ensures (rw c.chains_of-chains.ensures at c.write_values.ensures) c.copy.ensures
+    c.write_leaf.ensures c.write_16.ensures (rw c.chains_of-chains.ensures at c.write_values.ensures) c.copy.ensures
