@@ -4,7 +4,7 @@
 usage: python3 tools/respell.py     at the top of the repository
 
 Words of specs/ and lemmas of proofs/ are in snake case. A dash joins two names; a plain word is joined by `_`. Types and
-modules, functions of src/, exported names, strings, inputs and outputs keep their names. Where a lemma would get the name of a
+modules, functions of src/, exported names, inputs and outputs keep their names, and no string has such a word. Where a lemma would get the name of a
 definition, it gets `_lem`. The crate hex has a library's name and becomes hex_lines.
 """
 
