@@ -1,7 +1,7 @@
 // The C interface: one exported function an operation, which returns the code of the refusal, 0 for granted.
 // Parameters stand in the header's order. When they got their names, contracts had to quote `data` and names with an underscore: `bytes`,
-// `seed`, `secret`, `next`, `highest` and `written` are the header's `data`, `public_seed`, `secret_seed`, `next_leaf`, `highest_leaf` and `message_written`,
-// and `length` is its `sheet_written` or `frame_written`. `profile` is a function here: `fields` is the header's `profile`.
+// `seed`, `secret`, `next`, `highest` and `written` are the header's `data`, `public_seed`, `secret_seed`, `next_leaf`, `highest_leaf` and
+// `message_written`, and `length` is its `sheet_written` or `frame_written`. `profile` is a function here: `fields` is the header's `profile`.
 #![tactic(auto)]
 
 ghost use Rattle.std.specs.Prelude.{◌≡◌, cond, eqb, List, ℕ, replicate};
