@@ -5,6 +5,7 @@ pub mod Bits
 pub mod GateCount
 pub mod History
 pub mod InOrder
+pub mod InTimePairs
 pub mod Issuing
 pub mod Judged
 pub mod Largest

@@ -2,14 +2,11 @@
 -- twice, and all
 -- are accepted, in the list's order and, whichever of them arrive, in every order of arrival that the window allows.
 use mathlib.Core.Path.{sym}
-use mathlib.Core.List.{List, [], ◌∷◌, ◌++◌, append-nil, map, Permᴰ}
-use mathlib.Core.Logic.{◌⊎◌, inl, inr}
-use Prim.Native.Nat.{ℕ, suc, ◌+◌, ◌^◌, ◌<◌, ◌≤◌, suc-le-suc}
-use native.Mathlib.Nat.{le_of_suc-le-suc}
+use mathlib.Core.List.{List, [], ◌++◌, append-nil, map, Permᴰ}
+use Prim.Native.Nat.{ℕ, ◌^◌, ◌<◌, ◌≤◌}
 use native.Mathlib.Omega.{arith}
-use lib.ListN.{length, get_or}
-use Rattle.lists.proofs.Numbers.{lt_or_le}
-use Rattle.lists.proofs.Pairs.{Each, each-front, each-always, each_permuted, each-place, Apart, distinct_pairs}
+use lib.ListN.{length}
+use Rattle.lists.proofs.Pairs.{Each, each-front, each-always, each_permuted, Apart, distinct_pairs}
 use Rattle.lists.proofs.Pairs.{Pairs, pairs_front, pairs_imply, pairs_with, pairs_permuted}
 use Rattle.profile.specs.declared.Profile.{Profile}
 use Rattle.tweak.specs.Tweak.{first_domain}
@@ -20,26 +17,11 @@ use Rattle.verifier.specs.Verifying.{fresh_verifier}
 use Rattle.verifier.specs.declared.Verifier.{Verifier}
 use Rattle.claims.specs.Arrivals.{InTime}
 use Rattle.claims.specs.Orders.{Issued, KeyCall, key_handed_back, given_by, issued, leaf_of, NoLeafTwice, Check, AllAccepted}
+use Rattle.claims.proofs.InTimePairs.{InTimeAfter, in_time_pairs}
 use Rattle.claims.proofs.LeafLaws.{Free, fresh-cabinet, fresh-passes-none, KeyFrom, fresh-from}
 use Rattle.claims.proofs.Source.{Rises, rises_pairs, rises_good, rises_apart, rises_few, issued_rises, always}
 use Rattle.claims.proofs.Made.{MadeOwn, call_step}
 use Rattle.claims.proofs.InOrder.{Follows, all-accepted}
-
--- of two orders, by their places: the leaf of the earlier is less than 32 above that of the later
-abbrev InTimeAfter : Issued → Issued → Type 0
-InTimeAfter earlier later = leaf_of earlier < leaf_of later + 32
-
-in_time_pairs : (xs : List Issued) → InTime (map leaf_of xs) → Pairs InTimeAfter xs
-in_time_pairs [] t = tt
-in_time_pairs (x ∷ xs) t = (
-  each-place leaf_of (λ n. leaf_of x < n + 32) xs (λ i h. by i h (lt_or_le (leaf_of x) (get_or (map leaf_of xs) i 0 + 32))),
-  in_time_pairs xs (λ i j h k far. le_of_suc-le-suc (t (suc i) (suc j) (suc-le-suc h) (suc-le-suc k) far)),
-)
-  where
-    by : (i : ℕ) → i < length (map leaf_of xs) → (leaf_of x < get_or (map leaf_of xs) i 0 + 32) ⊎ (get_or (map leaf_of xs) i 0 + 32 ≤ leaf_of x)
-        → leaf_of x < get_or (map leaf_of xs) i 0 + 32
-    by i h (inl near) = near
-    by i h (inr far) = absurd (omega (arith, t (suc i) 0 (suc-le-suc h) (omega arith) far))
 
 module _ (p : Profile) (seed secret : List ℕ) where
   abbrev root : List ℕ
