@@ -3,10 +3,10 @@
     python3 tests/pages/header.py
 
 Both headers compile as C11 and C++17 with all warnings. The first has the functions of the crate
-`zarosnik`, the refusals of `refusal` and the orders of `numbers`; so have the page's tables, with
-the words of zarosnik_outcome_text and each function's refusals in order, and so has the table by
-which the tests call the library. What must not compile does not: one kind of 16 bytes for another,
-and an outcome that is not looked at.
+`zarosnik`, the refusals of `refusal` and the orders that `numbers` gives a number; so have the
+page's tables, with the words of zarosnik_outcome_text and each function's refusals in order, and so
+has the table by which the tests call the library. What must not compile does not: one kind of 16
+bytes for another, and an outcome that is not looked at.
 """
 
 import itertools
@@ -113,9 +113,10 @@ def declared_enum(text, enum):
 
 
 def refusals(text):
-    """The name of each outcome in the header, with its number in the source."""
+    """The name of each outcome in the header, with its number in the source. A cause may carry a
+    value."""
     numbers = {"GRANTED": 0}
-    for name, number in re.findall(r"Refusal::(\w+) => (\d+)", text):
+    for name, number in re.findall(r"Refusal::(\w+)(?:\(_\))? => (\d+)", text):
         numbers["REFUSED" + re.sub(r"([A-Z])", r"_\1", name).upper()] = int(number)
     return numbers
 
@@ -196,7 +197,7 @@ def page_order(row):
 def page_compared(row):
     """By the name in C, the number of an order of two numbers; in Rattle it has the same word."""
     name = row[2].removeprefix("ZAROSNIK_")
-    return name, int(row[0]) if row[1].upper() == f"ORDER::{name}" else f"{row[1]} in Rattle"
+    return name, int(row[0]) if row[1].upper() == f"ORDERING::{name}" else f"{row[1]} in Rattle"
 
 
 def check_version(text):
@@ -263,7 +264,7 @@ def main():
     compared = declared_enum(flat, "zarosnik_order")
     same(functions, exported_functions(source_text("zarosnik")), "header", "source")
     same(outcomes, refusals(source_text("refusal")), "header", "source")
-    orders = re.findall(r"Order::(\w+) => (\d+)", source_text("numbers"))
+    orders = re.findall(r"Ordering::(\w+) => (\d+)", source_text("numbers"))
     same(compared, {name.upper(): int(code) for name, code in orders}, "header", "source")
     check_version(flat)
     refuse_ignored({**functions, **declared_functions(typed, r"\{")})

@@ -10,21 +10,15 @@ use Rattle.sha256.specs.Digest.{word_bytes}
 use Rattle.sha256.specs.Running.{add_state, finished, hashed}
 use Rattle.sha256.specs.declared.running.Hash.{Hash}
 use Rattle.sha256.proofs.Joined.{more-taken}
-use Rattle.profile.specs.Checks.{InLimits}
-use Rattle.profile.specs.declared.Shape.{Shape}
 use Rattle.tweak.specs.Tweak.{leaf_key_address, seed_block}
 use Rattle.tweak.specs.declared.Domain.{Domain}
 use Rattle.tweak.proofs.TweakLaws.{length-address, length_seed_block, length_tweaked, tweak_ended}
-use Rattle.chains.specs.Leaves.{chains_of, ChainsFit, key_of_tops, leaf_key}
+use Rattle.chains.specs.Leaves.{key_of_tops, leaf_key}
 use Rattle.chains.specs.declared.Chains.{Chains}
 
 pub length_leaf_key : (d : Domain) (chains : Chains) (secret : List ℕ) (leaf : ℕ) → length (leaf_key d chains secret leaf) ≡ 16
 unfolding leaf_key key_of_tops
 length_leaf_key d chains secret leaf = length_tweaked d _ _
-
--- a shape within its limits has chains that fit
-pub chains_fit : (shape : Shape) → InLimits shape → ChainsFit (chains_of shape)
-chains_fit shape limits = record { few = limits.few_chains; some = omega (arith, limits.wide); narrow = limits.narrow }
 
 -- what the running hash has taken after c tops, f 0, f 1, ..
 abbrev pub taken : (d : Domain) (leaf : ℕ) → (ℕ → List ℕ) → ℕ → List ℕ

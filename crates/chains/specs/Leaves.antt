@@ -1,5 +1,5 @@
 -- Document 01, Chains and leaves: the values that a signature shows, and the leaf key.
-use Rattle.std.specs.Prelude.{List, ℕ, zero, suc, ◌+◌, ◌-◌, ◌*◌, ◌≤◌, get_or, take, drop}
+use Rattle.std.specs.Prelude.{List, ℕ, zero, suc, ◌+◌, ◌-◌, ◌*◌, get_or, take, drop}
 use Rattle.lists.specs.Joined.{join_to}
 use Rattle.profile.specs.declared.Shape.{Shape}
 use Rattle.profile.specs.declared.Profile.{Profile}
@@ -11,12 +11,6 @@ use Rattle.chains.specs.declared.Chains.{Chains}
 -- the chains of a shape: "l chains … Width w"
 abbrev pub chains_of : Shape → Chains
 chains_of shape = record { count = shape.chains; width = shape.width }
-
--- what the functions over chains ask: at most 40 of them, each with 1 to 16 heights
-pub record ChainsFit (chains : Chains) : Type 0 where
-  pub few : chains.count ≤ 40
-  pub some : 1 ≤ chains.width
-  pub narrow : chains.width ≤ 16
 
 -- "A signature shows chain c at the height that the row gives at place c"
 abbrev pub shown_value : Domain → (secret : List ℕ) (leaf : ℕ) (row : List ℕ) (c : ℕ) → List ℕ

@@ -1,10 +1,10 @@
 // Hash chains, and the chains of one leaf.
 #![tactic(auto)]
 
-ghost use Rattle.std.specs.Prelude.{◌≡◌};
+ghost use Rattle.std.specs.Prelude.{◌≡◌, ◌≤◌};
 ghost use Rattle.chains.specs.Leaves.{chains_of};
 
-use profile::Shape;
+use profile::{LimitedShape, Shape};
 
 pub mod leaves;
 pub mod steps;
@@ -16,6 +16,15 @@ pub struct Chains {
     pub width: u32,
 }
 
+// Chains within a profile's limits.
+#[derive(Clone, Copy)]
+pub struct LimitedChains {
+    pub chains: Chains,
+    ghost few: { chains.count ≤ 40 },
+    ghost some_height: { 1 ≤ chains.width },
+    ghost narrow: { chains.width ≤ 16 },
+}
+
 // The chains of a shape.
 pub fn chains_of(shape: Shape) -> Chains
     ensures { result ≡ chains_of shape }
@@ -23,5 +32,14 @@ pub fn chains_of(shape: Shape) -> Chains
     Chains {
         count: shape.chains,
         width: shape.width,
+    }
+}
+
+// The chains of a shape within its limits.
+pub fn limited_chains(limited: LimitedShape) -> LimitedChains
+    ensures { result.chains ≡ chains_of limited.shape }
+{
+    LimitedChains {
+        chains: chains_of(limited.shape),
     }
 }

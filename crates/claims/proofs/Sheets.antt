@@ -7,6 +7,7 @@ use borrow.Author.Tests.{le-ltb}
 use lib.Dec.{ltb}
 use lib.ListN.{length, take, drop}
 use lib.Seq.{take_at}
+use Rattle.std.specs.Result.{result_unwrap_or}
 use Rattle.refusal.specs.Code.{first_cause}
 use Rattle.refusal.proofs.Causes.{none_then, none-of-append}
 use Rattle.profile.specs.Checks.{profile_causes}
@@ -52,8 +53,8 @@ written-is-read p w signature_bytes text_bytes granted r same enough room =
     let fit =
     carried_fit p signature text
     (none-of-append (carried_causes p signature text) ((ltb (length w.slice) (length whole), 6) ∷ []) (carried-numbered p signature text) none).0 in
-    let long : w.made.length ≡ length whole = w.writes.bytes ∙ rw none in
-    let front : take w.made.length w.slice' ≡ whole =
+    let long : result_unwrap_or w.made 0 ≡ length whole = w.writes.bytes ∙ rw none in
+    let front : take (result_unwrap_or w.made 0) w.slice' ≡ whole =
     rw (w.writes.written, none, long) (take_at whole (drop (length whole) w.slice) (length whole) refl) in
     right-read p signature text r (same ∙ front) fit.passed
     (record {
@@ -96,8 +97,8 @@ read-is-written p r granted w own-signature own-text room = by (read_sheet p r.s
         let carried = right.0 in
         let front : take (signature_length p) r.signature_slice' ≡ signature =
         rw (reads.signature_written, none, q) (take_at signature (drop (signature_length p) r.signature_slice) (signature_length p) carried.whole) in
-        let long : r.found.length ≡ length text = reads.text_length ∙ rw (none, q) in
-        let words : take r.found.length r.text_slice' ≡ text =
+        let long : result_unwrap_or r.found 0 ≡ length text = reads.text_length ∙ rw (none, q) in
+        let words : take (result_unwrap_or r.found 0) r.text_slice' ≡ text =
         rw (reads.text_written, none, q, long) (take_at text (drop (length text) r.text_slice) (length text) refl) in
         rw right.1
         (right-written p signature text w (own-signature ∙ front) (own-text ∙ words) both.0 carried (omega (arith, room, ap length right.1)))

@@ -5,5 +5,4 @@ mod PlaceLaws
 pub mod RankLaws
 pub mod RowLaws
 pub mod SearchLaws
-pub mod TableOperation
 pub mod UnrankAnswer

@@ -6,9 +6,6 @@ use native.Mathlib.Omega.{arith}
 pub one_more : (chains place : ℕ) → place < chains → chains - place ≡ suc (chains - 1 - place)
 one_more chains place h = omega arith
 
-pub next-within : (chains place : ℕ) → place < chains → place + 1 ≤ chains
-next-within chains place h = omega arith
-
 pub one_less : (chains place : ℕ) → chains - (place + 1) ≡ chains - 1 - place
 one_less chains place = omega arith
 

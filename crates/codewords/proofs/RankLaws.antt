@@ -1,75 +1,50 @@
 -- Gather: the number of a row, place by place, what the causes tell of the row, and what is answered.
 use mathlib.Core.Path.{◌≡◌, refl, sym, ap, ◌∙◌}
-use mathlib.Core.Bool.{Bool, true, false, not, ◌||◌, cond, true≢false}
-use mathlib.Core.List.{List, [], ◌∷◌, ◌++◌}
+use mathlib.Core.Bool.{Bool, true, false, not, ◌||◌, true≢false}
+use mathlib.Core.List.{List, [], ◌∷◌}
 use Prim.Native.Nat.{ℕ, zero, suc, ◌+◌, ◌-◌, ◌*◌, ◌^◌, ◌<◌, ◌≤◌}
 use native.Mathlib.Nat.{le_of_suc-le-suc, lt_of_le_of_lt, lt_trans, le_refl}
 use native.Mathlib.Numerals.{add-one}
 use native.Mathlib.Omega.{arith}
-use borrow.Author.Tests.{le-leb, lt-leb, leb-false, eqb-true, eqb-false, eq-eqb, ne_eqb, not-false}
+use borrow.Author.Tests.{lt-leb, leb-false, eqb-true, eq-eqb, not-false}
 use lib.Dec.{leb, eqb}
 use lib.ListN.{length, get_or, take, drop, length-drop, drop_of_length-le}
 use lib.Seq.{drop-cons}
-use Rattle.refusal.specs.Code.{outcome_code, first_cause, then_first}
+use Rattle.std.specs.Prelude.{Result, Ok, Err}
+use Rattle.std.specs.List.{list_any, sum}
+use Rattle.std.proofs.lemmas.List.Recursion.{is_sum_by}
+use Rattle.refusal.specs.Code.{outcome_code, first_cause}
 use Rattle.refusal.specs.declared.Refusal.{Refusal}
-use Rattle.refusal.specs.declared.Outcome.{Outcome}
-use Rattle.refusal.specs.declared.Outcome.TheVariants.{Granted, Refused}
-use Rattle.refusal.proofs.Causes.{Avoids, none_here, refused-number, code-kept}
+use Rattle.refusal.proofs.Causes.{Avoids, none_here, granted-none}
 use Rattle.numbers.specs.Number.{value, to_words}
 use Rattle.numbers.proofs.NumberLaws.{value_to_words_5}
+use Rattle.profile.specs.Checks.{InLimits}
 use Rattle.profile.specs.declared.Shape.{Shape}
 use Rattle.counts.specs.Counts.{sum_to, share, D}
-use Rattle.counts.specs.Table.{rows, with_table, leaves_table, table_after}
+use Rattle.counts.specs.Table.{rows, table_length, with_table, leaves_table}
 use Rattle.counts.specs.Operations.{count_causes}
 use Rattle.counts.proofs.CountLaws.{sum_to_cong, sum_to_mono, share-low, D-small}
-use Rattle.counts.proofs.Room.{count-early}
+use Rattle.counts.proofs.Room.{count-early, count-passed}
 use Rattle.counts.proofs.TableLaws.{cell_of}
+use Rattle.counts.proofs.TableOperation.{Refuses, refused, refused-own, granted-own, table-left}
 use Rattle.codewords.specs.Codeword.{rank, total, IsCodeword}
 use Rattle.codewords.specs.Operations.{number_of, some_above, row_causes, rank_code, Ranks}
 use Rattle.codewords.proofs.CodewordLaws.{Front, front, rank_lt}
-use Rattle.codewords.proofs.TableOperation.{early-code, none_before, table-after}
 
--- the lengths from a place on, the first of them apart
-module _ (row : List ℕ) (i : ℕ) (inside : i < length row) where
-  pub above-here : (w : ℕ) → w ≤ get_or row i 0 → some_above w (drop i row) ≡ true
-  unfolding some_above
-  above-here w h = rw (drop-cons row i 0 inside, le-leb w (get_or row i 0) h)
+-- the tests of Gather, as std's words for lists
+pub above-any : (w : ℕ) (row : List ℕ) → some_above w row ≡ list_any (leb w) row
+unfolding some_above
+above-any w [] = refl
+above-any w (a ∷ row) = rw (above-any w row) refl
 
-  pub above-later : (w : ℕ) → get_or row i 0 < w → some_above w (drop i row) ≡ some_above w (drop (i + 1) row)
-  unfolding some_above
-  above-later w h = rw (drop-cons row i 0 inside, lt-leb w (get_or row i 0) h, add-one)
-
-  pub total-later : total (drop i row) ≡ get_or row i 0 + total (drop (i + 1) row)
-  unfolding total
-  total-later = rw (drop-cons row i 0 inside, add-one)
+pub total_sum : (row : List ℕ) → total row ≡ sum row
+unfolding total
+total_sum row = is_sum_by total (λ x. x) refl (λ _ _. refl) row
 
 -- no lengths are left
-module _ (row : List ℕ) (i : ℕ) (past : length row ≤ i) where
-  pub above_end : (w : ℕ) → some_above w (drop i row) ≡ false
-  unfolding some_above
-  above_end w = rw (drop_of_length-le row past)
-
-  pub total_end : total (drop i row) ≡ 0
-  unfolding total
-  total_end = rw (drop_of_length-le row past)
-
-  rank_end : (w t : ℕ) → rank w t (drop i row) ≡ 0
-  unfolding rank
-  rank_end w t = rw (drop_of_length-le row past)
-
--- the lengths before a place taken off a sum: what is left of it, and what the lengths from there on add up to, tell whether the sum is the row's
-module _ (row : List ℕ) (sum left rest : ℕ) (e : left + total row ≡ sum + rest) where
-  -- more than is left
-  pub sum-other : left < rest → true ≡ not (eqb (total row) sum)
-  sum-other h = rw (ne_eqb (total row) sum (λ same. omega arith))
-
-  -- nothing more
-  pub sum-ends : rest ≡ 0 → not (eqb left 0) ≡ not (eqb (total row) sum)
-  sum-ends h = ap not (by (eqb left 0) refl)
-    where
-      by : (none : Bool) → eqb left 0 ≡ none → none ≡ eqb (total row) sum
-      by true z = sym (eq-eqb (total row) sum (omega (arith, eqb-true left 0 z)))
-      by false z = sym (ne_eqb (total row) sum (λ same. eqb-false left 0 z (omega arith)))
+rank_end : (row : List ℕ) (i : ℕ) → length row ≤ i → (w t : ℕ) → rank w t (drop i row) ≡ 0
+unfolding rank
+rank_end row i past w t = rw (drop_of_length-le row past)
 
 -- a row with no length above w − 1
 none_above : (w : ℕ) (row : List ℕ) → some_above w row ≡ false → (c : ℕ) → c < length row → get_or row c 0 < w
@@ -213,43 +188,41 @@ module _ (shape : Shape) (row : List ℕ) where
       rw (eq-eqb (length row) shape.chains h.lengths.chains, below, eq-eqb (total row) shape.sum h.sum)
 
 -- what Gather answers: the causes of Count, then those of the row, and the table past both
-module _ (shape : Shape) (row work : List ℕ) {n m : ℕ} (counted : n ≡ first_cause (count_causes shape (length work)))
-    (e : m ≡ then_first n (row_causes shape row)) where
+module _ (shape : Shape) (row work : List ℕ) where
   abbrev first : List (Bool × ℕ)
   first = count_causes shape (length work)
 
   abbrev own : List (Bool × ℕ)
   own = row_causes shape row
 
-  abbrev early : Avoids leaves_table first
-  early = count-early shape (length work)
-
   abbrev between : Avoids leaves_table (row_causes shape row)
   between = (refl, (refl, (refl, tt)))
 
-  code : m ≡ first_cause (first ++ own)
-  code = early-code first own early between counted e
+  stopped : {cause : Refusal} {answer : Result (List ℕ) Refusal} → Refuses (rank_code shape row work) cause → answer ≡ Err cause → Ranks shape row work work answer
+  stopped refuses e = rw e (record { code = refuses.answer; ranked = rw refuses.some refl; table = refuses.untouched shape work })
 
-  -- what Count refuses is refused
-  pub rank-kept : n ≤ m
-  rank-kept = code-kept n m own e
-
-  -- nothing is refused: neither the table nor the row
-  pub rank-none : m ≡ 0 → (first_cause (count_causes shape (length work)) ≡ 0) × (first_cause (row_causes shape row) ≡ 0)
-  rank-none = none_before first own early between code
-
-  module _ {left : List ℕ} (filled : left ≡ cond (eqb m 0) (with_table shape work) work) where
-    table-left : left ≡ table_after (rank_code shape row work) shape work
+  module _ {r : Result (Unit {0}) Refusal} (counted : outcome_code r ≡ first_cause (count_causes shape (length work))) where
+    pub rank-refused : {cause : Refusal} {answer : Result (List ℕ) Refusal} → r ≡ Err cause → answer ≡ Err cause → Ranks shape row work work answer
     unfolding rank_code
-    table-left = table-after first own early between code [] tt refl shape work filled
+    rank-refused was = stopped (refused first own (count-early shape (length work)) refl counted was)
 
-    -- o is the answer's outcome, and what it gave
-    module _ {o : Outcome} (q : outcome_code o ≡ m) where
-      pub rank-refused : {r : Refusal} → o ≡ Refused r → Ranks shape row work left (record { outcome = o; number = 0 ∷ 0 ∷ 0 ∷ 0 ∷ 0 ∷ [] })
-      unfolding rank_code to_words
-      rank-refused {r} refused = record { code = q ∙ code; ranked = rw (refused-number o (rank_code shape row work) r (q ∙ code) refused); table = table-left }
+    module _ {v : Unit {0}} (passed : r ≡ Ok v) where
+      -- the table has no cause
+      pub rank_limits : InLimits shape × (table_length shape ≤ length work)
+      rank_limits = count-passed shape (length work) (granted-none first passed counted)
 
-      pub rank-granted : {k : List ℕ} → o ≡ Granted → k ≡ to_words 5 (number_of shape row) → Ranks shape row work left (record { outcome = o; number = k })
-      unfolding rank_code
-      rank-granted granted ranked = let none : rank_code shape row work ≡ 0 = sym code ∙ sym q ∙ ap outcome_code granted in
-          record { code = q ∙ code; ranked = rw none ranked; table = table-left }
+      module _ {s : Result (Unit {0}) Refusal} (looked : outcome_code s ≡ first_cause (row_causes shape row)) where
+        pub rank-row_refused : {cause : Refusal} {answer : Result (List ℕ) Refusal} → s ≡ Err cause → answer ≡ Err cause → Ranks shape row work work answer
+        unfolding rank_code
+        rank-row_refused was = stopped (refused-own first own [] (count-early shape (length work)) between refl counted passed looked was)
+
+        module _ {u : Unit {0}} (granted : s ≡ Ok u) where
+          -- nor does the row have a cause
+          pub rank_row : IsCodeword shape.width shape.chains shape.sum row
+          rank_row = row_codeword shape row (granted-none own granted looked)
+
+          pub rank-granted : {k left : List ℕ} → k ≡ to_words 5 (number_of shape row) → left ≡ with_table shape work → Ranks shape row work left (Ok k)
+          unfolding rank_code
+          rank-granted ranked filled =
+              let none = (granted-own first own [] (count-early shape (length work)) between refl counted passed looked granted).rest in
+              record { code = sym none; ranked = rw none ranked; table = table-left [] tt none shape work filled }

@@ -1,26 +1,26 @@
--- What Spread answers and leaves, once the table is filled past the causes before 7.
+-- What Spread answers and leaves.
 use mathlib.Core.Path.{◌≡◌, refl, ◌∙◌, ap, sym}
-use mathlib.Core.Bool.{Bool, true, false, not, cond}
+use mathlib.Core.Bool.{Bool, true, false, not}
 use mathlib.Core.List.{List, [], ◌∷◌, ◌++◌}
 use Prim.Native.Nat.{ℕ, ◌<◌, ◌≤◌}
-use native.Mathlib.Omega.{arith}
 use borrow.Author.Tests.{ltb-true, ltb-false, leb-false, le-leb, lt-leb}
-use lib.Dec.{ltb, leb, eqb}
-use lib.ListN.{length}
-use Rattle.refusal.specs.Code.{first_cause, then_code}
-use Rattle.refusal.specs.declared.Outcome.{Outcome}
-use Rattle.refusal.proofs.Causes.{Avoids, none_here, code-kept}
+use lib.Dec.{ltb, leb}
+use lib.ListN.{length, drop}
+use Rattle.std.specs.Prelude.{Result, Ok, Err}
+use Rattle.refusal.specs.Code.{outcome_code, first_cause}
+use Rattle.refusal.specs.declared.Refusal.{Refusal}
+use Rattle.refusal.proofs.Causes.{none_here, granted-none, refused-number}
+use Rattle.numbers.specs.Number.{to_words}
 use Rattle.profile.specs.Checks.{InLimits}
 use Rattle.profile.specs.declared.Shape.{Shape}
 use Rattle.counts.specs.Counts.{count}
-use Rattle.counts.specs.Table.{table_length, with_table, leaves_table}
+use Rattle.counts.specs.Table.{table_length, with_table}
 use Rattle.counts.specs.Operations.{count_causes}
-use Rattle.counts.specs.inner.Filling.{FillsPast}
 use Rattle.counts.proofs.Answer.{table-held}
 use Rattle.counts.proofs.Room.{count-early, count-passed}
-use Rattle.codewords.specs.Operations.{unrank_code, Unranks}
-use Rattle.codewords.specs.inner.Placing.{Placeable, PlacesPast}
-use Rattle.codewords.proofs.TableOperation.{early-code, none_before, answer-after, table-after}
+use Rattle.counts.proofs.TableOperation.{Refuses, refused, refused-own, granted-own, table-left}
+use Rattle.codewords.specs.Operations.{row_of, unrank_code, Unranks}
+use Rattle.codewords.specs.inner.Placing.{Placeable, PlacesNumber}
 
 -- the test of 7
 pub not_below : (n k : ℕ) {m : ℕ} {less : Bool} → less ≡ ltb n m → m ≡ k → not less ≡ leb k n
@@ -30,55 +30,61 @@ not_below n k {m} {less} e f = by less (e ∙ ap (ltb n) f)
     by true t = sym (lt-leb k n (ltb-true n k (sym t)))
     by false t = sym (le-leb k n (ltb-false n k (sym t)))
 
--- where none holds, none held before, and the number is below the count
-pub granted-below : (code : ℕ) (shape : Shape) (n : ℕ) → then_code code (leb (count shape) n) 7 ≡ 0 → (code ≡ 0) × (n < count shape)
-granted-below code shape n e =
-    let none : code ≡ 0 = omega (arith, code-kept code 0 ((leb (count shape) n, 7) ∷ []) (sym e)) in
-    (none, leb-false (count shape) n (none_here (leb (count shape) n) 7 [] refl (rw none at e)).0)
+-- where 7 alone is looked at
+module _ (shape : Shape) (n : ℕ) (row : List ℕ) {r : Result (Unit {0}) Refusal} (looked : outcome_code r ≡ first_cause ((leb (count shape) n, 7) ∷ [])) where
+  pub not_placed : {cause : Refusal} {answer : Result (Unit {0}) Refusal} → r ≡ Err cause → answer ≡ Err cause → PlacesNumber shape n row row answer
+  not_placed was e = rw e (record { answer = ap outcome_code (sym was) ∙ looked; placed = rw (refused-number was (ap outcome_code was)) refl })
 
--- granted so far, a codeword can be placed with the table that was filled
-pub placeable : {shape : Shape} (work : List ℕ) {row left n : List ℕ} {code : ℕ} → InLimits shape → shape.chains ≤ length row
-    → FillsPast code shape work left n → code ≡ 0
-    → Placeable shape n left row
-placeable {shape} work limits room fills none =
-    record { limits = limits; counted = rw none at fills.counted; held = table-held shape work (rw none at fills.table); room = room }
+  module _ {v : Unit {0}} (granted : r ≡ Ok v) where
+    pub below_count : n < count shape
+    below_count = leb-false (count shape) n (none_here (leb (count shape) n) 7 [] refl (granted-none ((leb (count shape) n, 7) ∷ []) granted looked)).0
+
+    pub placed_number : {row' : List ℕ} → row' ≡ row_of shape n ++ drop shape.chains row → PlacesNumber shape n row row' (Ok tt)
+    placed_number written = record { answer = sym (granted-none ((leb (count shape) n, 7) ∷ []) granted looked); placed = written }
+
+-- with the table that was filled, a codeword can be placed
+pub placeable : {shape : Shape} (work : List ℕ) {row left n : List ℕ} → shape.chains ≤ length row → n ≡ to_words 5 (count shape)
+    → left ≡ with_table shape work → Placeable shape n left row
+placeable {shape} work room counted filled = record { counted = counted; held = table-held shape work filled; room = room }
 
 -- the causes before 7: those of Count, and the size of the row
-module _ (shape : Shape) (work row : List ℕ) {n m : ℕ} (counted : n ≡ first_cause (count_causes shape (length work)))
-    (sized : m ≡ then_code n (ltb (length row) shape.chains) 6) where
+module _ (shape : Shape) (k : ℕ) (work row : List ℕ) where
   abbrev first : List (Bool × ℕ)
   first = count_causes shape (length work)
 
   abbrev own : List (Bool × ℕ)
   own = (ltb (length row) shape.chains, 6) ∷ []
 
-  abbrev early : Avoids leaves_table first
-  early = count-early shape (length work)
+  abbrev seven : List (Bool × ℕ)
+  seven = (leb (count shape) k, 7) ∷ []
 
-  code : m ≡ first_cause (count_causes shape (length work) ++ own)
-  code = early-code first own early (refl, tt) counted sized
+  stopped : {cause : Refusal} {answer : Result (Unit {0}) Refusal} → Refuses (unrank_code shape k work row) cause → answer ≡ Err cause
+      → Unranks shape k work row work row answer
+  stopped refuses e = rw e (record { code = refuses.answer; table = refuses.untouched shape work; written = rw refuses.some refl })
 
-  -- what Count refuses is refused
-  pub unrank_kept : n ≤ m
-  unrank_kept = code-kept n m own sized
+  module _ {r : Result (Unit {0}) Refusal} (counted : outcome_code r ≡ first_cause (count_causes shape (length work))) where
+    pub unrank_refused : {cause : Refusal} {answer : Result (Unit {0}) Refusal} → r ≡ Err cause → answer ≡ Err cause → Unranks shape k work row work row answer
+    unfolding unrank_code
+    unrank_refused was = stopped (refused first (own ++ seven) (count-early shape (length work)) refl counted was)
 
-  pub unrank_passed : n ≡ 0 → InLimits shape × (table_length shape ≤ length work)
-  unrank_passed none = count-passed shape (length work) (sym counted ∙ none)
+    module _ {v : Unit {0}} (passed : r ≡ Ok v) where
+      pub unrank_limits : InLimits shape × (table_length shape ≤ length work)
+      unrank_limits = count-passed shape (length work) (granted-none first passed counted)
 
-  pub unrank_answers : {k : ℕ} {left row' : List ℕ} {r : Outcome} → left ≡ cond (eqb m 0) (with_table shape work) work → PlacesPast m shape k row row' r
-      → Unranks shape k work row left row' r
-  unfolding unrank_code
-  unrank_answers {k} filled places =
-      let seven : List (Bool × ℕ) = (leb (count shape) k, 7) ∷ [] in
-      let answer = places.answer ∙ answer-after first own early (refl, tt) code seven (refl, tt) refl in
-      record {
-        code = answer;
-        table = table-after first own early (refl, tt) code seven (refl, tt) refl shape work filled;
-        written = rw answer at places.placed;
-      }
+      module _ {s : Result (Unit {0}) Refusal} (sized : outcome_code s ≡ first_cause ((ltb (length row) shape.chains, 6) ∷ [])) where
+        pub unrank_row_refused : {cause : Refusal} {answer : Result (Unit {0}) Refusal} → s ≡ Err cause → answer ≡ Err cause
+            → Unranks shape k work row work row answer
+        unfolding unrank_code
+        unrank_row_refused was = stopped (refused-own first own seven (count-early shape (length work)) (refl, tt) refl counted passed sized was)
 
-  pub unrank_placeable : {left counted' : List ℕ} → FillsPast m shape work left counted' → m ≡ 0 → Placeable shape counted' left row
-  unrank_placeable fills none =
-      let before = none_before first own early (refl, tt) code none in
-      let room = ltb-false (length row) shape.chains (none_here (ltb (length row) shape.chains) 6 [] refl before.1).0 in
-      placeable work (count-passed shape (length work) before.0).0 room fills none
+        module _ {u : Unit {0}} (granted : s ≡ Ok u) where
+          pub unrank_room : shape.chains ≤ length row
+          unrank_room = ltb-false (length row) shape.chains (none_here (ltb (length row) shape.chains) 6 [] refl (granted-none own granted sized)).0
+
+          pub unrank_answers : {left row' : List ℕ} {answer : Result (Unit {0}) Refusal} → left ≡ with_table shape work → PlacesNumber shape k row row' answer
+              → Unranks shape k work row left row' answer
+          unfolding unrank_code
+          unrank_answers filled places =
+              let rest = (granted-own first own seven (count-early shape (length work)) (refl, tt) refl counted passed sized granted).rest in
+              let code = places.answer ∙ sym rest in
+              record { code = code; table = table-left seven (refl, tt) rest shape work filled; written = rw code at places.placed }

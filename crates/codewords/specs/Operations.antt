@@ -1,14 +1,14 @@
 -- Document 01, "Spread, number to row" and "Gather, row to number".
-use Rattle.std.specs.Prelude.{◌≡◌, Bool, false, not, ◌||◌, cond, List, [], ◌∷◌, ◌++◌, ℕ, ◌<◌, ltb, leb, eqb, length, drop}
+use Rattle.std.specs.Prelude.{◌≡◌, Bool, false, not, ◌||◌, cond, List, [], ◌∷◌, ◌++◌, ℕ, ◌<◌, ltb, leb, eqb, length, drop, Result}
+use Rattle.std.specs.Result.{result_unwrap_or}
 use Rattle.refusal.specs.Code.{outcome_code, first_cause}
-use Rattle.refusal.specs.declared.Outcome.{Outcome}
+use Rattle.refusal.specs.declared.Refusal.{Refusal}
 use Rattle.numbers.specs.Number.{to_words}
 use Rattle.profile.specs.declared.Shape.{Shape}
 use Rattle.counts.specs.Counts.{count}
 use Rattle.counts.specs.Table.{table_after}
 use Rattle.counts.specs.Operations.{count_causes}
 use Rattle.codewords.specs.Codeword.{codeword, rank, total, IsCodeword}
-use Rattle.codewords.specs.declared.ranking.Ranked.{Ranked}
 
 -- "A row belongs to a number when the placing rule above gives that row for it"
 abbrev pub row_of : Shape → ℕ → List ℕ
@@ -25,7 +25,7 @@ unrank_code shape n work row =
     (count_causes shape (length work) ++ ((ltb (length row) shape.chains, 6) ∷ (leb (count shape) n, 7) ∷ []))
 
 -- what Spread answers and leaves: the table after a success and after 7, the row after a success, nothing else
-pub record Unranks (shape : Shape) (n : ℕ) (work row work' row' : List ℕ) (r : Outcome) : Type 0 where
+pub record Unranks (shape : Shape) (n : ℕ) (work row work' row' : List ℕ) (r : Result (Unit {0}) Refusal) : Type 0 where
   pub code : outcome_code r ≡ unrank_code shape n work row
   pub table : work' ≡ table_after (unrank_code shape n work row) shape work
   pub written : row' ≡ cond (eqb (unrank_code shape n work row) 0) (row_of shape n ++ drop shape.chains row) row
@@ -44,10 +44,10 @@ row_causes shape row =
 unfoldable pub rank_code : Shape → (row work : List ℕ) → ℕ
 rank_code shape row work = first_cause (count_causes shape (length work) ++ row_causes shape row)
 
--- what Gather answers and leaves; refused, the number is zero
-pub record Ranks (shape : Shape) (row work work' : List ℕ) (r : Ranked) : Type 0 where
-  pub code : outcome_code r.outcome ≡ rank_code shape row work
-  pub ranked : r.number ≡ to_words 5 (cond (eqb (rank_code shape row work) 0) (number_of shape row) 0)
+-- what Gather answers and leaves; a refusal is read as the number zero
+pub record Ranks (shape : Shape) (row work work' : List ℕ) (r : Result (List ℕ) Refusal) : Type 0 where
+  pub code : outcome_code r ≡ rank_code shape row work
+  pub ranked : result_unwrap_or r (to_words 5 0) ≡ to_words 5 (cond (eqb (rank_code shape row work) 0) (number_of shape row) 0)
   pub table : work' ≡ table_after (rank_code shape row work) shape work
 
 -- "Spread, number to row" and "Gather, row to number": each undoes the other

@@ -4,5 +4,5 @@
 pub mod ranking;
 pub mod unranking;
 
-pub use ranking::{Ranked, rank};
+pub use ranking::rank;
 pub use unranking::unrank;

@@ -1,6 +1,6 @@
 // Gather: the number of a codeword.
-ghost use Rattle.std.specs.Prelude.{◌≡◌, not, ◌+◌, ◌-◌, ◌*◌, ◌^◌, ◌≤◌, ◌<◌, eqb, length, take, drop};
-ghost use Rattle.refusal.specs.Code.{outcome_code, then_first};
+ghost use Rattle.std.specs.Prelude.{◌≡◌, ◌+◌, ◌-◌, ◌*◌, ◌^◌, ◌≤◌, ◌<◌, length, take, drop};
+ghost use Rattle.refusal.specs.Code.{outcome_code, first_cause};
 ghost use Rattle.numbers.specs.Number.{value, to_words};
 ghost use Rattle.counts.specs.Counts.{sum_to};
 ghost use Rattle.counts.specs.Table.{rows};
@@ -8,60 +8,36 @@ ghost use Rattle.codewords.specs.Codeword.{rank as rank_of, total, IsCodeword};
 ghost use Rattle.codewords.specs.Operations.{some_above, row_causes, Ranks};
 
 use counts::cells::load;
-use counts::table::{count_outcome, fill_past};
+use counts::table::{check_count, fill};
 use numbers::number::add;
-use profile::Shape;
-use refusal::{Outcome, Refusal};
-
-// What Gather answers. Refused, the number is zero.
-#[derive(Clone, Copy)]
-pub struct Ranked {
-    pub outcome: Outcome,
-    pub number: [u32; 5],
-}
+use profile::{LimitedShape, Shape};
+use refusal::{Refusal, refuse_if};
 
 // Whether a length is above w - 1.
 fn some_above(width: usize, row: &[u8]) -> bool
     ensures { result ≡ some_above width row.now }
 {
-    let mut i = 0;
-    while i < row.len() {
-        if width <= row[i] as usize {
-            return true;
-        }
-        i += 1;
-    }
-    false
+    row.iter().any(|length| width <= usize::from(*length))
 }
 
-// Whether the sum of the lengths is another: each is taken off, as long as it can be.
-fn sum_differs(sum: usize, row: &[u8]) -> bool
-    ensures { result ≡ not (eqb (total row.now) sum) }
+// The sum of the lengths.
+fn sum_of(row: &[u8]) -> u64
+    requires { length row.now < 2 ^ 32 }
+    ensures { result ≡ total row.now }
 {
-    let mut left = sum;
-    let mut i = 0;
-    while i < row.len() {
-        let digit = row[i] as usize;
-        if left < digit {
-            return true;
-        }
-        left -= digit;
-        i += 1;
-    }
-    left != 0
+    row.iter().map(|length| u64::from(*length)).sum()
 }
 
-// The causes of Gather that look at the row, behind those of Count.
-fn rank_outcome(checked: Outcome, shape: Shape, row: &[u8]) -> Outcome
-    ensures { outcome_code result ≡ then_first (outcome_code checked) (row_causes shape row.now) }
+// The causes of Gather that look at the row.
+fn check_row(shape: Shape, row: &[u8]) -> Result<(), Refusal>
+    ensures { outcome_code result ≡ first_cause (row_causes shape row.now) }
 {
-    let chains = shape.chains as usize;
-    let width = shape.width as usize;
-    let sum = shape.sum as usize;
-    checked
-        .then(row.len() != chains, Refusal::CodewordLength)
-        .then(some_above(width, row), Refusal::DigitTooLarge)
-        .then(sum_differs(sum, row), Refusal::CodewordSum)
+    refuse_if(row.len() != shape.chains as usize, Refusal::CodewordLength)?;
+    refuse_if(
+        some_above(shape.width as usize, row),
+        Refusal::DigitTooLarge,
+    )?;
+    refuse_if(sum_of(row) != u64::from(shape.sum), Refusal::CodewordSum)
 }
 
 // The number with the shares of the lengths below a digit added: those counts are skipped. The share of the length j is the
@@ -72,11 +48,10 @@ fn skip(table: &[u32], number: [u32; 5], above: usize, digit: usize) -> [u32; 5]
     ensures { result ≡ to_words 5 (value number + sum_to (λ j. value (take 5 (drop (5 * (above - j)) table.now))) digit) }
 {
     let mut n = number;
-    let mut j = 0;
-    while j < digit {
+    for j in 0..digit {
+        // In two steps: `n = add(n, ..)` is not proved, since the array would be read and written in one call.
         let sum = add(n, load(table, above - j));
         n = sum;
-        j += 1;
     }
     n
 }
@@ -90,37 +65,24 @@ fn number_of(table: &[u32], row: &[u8], width: usize, sum: usize) -> [u32; 5]
 {
     let mut n = [0u32; 5];
     let mut left = sum;
-    let mut place = 0;
-    while place < row.len() {
-        let digit = row[place] as usize;
+    for (place, length) in row.iter().enumerate() {
+        let digit = usize::from(*length);
         let above = (row.len() - 1 - place) * (sum + 1) + left;
+        // In two steps, as in `skip`.
         let next = skip(table, n, above, digit);
         n = next;
         left -= digit;
-        place += 1;
     }
     n
 }
 
 // Gather: the number of the codeword in the row.
-pub fn rank(shape: Shape, row: &[u8], table: &mut [u32]) -> Ranked
+pub fn rank(shape: Shape, row: &[u8], table: &mut [u32]) -> Result<[u32; 5], Refusal>
     ensures { Ranks shape row.now table.old table.new result }
 {
-    let checked = count_outcome(shape, table.len());
-    let outcome = rank_outcome(checked, shape, row);
-    fill_past(outcome, shape, table);
-    match outcome {
-        Outcome::Refused(_) => Ranked {
-            outcome: outcome,
-            number: [0; 5],
-        },
-        Outcome::Granted => {
-            let width = shape.width as usize;
-            let sum = shape.sum as usize;
-            Ranked {
-                outcome: outcome,
-                number: number_of(table, row, width, sum),
-            }
-        }
-    }
+    check_count(shape, table.len())?;
+    check_row(shape, row)?;
+    let limited = LimitedShape { shape };
+    fill(limited, table);
+    Ok(number_of(table, row, shape.width as usize, shape.sum as usize))
 }

@@ -1,25 +1,23 @@
--- The count and the table that an operation works with, what is left of them, and what Count answers.
+-- The count, the work slice that holds the table, and what Count answers.
 use mathlib.Core.Path.{◌≡◌, refl, ◌∙◌, ap, sym}
-use mathlib.Core.Bool.{Bool, not, cond}
 use mathlib.Core.List.{List, [], ◌++◌, append-nil}
 use Prim.Native.Nat.{ℕ, ◌+◌, ◌*◌, ◌^◌, ◌<◌}
 use native.Mathlib.Omega.{arith}
-use lib.Dec.{eqb}
 use lib.ListN.{length, take, drop}
+use Rattle.std.specs.Prelude.{Result, Ok, Err}
 use Rattle.refusal.specs.Code.{outcome_code, first_cause}
-use Rattle.refusal.specs.declared.Outcome.{Outcome}
-use Rattle.refusal.proofs.Causes.{Avoids, kind_then}
+use Rattle.refusal.specs.declared.Refusal.{Refusal}
 use Rattle.numbers.specs.Number.{value, to_words}
 use Rattle.numbers.proofs.NumberLaws.{value_to_words_5}
 use Rattle.profile.specs.Checks.{InLimits}
 use Rattle.profile.specs.declared.Shape.{Shape}
 use Rattle.counts.specs.Counts.{count, CountsFit}
-use Rattle.counts.specs.Table.{rows, table_length, with_table, leaves_table, table_after, Holds}
+use Rattle.counts.specs.Table.{rows, table_length, with_table, Holds}
 use Rattle.counts.specs.Operations.{count_causes, count_code, Counts}
-use Rattle.counts.specs.inner.Filling.{FillsPast}
 use Rattle.counts.proofs.CountLaws.{D-small, D-some}
 use Rattle.counts.proofs.Room.{count-early}
 use Rattle.counts.proofs.TableLaws.{cell_row, above_row}
+use Rattle.counts.proofs.TableOperation.{refused, granted, table-left}
 
 -- the last number of a table is the count
 pub last_cell : (shape : Shape) (more : List ℕ)
@@ -50,25 +48,18 @@ pub table-held : (shape : Shape) (work : List ℕ) {left : List ℕ} → left �
 unfolding with_table table_length Holds
 table-held shape work e = above_row shape.width shape.sum (shape.chains + 1) (drop (table_length shape) work) _ e
 
--- an operation that fills the table past causes none of which leaves it, before causes that all do: what it leaves in the work slice
-module _ (before after : List (Bool × ℕ)) (early : Avoids leaves_table before) (late : Avoids (λ k. not (leaves_table k)) after)
-    {n code : ℕ} (e : n ≡ first_cause before) (all : code ≡ first_cause (before ++ after)) where
-  pub leaves-past : leaves_table code ≡ eqb n 0
-  leaves-past = rw (e, all) (kind_then leaves_table before after refl early late)
-
-  pub table-past : (shape : Shape) (work : List ℕ) {left : List ℕ} → left ≡ cond (eqb n 0) (with_table shape work) work → left ≡ table_after code shape work
-  unfolding table_after
-  table-past shape work filled = filled ∙ rw leaves-past
-
 -- what Count answers
-pub counted : (shape : Shape) (work : List ℕ) {o : Outcome} {left n : List ℕ} → outcome_code o ≡ first_cause (count_causes shape (length work))
-    → FillsPast (outcome_code o) shape work left n
-    → Counts shape work left (record { outcome = o; count = n })
+count_whole : (shape : Shape) (work : List ℕ) → count_code shape work ≡ first_cause (count_causes shape (length work) ++ [])
 unfolding count_code
-counted shape work e fills =
-    let causes = count_causes shape (length work) in
-    record {
-      code = e;
-      counted = rw e at fills.counted;
-      table = table-past causes [] (count-early shape (length work)) tt e (ap first_cause (sym (append-nil causes))) shape work fills.table;
-    }
+count_whole shape work = ap first_cause (sym (append-nil (count_causes shape (length work))))
+
+module _ (shape : Shape) (work : List ℕ) {r : Result (Unit {0}) Refusal} (checked : outcome_code r ≡ first_cause (count_causes shape (length work))) where
+  pub count-refused : {cause : Refusal} {answer : Result (List ℕ) Refusal} → r ≡ Err cause → answer ≡ Err cause → Counts shape work work answer
+  count-refused was e =
+      let refuses = refused (count_causes shape (length work)) [] (count-early shape (length work)) (count_whole shape work) checked was in
+      rw e (record { code = refuses.answer; counted = rw refuses.some refl; table = refuses.untouched shape work })
+
+  pub count-granted : {v : Unit {0}} {n left : List ℕ} → r ≡ Ok v → n ≡ to_words 5 (count shape) → left ≡ with_table shape work → Counts shape work left (Ok n)
+  count-granted was counted filled =
+      let grants = granted (count_causes shape (length work)) [] (count-early shape (length work)) (count_whole shape work) checked was in
+      record { code = sym grants.rest; counted = rw grants.rest counted; table = table-left [] tt grants.rest shape work filled }

@@ -5,3 +5,4 @@ pub mod NextCell
 pub mod Room
 pub mod RowByRow
 pub mod TableLaws
+pub mod TableOperation

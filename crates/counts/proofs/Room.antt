@@ -21,7 +21,7 @@ use Rattle.counts.specs.Operations.{count_causes}
 use Rattle.counts.proofs.NextCell.{row_small}
 
 -- the last of the causes: the work slice is too short
-abbrev short : Shape → (words : ℕ) → List (Bool × ℕ)
+abbrev pub short : Shape → (words : ℕ) → List (Bool × ℕ)
 short shape words = (ltb words (table_length shape), 5) ∷ []
 
 -- what a code of the kind that leaves the table is not, 0 is not

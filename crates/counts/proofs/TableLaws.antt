@@ -1,12 +1,12 @@
 -- Where each number stands in the table, and what a store of the next one makes of it.
 use mathlib.Core.Path.{◌≡◌, refl, ◌∙◌, ap, sym}
 use mathlib.Core.Logic.{⊎_elim}
-use mathlib.Core.List.{List, ◌++◌, append_assoc, append-nil}
+use mathlib.Core.List.{List, ◌∷◌, ◌++◌, append_assoc, append-nil}
 use Prim.Native.Nat.{ℕ, zero, suc, ◌+◌, ◌-◌, ◌*◌, ◌<◌, ◌≤◌}
 use native.Mathlib.Nat.{eq-or-lt_of_le, le_of_suc-le-suc, mul-le-mul_right, suc-mul, add-zero}
 use native.Mathlib.Numerals.{add-one}
 use native.Mathlib.Omega.{arith}
-use lib.ListN.{length, take, drop, length-append, length-take, take-append-drop}
+use lib.ListN.{length, take, drop, set, replicate, replicate-append-replicate, length-append, length-take, take-append-drop}
 use lib.Seq.{take_at, drop_at, drop-append-add, drop-drop, take-length, paste}
 use Rattle.numbers.specs.Number.{to_words}
 use Rattle.numbers.proofs.NumberLaws.{length-to_words}
@@ -21,6 +21,23 @@ length-cells : (f : ℕ → ℕ) (n : ℕ) → length (cells f n) ≡ 5 * n
 unfolding cells
 length-cells f zero = refl
 length-cells f (suc n) = length-append (cells f n) (to_words 5 (f n)) ∙ omega (arith, length-cells f n, length-to_words 5 (f n))
+
+-- row 0 is one way to have the sum 0, and none to have another
+first_cells : (w n : ℕ) → cells (D w 0) (suc n) ≡ 1 ∷ replicate (5 * n + 4) 0
+unfolding cells D to_words
+first_cells w zero = refl
+first_cells w (suc n) =
+    let more : 5 * n + 4 + 5 ≡ 5 * suc n + 4 = omega arith in
+    rw (first_cells w n, ← more) (ap (λ l. 1 ∷ l) (replicate-append-replicate (5 * n + 4) 5 0))
+
+-- it stands where all is 0 but the first word
+pub first_row_is : (w s : ℕ) (work : List ℕ) {k : ℕ} {zeros : List ℕ} → k ≡ 5 * (s + 1) → zeros ≡ replicate k 0
+    → set (zeros ++ drop (5 * (s + 1)) work) 0 1 ≡ rows w s 1 ++ drop (5 * (1 * (s + 1))) work
+unfolding rows
+first_row_is w s work {k} long e =
+    let some : k ≡ suc (5 * s + 4) = omega arith in
+    let all : 5 * (1 * (s + 1)) ≡ 5 * (s + 1) = omega arith in
+    rw (e, some, all, add-one s, first_cells w s) refl
 
 -- the t-th of n numbers, with more behind them
 cell_in : (f : ℕ → ℕ) (n t : ℕ) (more : List ℕ) → t < n → take 5 (drop (5 * t) (cells f n ++ more)) ≡ to_words 5 (f t)
@@ -110,11 +127,6 @@ module _ (w s : ℕ) where
       (5 * ((i + 1) * (s + 1))) work
   unfolding rows
   row_ends i work = rw (row_end i s, add-one i)
-
-  -- no row is there yet
-  pub no_rows : (work : List ℕ) → take (5 * (0 * (s + 1))) work ≡ rows w s 0
-  unfolding rows
-  no_rows work = let none : 5 * (0 * (s + 1)) ≡ 0 = omega arith in rw none
 
   -- the rows above i
   pub above_row : (i : ℕ) (work table : List ℕ) → table ≡ rows w s i ++ work → take (5 * (i * (s + 1))) table ≡ rows w s i

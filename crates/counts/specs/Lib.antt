@@ -2,4 +2,3 @@
 pub mod Counts
 pub mod Table
 pub mod Operations
-pub mod inner

@@ -4,4 +4,4 @@
 pub mod cells;
 pub mod table;
 
-pub use table::{Counted, codeword_count};
+pub use table::codeword_count;

@@ -1,26 +1,43 @@
 // The reader: the sheet frame after frame, each call picking up behind the last.
 #![tactic(auto)]
 
-ghost use Rattle.std.specs.Prelude.{◌≡◌, suc};
-ghost use Rattle.frames.specs.Frames.{SizesInLimits, frame_at};
+ghost use Rattle.std.specs.Prelude.{◌≡◌, Ok, Err, MatchResult, suc};
+ghost use Rattle.frames.specs.Frames.{frame_at};
 ghost use Rattle.frame_reader.specs.Places.{place_after, place_at};
 ghost use Rattle.frame_reader.specs.inner.Parser.{Due};
 
 mod frame;
-mod places;
 
-use places::take_frame;
-use profile::Profile;
+use frame::frame;
+use frames::LimitedProfile;
 
-// Where the reader stands: at the index where the next line begins, with its number, or at the first line that is not right.
+// Where the reader stands: at the index where the next line begins, with its number.
 #[derive(Clone, Copy)]
 pub struct Place {
     pub at: usize,
     pub line: usize,
-    pub right: bool,
 }
 
-// A sheet, and where in it the next call picks up.
+// Where the reader stood before the text's frame, and where it stands behind it.
+#[derive(Clone, Copy)]
+pub struct Passed {
+    pub text: Place,
+    pub end: Place,
+}
+
+// Frame k, from a place on: the place behind it, or where its line begins, which is wrong.
+fn take_frame(sheet: &[u8], here: Place, limited: LimitedProfile, k: usize) -> Result<Place, Place>
+    requires { Due sheet.now k here }
+    ensures { result ≡ place_after sheet.now (frame_at limited.profile k) (Ok here) }
+{
+    let at = frame(sheet, here.at, limited, k).ok_or(here)?;
+    Ok(Place {
+        at,
+        line: here.line + 1,
+    })
+}
+
+// A sheet, and where in it the next call picks up: document 01 names that form.
 #[derive(Clone, Copy)]
 struct Reader<'a> {
     sheet: &'a [u8],
@@ -28,48 +45,37 @@ struct Reader<'a> {
 }
 
 impl<'a> Reader<'a> {
-    // Takes frame k.
-    fn next(self, p: Profile, k: usize) -> Reader<'a>
-        requires { Due self.sheet.now k self.place × SizesInLimits p }
-        ensures { (result.sheet ≡ self.entry.sheet)
-            × (result.place ≡ place_after self.entry.sheet.now (frame_at p k) self.entry.place) }
+    // Takes frame k: the reader behind it, or where its line begins, which is wrong.
+    fn next(self, limited: LimitedProfile, k: usize) -> Result<Reader<'a>, Place>
+        requires { Due self.sheet.now k self.place }
+        ensures { MatchResult result
+            (λ r. (r.sheet ≡ self.entry.sheet)
+            × (Ok r.place ≡ place_after self.entry.sheet.now (frame_at limited.profile k) (Ok self.entry.place)))
+            (λ wrong. Err wrong ≡ place_after self.entry.sheet.now (frame_at limited.profile k) (Ok self.entry.place)) }
     {
-        Reader {
+        let place = take_frame(self.sheet, self.place, limited, k)?;
+        Ok(Reader {
             sheet: self.sheet,
-            place: take_frame(self.sheet, self.place, p, k),
-        }
+            place,
+        })
     }
 }
 
-// Where a reader stood before the text's frame, and where it stands behind it.
-#[derive(Clone, Copy)]
-pub struct Passed {
-    pub text: Place,
-    pub end: Place,
-}
-
-// The whole sheet, by one reader: the frames in front of the text, which are so many, and then the text's.
-pub fn take_frames(sheet: &[u8], p: Profile, count: usize) -> Passed
-    requires { SizesInLimits p }
-    ensures { (result.text ≡ place_at sheet.now p count) × (result.end ≡ place_at sheet.now p (suc count)) }
+// The whole sheet, by one reader: the frames in front of the text, which are so many, and then the text's; or where the first
+// line begins that is wrong.
+pub fn take_frames(sheet: &[u8], limited: LimitedProfile, count: usize) -> Result<Passed, Place>
+    ensures { MatchResult result
+        (λ r. (place_at sheet.now limited.profile count ≡ Ok r.text) × (place_at sheet.now limited.profile (suc count) ≡ Ok r.end))
+        (λ wrong. place_at sheet.now limited.profile (suc count) ≡ Err wrong) }
 {
     let mut reader = Reader {
         sheet,
-        place: Place {
-            at: 0,
-            line: 1,
-            right: true,
-        },
+        place: Place { at: 0, line: 1 },
     };
-    let mut k = 0;
-    while k < count {
-        reader = reader.next(p, k);
-        k += 1;
+    for k in 0..count {
+        reader = reader.next(limited, k)?;
     }
     let text = reader.place;
-    reader = reader.next(p, count);
-    Passed {
-        text,
-        end: reader.place,
-    }
+    let end = reader.next(limited, count)?.place;
+    Ok(Passed { text, end })
 }

@@ -2,7 +2,7 @@
 use mathlib.Core.Path.{◌≡◌, refl, sym, ap, ◌∙◌}
 use mathlib.Core.Bool.{Bool, true, false, cond}
 use mathlib.Core.List.{List, [], ◌∷◌, ◌++◌}
-use Prim.Native.Nat.{ℕ, zero, suc, ◌+◌, ◌-◌, ◌/◌, ◌%◌, ◌^◌, ◌≤◌, ◌<◌}
+use Prim.Native.Nat.{ℕ, zero, suc, ◌+◌, ◌-◌, ◌≤◌, ◌<◌}
 use native.Mathlib.Nat.{zero-add}
 use native.Mathlib.Numerals.{add-one}
 use native.Mathlib.Omega.{arith}
@@ -99,15 +99,15 @@ module _ (p : Profile) where
         by false q = this (sibling-at (ltb-false k (4 + chains) q) (omega (arith, length-frames)))
 
 -- the kind byte of the leaf's frame and of R's
-pub kind_byte : (p : Profile) (k i : ℕ) → 2 ≤ k → k < 4 → i < length (frame_at p k).head → get_or (frame_at p k).head i 0 ≡ k
+pub kind-at : (p : Profile) (k i : ℕ) → 2 ≤ k → k < 4 → i < length (frame_at p k).head → get_or (frame_at p k).head i 0 ≡ k
 unfolding frames
-kind_byte p zero i low high h = absurd (omega arith)
-kind_byte p (suc zero) i low high h = absurd (omega arith)
-kind_byte p (suc (suc zero)) zero low high h = refl
-kind_byte p (suc (suc zero)) (suc i) low high h = absurd (omega arith)
-kind_byte p (suc (suc (suc zero))) zero low high h = refl
-kind_byte p (suc (suc (suc zero))) (suc i) low high h = absurd (omega arith)
-kind_byte p (suc (suc (suc (suc k)))) i low high h = absurd (omega arith)
+kind-at p zero i low high h = absurd (omega arith)
+kind-at p (suc zero) i low high h = absurd (omega arith)
+kind-at p (suc (suc zero)) zero low high h = refl
+kind-at p (suc (suc zero)) (suc i) low high h = absurd (omega arith)
+kind-at p (suc (suc (suc zero))) zero low high h = refl
+kind-at p (suc (suc (suc zero))) (suc i) low high h = absurd (omega arith)
+kind-at p (suc (suc (suc (suc k)))) i low high h = absurd (omega arith)
 
 -- the profile's frame: how many bytes it has
 pub profile-long : (p : Profile) → length (profile_frame p).head ≡ 6 + length (edition_byte p.edition)
@@ -137,12 +137,3 @@ unfolding profile_frame edition_byte to_bytes
 profile_byte p i e h =
     let same = edition_byte_lem (λ last. i < length (head_with p last) → get_or (head_with p (edition_byte 2)) i 0 ≡ get_or (head_with p last) i 0) p.edition in
     ap (λ l. get_or l i 0) e ∙ same (λ few. refl) (λ few. get_or-append (head_with p []) (2 ∷ []) 0 i few) h
-
--- the two bytes of the sum, with the byte of edition 2 behind them
-pub two_bytes : (sum : ℕ) (a b c d last : ℕ) → sum ≤ 600 → last ≡ 2
-    → ◌≡◌ {A = List ℕ} (a ∷ b ∷ c ∷ d ∷ sum / 256 ∷ sum % 256 ∷ last ∷ []) (a ∷ b ∷ c ∷ d ∷ (to_bytes 2 sum ++ edition_byte 2))
-unfolding to_bytes edition_byte
-two_bytes sum a b c d last h second =
-    let high : sum / 256 ^ 1 % 256 ≡ sum / 256 = omega arith in
-    let low : sum / 256 ^ 0 % 256 ≡ sum % 256 = omega arith in
-    rw (high, low, second)

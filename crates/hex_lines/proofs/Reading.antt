@@ -12,27 +12,26 @@ use lib.Seq.{drop-cons, append_snoc, take_all, take-suc-set, drop-set-lt}
 use Rattle.lists.proofs.Lists.{drop-two, get_or-within}
 use Rattle.hex_lines.specs.inner.Digits.{byte_of, byte_at, has_bytes, or_kept, read_into, ReadsLine}
 use Rattle.hex_lines.specs.Hex.{line_end, digit_of, Line, wrong, right, behind, read_line}
-use Rattle.hex_lines.specs.declared.Digits.{Digits}
-use Rattle.hex_lines.specs.declared.Digits.TheVariants.{Wrong, Byte}
+use Rattle.std.specs.Prelude.{Option, Some, None}
 use Rattle.hex_lines.proofs.HexLaws.{read_byte, read_end}
 
 module _ (chars : List ℕ) (at : ℕ) where
   -- what the tests on two characters tell
-  pub byte_short : length chars < at + 2 → byte_at chars at ≡ Wrong
+  pub byte_short : length chars < at + 2 → byte_at chars at ≡ None
   unfolding byte_at
   byte_short h = rw (lt-ltb (length chars) (at + 2) h)
 
-  pub byte_first_wrong : at + 2 ≤ length chars → 16 ≤ digit_of (get_or chars at 0) → byte_at chars at ≡ Wrong
+  pub byte_first_wrong : at + 2 ≤ length chars → 16 ≤ digit_of (get_or chars at 0) → byte_at chars at ≡ None
   unfolding byte_at byte_of
   byte_first_wrong h k = rw (le-ltb (length chars) (at + 2) h, le-ltb (digit_of (get_or chars at 0)) 16 k)
 
-  pub byte_second_wrong : at + 2 ≤ length chars → digit_of (get_or chars at 0) < 16 → 16 ≤ digit_of (get_or chars (at + 1) 0) → byte_at chars at ≡ Wrong
+  pub byte_second_wrong : at + 2 ≤ length chars → digit_of (get_or chars at 0) < 16 → 16 ≤ digit_of (get_or chars (at + 1) 0) → byte_at chars at ≡ None
   unfolding byte_at byte_of
   byte_second_wrong h k l =
       rw (le-ltb (length chars) (at + 2) h, lt-ltb (digit_of (get_or chars at 0)) 16 k, le-ltb (digit_of (get_or chars (at + 1) 0)) 16 l)
 
   pub byte_right : at + 2 ≤ length chars → digit_of (get_or chars at 0) < 16 → digit_of (get_or chars (at + 1) 0) < 16
-      → byte_at chars at ≡ Byte (16 * digit_of (get_or chars at 0) + digit_of (get_or chars (at + 1) 0))
+      → byte_at chars at ≡ Some (16 * digit_of (get_or chars at 0) + digit_of (get_or chars (at + 1) 0))
   unfolding byte_at byte_of
   byte_right h k l =
       rw (le-ltb (length chars) (at + 2) h, lt-ltb (digit_of (get_or chars at 0)) 16 k, lt-ltb (digit_of (get_or chars (at + 1) 0)) 16 l)
@@ -46,11 +45,11 @@ module _ (chars : List ℕ) (at : ℕ) where
   line-ends e = rw (drop-cons chars at 0 (ending-within e), e, add-one) (read_end (drop (suc at) chars))
 
   -- a byte stands at the index: the line goes on behind it
-  pub line_byte : {b : ℕ} → byte_at chars at ≡ Byte b → read_line (drop at chars) ≡ behind b (read_line (drop (at + 2) chars))
+  pub line_byte : {b : ℕ} → byte_at chars at ≡ Some b → read_line (drop at chars) ≡ behind b (read_line (drop (at + 2) chars))
   line_byte {b} e =
       by (ltb (length chars) (at + 2)) (ltb (digit_of (get_or chars at 0)) 16) (ltb (digit_of (get_or chars (at + 1) 0)) 16) refl refl refl
     where
-      never : byte_at chars at ≡ Wrong → ⊥
+      never : byte_at chars at ≡ None → ⊥
       never w = let z : ◌≡◌ {A = ℕ} 0 1 = cc in omega arith
 
       by : (t u v : Bool) → ltb (length chars) (at + 2) ≡ t → ltb (digit_of (get_or chars at 0)) 16 ≡ u → ltb (digit_of (get_or chars (at + 1) 0)) 16 ≡ v
@@ -66,7 +65,7 @@ module _ (chars : List ℕ) (at : ℕ) where
           rw (drop-two 0 chars at room, ← same) (read_byte (get_or chars at 0) (get_or chars (at + 1) 0) (drop (at + 2) chars) high low)
 
   -- no byte stands at the index, and no ending: the line is wrong
-  pub line-wrong : byte_at chars at ≡ Wrong → (get_or chars at 0 ≡ line_end → ⊥) → read_line (drop at chars) ≡ wrong
+  pub line-wrong : byte_at chars at ≡ None → (get_or chars at 0 ≡ line_end → ⊥) → read_line (drop at chars) ≡ wrong
   unfolding read_line
   line-wrong e other =
       by (ltb at (length chars)) (ltb (length chars) (at + 2)) (ltb (digit_of (get_or chars at 0)) 16) (ltb (digit_of (get_or chars (at + 1) 0)) 16) refl refl refl
@@ -119,7 +118,7 @@ module _ (front : List ℕ) (n : ℕ) where
 
   module _ (chars : List ℕ) (at : ℕ) where
     -- too few bytes
-    pub short-line : length front < n → byte_at chars at ≡ Wrong → has_bytes n (ahead front (read_line (drop at chars))) ≡ false
+    pub short-line : length front < n → byte_at chars at ≡ None → has_bytes n (ahead front (read_line (drop at chars))) ≡ false
     short-line h e = by (eqb (get_or chars at 0) line_end) refl
       where
         by : (t : Bool) → eqb (get_or chars at 0) line_end ≡ t → has_bytes n (ahead front (read_line (drop at chars))) ≡ false
@@ -130,20 +129,17 @@ module _ (front : List ℕ) (n : ℕ) where
     pub long-line : length front ≡ n → (get_or chars at 0 ≡ line_end → ⊥) → has_bytes n (ahead front (read_line (drop at chars))) ≡ false
     long-line h other = by (byte_at chars at) refl
       where
-        by : (d : Digits) → byte_at chars at ≡ d → has_bytes n (ahead front (read_line (drop at chars))) ≡ false
-        by Wrong e = rw (line-wrong chars at e other) never-right
-        by (Byte b) e = rw (line_byte chars at e) (long-right h b (read_line (drop (at + 2) chars)))
+        by : (d : Option ℕ) → byte_at chars at ≡ d → has_bytes n (ahead front (read_line (drop at chars))) ≡ false
+        by None e = rw (line-wrong chars at e other) never-right
+        by (Some b) e = rw (line_byte chars at e) (long-right h b (read_line (drop (at + 2) chars)))
 
 -- a line whose bytes have all been read
 whole-line : (front chars : List ℕ) (at : ℕ) → get_or chars at 0 ≡ line_end → ahead front (read_line (drop at chars)) ≡ right front (drop (at + 1) chars)
 whole-line front chars at e = rw (line-ends chars at e, append-nil)
 
--- the loop that reads a line from index `at` on: where it begins, a turn, and where the line ends
+-- the loop that reads a line from index `at` on: a turn, and where the line ends
 module _ (chars : List ℕ) (at : ℕ) where
-  pub read_begins : (bytes : List ℕ) → read_line (drop at chars) ≡ ahead (take 0 bytes) (read_line (drop (at + 2 * 0) chars))
-  read_begins bytes = let none : at + 2 * 0 ≡ at = omega arith in rw none (ahead_none (read_line (drop at chars)))
-
-  pub read_next : (bytes : List ℕ) (i : ℕ) {b : ℕ} → i < length bytes → byte_at chars (at + 2 * i) ≡ Byte b
+  pub read_next : (bytes : List ℕ) (i : ℕ) {b : ℕ} → i < length bytes → byte_at chars (at + 2 * i) ≡ Some b
       → read_line (drop at chars) ≡ ahead (take i bytes) (read_line (drop (at + 2 * i) chars))
       → read_line (drop at chars) ≡ ahead (take (i + 1) (set bytes i b)) (read_line (drop (at + 2 * (i + 1)) chars))
   read_next bytes i {b} h e before =
@@ -160,11 +156,8 @@ module _ (chars : List ℕ) (at : ℕ) where
 
 -- the same loop, by what it leaves in the slice
 module _ (chars : List ℕ) (at : ℕ) where
-  pub into_begins : (bytes : List ℕ) → read_into chars at bytes ≡ take 0 bytes ++ read_into chars (at + 2 * 0) (drop 0 bytes)
-  into_begins bytes = let none : at + 2 * 0 ≡ at = omega arith in rw none
-
   module _ (bytes : List ℕ) (i : ℕ) {left : List ℕ} (before : left ≡ take i bytes ++ read_into chars (at + 2 * i) (drop i bytes)) where
-    pub into_next : {b : ℕ} → i < length bytes → byte_at chars (at + 2 * i) ≡ Byte b
+    pub into_next : {b : ℕ} → i < length bytes → byte_at chars (at + 2 * i) ≡ Some b
         → left ≡ take (i + 1) (set bytes i b) ++ read_into chars (at + 2 * (i + 1)) (drop (i + 1) (set bytes i b))
     unfolding read_into or_kept
     into_next {b} h e =
@@ -182,7 +175,7 @@ module _ (chars : List ℕ) (at : ℕ) where
         )
 
     -- no byte stands at the index
-    pub into_wrong : byte_at chars (at + 2 * i) ≡ Wrong → bytes ≡ left
+    pub into_wrong : byte_at chars (at + 2 * i) ≡ None → bytes ≡ left
     unfolding read_into or_kept
     into_wrong e = sym (before ∙ rw (into_none (drop i bytes)) (take-append-drop i bytes))
       where
@@ -195,7 +188,7 @@ module _ (chars : List ℕ) (at : ℕ) where
     into_all h = sym (before ∙ rw (drop_of_length-le bytes h, append-nil) (take_all i bytes h))
 
 -- a byte takes two characters
-pub byte_room : (chars : List ℕ) (at : ℕ) {b : ℕ} → byte_at chars at ≡ Byte b → at + 2 ≤ length chars
+pub byte_room : (chars : List ℕ) (at : ℕ) {b : ℕ} → byte_at chars at ≡ Some b → at + 2 ≤ length chars
 byte_room chars at {b} e = by (ltb (length chars) (at + 2)) refl
   where
     by : (t : Bool) → ltb (length chars) (at + 2) ≡ t → at + 2 ≤ length chars

@@ -1,98 +1,71 @@
 // Bytes as upper-case hex, two characters a byte, and lines of them.
 #![tactic(auto)]
 
-ghost use Rattle.std.specs.Prelude.{◌≡◌, [], ◌∷◌, ◌+◌, ◌*◌, ◌≤◌, ◌<◌, length};
-ghost use Rattle.hex_lines.specs.Hex.{hex_digit, hex_of, line_of, digit_of};
-ghost use Rattle.hex_lines.specs.inner.Digits.{byte_at, between, ReadsLine};
-
-// What two characters are read as.
-#[derive(Clone, Copy)]
-pub enum Digits {
-    Wrong,
-    Byte(u8),
-}
+ghost use Rattle.std.specs.Prelude.{◌≡◌, [], ◌∷◌, ◌+◌, ◌*◌, ◌≤◌, ◌<◌, eqb, length, get_or};
+ghost use Rattle.hex_lines.specs.Hex.{hex_digit, hex_of, line_end, line_of};
+ghost use Rattle.hex_lines.specs.inner.Digits.{digit_in, byte_at, between, ReadsLine};
 
 // The character of a digit.
+#[tactic(auto, unfolding(crate::specs::Hex::hex_digit))]
 pub fn hex_digit(d: u8) -> u8
     requires { d < 16 }
     ensures { result ≡ hex_digit d }
 {
-    if d < 10 { 48 + d } else { 55 + d }
+    if d < 10 { b'0' + d } else { b'A' + (d - 10) }
 }
 
-// The digit that a character is; 16 where it is none.
-pub fn digit_of(c: u8) -> u8
-    ensures { result ≡ digit_of c }
+// The digit that a character is.
+#[tactic(auto, unfolding(crate::specs::Hex::digit_of))]
+pub fn digit_of(c: u8) -> Option<u8>
+    ensures { result ≡ digit_in c }
 {
-    if c < 48 {
-        return 16;
+    match c {
+        b'0'..=b'9' => Some(c - b'0'),
+        b'A'..=b'F' => Some(c - b'A' + 10),
+        _ => None,
     }
-    if c <= 57 {
-        return c - 48;
-    }
-    if c < 65 {
-        return 16;
-    }
-    if c <= 70 {
-        return c - 55;
-    }
-    16
 }
 
 // The byte that two characters are, from index `at` on.
-pub fn byte_at(chars: &[u8], at: usize) -> Digits
+#[tactic(auto, unfolding(crate::specs::inner::Digits::byte_of, crate::specs::inner::Digits::byte_at))]
+pub fn byte_at(chars: &[u8], at: usize) -> Option<u8>
     ensures { result ≡ byte_at chars.now at }
 {
-    if chars.len() < 2 {
-        return Digits::Wrong;
-    }
-    if chars.len() - 2 < at {
-        return Digits::Wrong;
-    }
-    let high = digit_of(chars[at]);
-    let low = digit_of(chars[at + 1]);
-    if 16 <= high {
-        return Digits::Wrong;
-    }
-    if 16 <= low {
-        return Digits::Wrong;
-    }
-    Digits::Byte(16 * high + low)
+    let high = digit_of(*chars.get(at)?)?;
+    let low = digit_of(*chars.get(at + 1)?)?;
+    Some(16 * high + low)
+}
+
+// Whether a line ends at an index.
+pub fn ends_at(chars: &[u8], at: usize) -> bool
+    ensures { result ≡ eqb (get_or chars.now at 0) line_end }
+{
+    chars.get(at) == Some(&b'\n')
 }
 
 // Whether the line from index `at` on has exactly as many bytes as the slice, which then holds them. Else it holds those
-// in front of the first that is wrong, and behind them what stood there.
+// in front of the first that is wrong, and behind them what stood there (`ReadsLine`), which no Option of bytes could tell.
 pub fn read_line(chars: &[u8], at: usize, bytes: &mut [u8]) -> bool
     requires { at ≤ length chars.now }
     ensures { ReadsLine chars.now at bytes.old bytes.new result }
 {
-    let mut i = 0;
-    while i < bytes.len() {
-        let Digits::Byte(b) = byte_at(chars, at + 2 * i) else {
+    for (i, byte) in bytes.iter_mut().enumerate() {
+        let Some(b) = byte_at(chars, at + 2 * i) else {
             return false;
         };
-        bytes[i] = b;
-        i += 1;
+        *byte = b;
     }
-    let end = at + 2 * i;
-    if chars.len() <= end {
-        return false;
-    }
-    if chars[end] != 10 {
-        return false;
-    }
-    true
+    ends_at(chars, at + 2 * bytes.len())
 }
 
 // Writes a byte as two characters from index `at` on.
+#[tactic(auto, using(crate::proofs::Writing::stored_byte))]
 pub fn write_byte(out: &mut [u8], at: usize, byte: u8)
     requires { at + 2 ≤ length out.old }
     ensures { out.new ≡ between out.old at (hex_of (byte ∷ [])) (at + 2) }
 {
-    let high = hex_digit(byte / 16);
-    let low = hex_digit(byte % 16);
-    out[at] = high;
-    out[at + 1] = low;
+    out[at] = hex_digit(byte / 16);
+    out[at + 1] = hex_digit(byte % 16);
 }
 
 // Writes bytes from index `at` on.
@@ -100,10 +73,8 @@ pub fn write_bytes(out: &mut [u8], at: usize, bytes: &[u8])
     requires { at + 2 * length bytes.now ≤ length out.old }
     ensures { out.new ≡ between out.old at (hex_of bytes.now) (at + 2 * length bytes.now) }
 {
-    let mut i = 0;
-    while i < bytes.len() {
-        write_byte(out, at + 2 * i, bytes[i]);
-        i += 1;
+    for (i, byte) in bytes.iter().enumerate() {
+        write_byte(out, at + 2 * i, *byte);
     }
 }
 
@@ -115,6 +86,6 @@ pub fn write_line(out: &mut [u8], at: usize, bytes: &[u8]) -> usize
 {
     write_bytes(out, at, bytes);
     let end = at + 2 * bytes.len();
-    out[end] = 10;
+    out[end] = b'\n';
     end + 1
 }

@@ -1,25 +1,22 @@
 -- A line that is read byte by byte: how many bytes are left, and that each one read leaves fewer.
 use mathlib.Core.Path.{◌≡◌, refl, ap}
-use mathlib.Core.Bool.{Bool, true, false, ◌||◌, cond}
+use mathlib.Core.Bool.{Bool, true, false, cond}
 use mathlib.Core.List.{List, [], ◌∷◌, ◌++◌}
-use Prim.Native.Nat.{ℕ, ◌+◌, ◌-◌, ◌≤◌, ◌<◌}
-use native.Mathlib.Numerals.{add-one}
+use Prim.Native.Nat.{ℕ, ◌-◌, ◌≤◌, ◌<◌}
 use native.Mathlib.Omega.{arith}
 use lib.Dec.{eqb}
-use lib.ListN.{length, get_or, drop, length-append, length-take, drop_of_length-le}
-use lib.Seq.{drop-cons}
+use lib.ListN.{length, length-append, length-take}
+use Rattle.std.specs.Prelude.{Some}
+use Rattle.std.specs.List.{list_any, slice_get}
 use Rattle.hex_lines.specs.Hex.{line_end}
 use Rattle.listing.specs.Input.{has_ending, to_read, line_read, left_of}
 use Rattle.listing.specs.declared.input.Input.{Input}
 
--- the ending is sought from one index to the next
-pub ending-from : (line : List ℕ) (i : ℕ) → i < length line → has_ending (drop i line) ≡ (eqb (get_or line i 0) line_end || has_ending (drop (i + 1) line))
+-- the ending as std's word for lists
+pub ending_contained : (line : List ℕ) → has_ending line ≡ list_any (λ c. eqb c line_end) line
 unfolding has_ending
-ending-from line i h = rw (add-one, drop-cons line i 0)
-
-pub ending-none : (line : List ℕ) → has_ending (drop (length line) line) ≡ false
-unfolding has_ending
-ending-none line = rw (drop_of_length-le line {i = length line} (omega arith))
+ending_contained [] = refl
+ending_contained (c ∷ line) = rw (ending_contained line) refl
 
 pub to_read-ended : (line : List ℕ) → has_ending line ≡ true → to_read line ≡ 0
 unfolding to_read
@@ -47,15 +44,23 @@ left-all i h = by i.ended h
     by true k = absurd (omega arith)
     by false k = refl
 
+pub not_ended : (i : Input) → 0 < left_of i → i.ended ≡ false
+unfolding left_of
+not_ended i h = by i.ended h
+  where
+    by : (b : Bool) → 0 < cond b 0 (to_read (line_read i)) → b ≡ false
+    by true k = absurd (omega arith)
+    by false k = refl
+
 -- there is room for the next byte
 pub room : (i : Input) → length i.bytes ≡ 11 → 0 < left_of i → i.long < 11
 room i long h = omega (arith, (still_open (line_read i) (rw (left-all i h) at h)).1, length-take i.long i.bytes)
 
 -- the byte that a read found
-pub one_byte : (found : List ℕ) → (length found ≡ 0 → ⊥) → length found ≤ 1 → (get_or found 0 0 ∷ []) ≡ found
-one_byte [] some few = absurd (some refl)
-one_byte (c ∷ []) some few = refl
-one_byte (c ∷ d ∷ more) some few = absurd (omega arith)
+pub one_item : {b : ℕ} (found : List ℕ) → Some b ≡ slice_get found 0 → length found ≤ 1 → b ∷ [] ≡ found
+one_item [] e few = cc
+one_item (c ∷ []) e few = cc
+one_item (c ∷ d ∷ more) e few = absurd (omega arith)
 
 -- a byte more leaves fewer to be read
 fewer_to_read : (line : List ℕ) (c : ℕ) → 0 < to_read line → to_read (line ++ (c ∷ [])) < to_read line

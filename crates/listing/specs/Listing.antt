@@ -1,6 +1,8 @@
 -- Document 01, The listing program.
-use Rattle.std.specs.Prelude.{◌≡◌, cond, ◌&&◌, List, [], ◌∷◌, ◌++◌, ℕ, min, eqb, length, get_or, drop}
-use Rattle.refusal.specs.Code.{first_cause}
+use Rattle.std.specs.Prelude.{◌≡◌, cond, ◌&&◌, List, [], ◌∷◌, ◌++◌, ℕ, min, eqb, length, get_or, drop, Result, Ok, Err}
+use Rattle.refusal.specs.Code.{code, first_cause}
+use Rattle.refusal.specs.declared.Refusal.{Refusal}
+use Rattle.refusal.specs.declared.Refusal.TheVariants.{SheetLine}
 use Rattle.octets.specs.Bytes.{from_bytes, to_bytes}
 use Rattle.lists.specs.Joined.{join_to}
 use Rattle.hex_lines.specs.Hex.{line_of, Line, wrong, right, read_line}
@@ -10,19 +12,17 @@ use Rattle.counts.specs.Table.{table_after}
 use Rattle.counts.specs.Operations.{count_causes}
 use Rattle.codewords.specs.Operations.{row_of}
 use Rattle.listing.specs.Input.{read_of}
-use Rattle.listing.specs.declared.Request.{Request}
-use Rattle.listing.specs.declared.Request.TheVariants.{Malformed, Asked}
 
 -- "kind 10 (hex): l, w (1 byte each), s (2)"
-unfoldable pub request_of : (bytes : List ℕ) → Request
+unfoldable pub request_of : (bytes : List ℕ) → Result Shape Refusal
 request_of bytes =
     cond (eqb (length bytes) 5 && eqb (get_or bytes 0 0) 16)
-    (Asked (record { chains = get_or bytes 1 0; width = get_or bytes 2 0; sum = from_bytes (drop 3 bytes) }))
-    Malformed
+    (Ok (record { chains = get_or bytes 1 0; width = get_or bytes 2 0; sum = from_bytes (drop 3 bytes) }))
+    (Err (SheetLine 1))
 
 -- "It reads one line from standard input": what stands behind the line is not looked at
-unfoldable pub request_in : Line → Request
-request_in wrong = Malformed
+unfoldable pub request_in : Line → Result Shape Refusal
+request_in wrong = Err (SheetLine 1)
 request_in (right bytes rest) = request_of bytes
 
 -- "kind 11 (hex), number (2 bytes), l lengths (1 each)"
@@ -45,19 +45,19 @@ table_words = 16000
 unfoldable pub listing_code : Shape → ℕ
 listing_code shape = first_cause (count_causes shape table_words)
 
--- "a malformed line prints 1F11"
-unfoldable pub answer_to : Request → List ℕ
-answer_to Malformed = refusal_line 17
-answer_to (Asked shape) = cond (eqb (listing_code shape) 0) (row_lines shape) (refusal_line (listing_code shape))
+-- "a malformed line prints 1F11": it is the first line, and 11 (hex) the number of its cause
+unfoldable pub answer_to : Result Shape Refusal → List ℕ
+answer_to (Err cause) = refusal_line (code cause)
+answer_to (Ok shape) = cond (eqb (listing_code shape) 0) (row_lines shape) (refusal_line (listing_code shape))
 
 -- all that is printed
 unfoldable pub listing_of : (input : List ℕ) → List ℕ
 listing_of input = answer_to (request_in (read_line input))
 
 -- what the work slice then holds: what Count leaves there, and after a malformed line what stood there
-unfoldable pub work_after : Request → (work : List ℕ) → List ℕ
-work_after Malformed work = work
-work_after (Asked shape) work = table_after (listing_code shape) shape work
+unfoldable pub work_after : Result Shape Refusal → (work : List ℕ) → List ℕ
+work_after (Err cause) work = work
+work_after (Ok shape) work = table_after (listing_code shape) shape work
 
 -- what is printed of a line that was read, and what the slices hold afterwards
 pub record Lists (line work work' out out' : List ℕ) (given : ℕ) : Type 0 where

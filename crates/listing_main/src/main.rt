@@ -9,10 +9,11 @@ use std::io::{Read, Write};
 // read asks the system for one byte, so nothing behind the line is taken.
 fn main(rt: HostRuntime) -> io::Result<()> {
     let mut input = Input::start();
+    // No `for`: how many reads there are, each read tells.
     while 0 < input.left() {
         let mut byte = [0u8; 1];
         let n = rt.stdin().read(&mut byte)?;
-        input = input.after(&byte[..n]);
+        input.take(&byte[..n]);
     }
     let mut table = [0u32; 16000];
     let mut out = [0u8; 22272];

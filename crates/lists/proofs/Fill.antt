@@ -2,10 +2,9 @@
 use mathlib.Core.Path.{◌≡◌, ◌∙◌, ap, sym}
 use mathlib.Core.List.{List, [], ◌∷◌, ◌++◌, append_assoc}
 use Prim.Native.Nat.{ℕ, suc, ◌+◌, ◌-◌, ◌<◌, ◌≤◌}
-use native.Mathlib.Numerals.{add-one, add-two, add-three, add-four}
 use native.Mathlib.Omega.{arith}
 use lib.ListN.{length, take, drop, set, replicate, length-append, length-drop, length-replicate, replicate-append-replicate}
-use lib.Seq.{take_all, set_at, append_snoc, take_at, take-length, drop_at, drop-append-add, drop-set-lt, drop-drop, sets-eq, paste}
+use lib.Seq.{take_all, set_at, append_snoc, take_at, take-length, drop_at, drop-append-add, drop-set-lt, drop-drop, paste}
 
 module _ {A : Type 0} where
   -- a turn's store: behind the n elements that are there, the first of the fill is replaced
@@ -54,8 +53,3 @@ module _ {A : Type 0} where
   pub behind-next : (l old : List A) (k : ℕ) (a : A) → drop k l ≡ drop k old → drop (k + 1) (set l k a) ≡ drop (k + 1) old
   behind-next l old k a e =
       drop-set-lt (k + 1) l k a (omega arith) ∙ sym (drop-drop 1 k l) ∙ ap (drop 1) e ∙ drop-drop 1 k old
-
-  -- five stores in a row
-  pub store_5 : (l : List A) (at : ℕ) (a b c d e : A) → at + 5 ≤ length l
-      → set (set (set (set (set l at a) (at + 1) b) (at + 2) c) (at + 3) d) (at + 4) e ≡ take at l ++ (a ∷ b ∷ c ∷ d ∷ e ∷ []) ++ drop (at + 5) l
-  store_5 l at a b c d e h = rw (add-one, add-two, add-three, add-four) (sets-eq (a ∷ b ∷ c ∷ d ∷ e ∷ []) l at h)

@@ -2,22 +2,21 @@
 #![tactic(auto)]
 
 ghost use Rattle.std.specs.Prelude.{◌≡◌, ◌*◌, ◌^◌, ◌≤◌, ◌<◌, length};
-ghost use Rattle.tweak.specs.Tweak.{Seeded};
 ghost use Rattle.merkle.specs.Nodes.{parent_of, sibling as siblingOf, climbed_once, climbed};
 
-use octets::read_16;
+use octets::array_at;
 use tweak::{Hasher, absorb, begin, end, node_address};
 
-// The hash of two children, by the height and index of the node made.
+// The hash of two children, by the height and index of the node made. What it is hashed in is not on the stack while the nodes below
+// it are made.
+#[inline(never)]
 pub fn parent(hasher: Hasher, height: u32, index: u32, left: [u8; 16], right: [u8; 16]) -> [u8; 16]
-    requires { Seeded hasher }
     ensures { result ≡ parent_of hasher.domain height index left right }
 {
-    let d = hasher.domain;
-    let address = node_address(d, height, index);
-    let opened = begin(hasher, address);
-    let with_left = absorb(opened, left);
-    end(absorb(with_left, right))
+    let mut hash = begin(hasher, node_address(hasher.domain, height, index));
+    absorb(&mut hash, left);
+    absorb(&mut hash, right);
+    end(hash)
 }
 
 // The other child of the same node.
@@ -30,7 +29,6 @@ pub fn sibling(index: u32) -> u32
 
 // One step of the climb: from a node and its sibling to the node above, which has the height `height`.
 fn climb_once(hasher: Hasher, height: u32, index: u32, own: [u8; 16], other: [u8; 16]) -> [u8; 16]
-    requires { Seeded hasher }
     ensures { result ≡ climbed_once hasher.domain height index own other }
 {
     if index % 2 == 0 {
@@ -48,19 +46,17 @@ pub fn climb_path(
     height: u32,
     siblings: &[u8],
 ) -> [u8; 16]
-    requires seeded { Seeded hasher }
-    requires height_in_bounds { 16 * height ≤ length siblings.now }
+    requires { 16 * height ≤ length siblings.now }
     ensures { result ≡ climbed hasher.domain leaf key siblings.now height }
 {
     let mut value = key;
     let mut index = leaf;
-    let mut k: u32 = 0;
-    while k < height {
-        let other = read_16(siblings, 16 * (k as usize));
-        let next = climb_once(hasher, k + 1, index, value, other);
-        value = next;
+    for k in 0..height {
+        let other = array_at(siblings, 16 * (k as usize));
+        // Named before it is assigned: no proof is written of a call that lays an array into a variable of the loop.
+        let above = climb_once(hasher, k + 1, index, value, other);
+        value = above;
         index /= 2;
-        k += 1;
     }
     value
 }

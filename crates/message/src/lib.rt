@@ -20,20 +20,16 @@ fn joined_digest(r: &[u8], seed: &[u8], root: &[u8], leaf: &[u8], message: &[u8]
         × (length message.now ≤ 200) }
     ensures { result ≡ digest (r.now ++ seed.now ++ root.now ++ leaf.now ++ message.now) }
 {
-    let with_r = Hash::start().add(r);
-    let first = with_r.hash;
-    let with_seed = first.add(seed);
-    let second = with_seed.hash;
-    let with_root = second.add(root);
-    let third = with_root.hash;
-    let with_leaf = third.add(leaf);
-    let fourth = with_leaf.hash;
-    let with_message = fourth.add(message);
-    let last = with_message.hash;
-    last.finish().digest()
+    // So few bytes are never refused.
+    let hash = Hash::start().add(r).hash;
+    let hash = hash.add(seed).hash;
+    let hash = hash.add(root).hash;
+    let hash = hash.add(leaf).hash;
+    let hash = hash.add(message).hash;
+    hash.finish().digest()
 }
 
-// How many bytes of the leaf a digest takes.
+// How many bytes of the leaf a digest takes. What the edition adds to a frame is another number, of another crate.
 fn leaf_bytes(edition: u32) -> usize
     ensures { result ≡ cond (eqb edition 2) 4 0 }
 {
@@ -52,9 +48,13 @@ fn message_digest(
     requires { length message.now ≤ 200 }
     ensures { result ≡ message_digest edition leaf r seed root message.now }
 {
-    let bytes = word_bytes(leaf);
-    let taken = leaf_bytes(edition);
-    joined_digest(&r, &seed, &root, &bytes[..taken], message)
+    joined_digest(
+        &r,
+        &seed,
+        &root,
+        &word_bytes(leaf)[..leaf_bytes(edition)],
+        message,
+    )
 }
 
 // Whether a count is too small for a number of 8 bits.
@@ -65,11 +65,11 @@ pub fn count_too_small(count: [u32; 5]) -> bool
 }
 
 // How many bits of the digest a count takes.
+#[tactic(auto, using(crate::proofs::NumberLaws::bits_of_log))]
 pub fn number_bits(count: [u32; 5]) -> u32
     ensures { result ≡ number_bits (value count) }
 {
-    let log = log2(count);
-    if log < 128 { log } else { 128 }
+    log2(count).min(128)
 }
 
 // The number that the first 16 bytes of a digest are, in five words.
@@ -107,7 +107,8 @@ pub fn message_number(
     requires message_len_bound { length message.now ≤ 200 }
     ensures { value result ≡ message_number p leaf r seed root message.now }
 {
-    let bits = number_bits(count);
-    let edition = p.edition;
-    number_of_digest(message_digest(edition, leaf, r, seed, root, message), bits)
+    number_of_digest(
+        message_digest(p.edition, leaf, r, seed, root, message),
+        number_bits(count),
+    )
 }

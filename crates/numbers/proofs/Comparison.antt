@@ -2,8 +2,10 @@
 use Rattle.std.proofs.Common.{◌≡◌, ℕ, zero, suc, ◌+◌, ◌^◌, ◌<◌, ◌≤◌, Bool, true, false, eqb, ◌⊎◌, List, [], ◌∷◌, ◌++◌, length, get_or, drop, sym, refl, ap, ◌∙◌, inl, inr, le_of_eq, le_refl, le_of_suc-le-suc, not-suc-le-zero, le_of_lt, arith, drop_of_length-le, drop-cons, le-ltb, lt-ltb, eq-eqb, ne_eqb, eqb-true}
 use mathlib.Core.Option.{Option, none, some}
 use borrow.Author.Tests.{eqb-false}
+use Rattle.std.specs.Ordering.{nat_cmp}
+use Rattle.std.proofs.lemmas.Grind.{common_steps}
 use Rattle.numbers.specs.Number.{value}
-use Rattle.numbers.specs.Order.{order_of, order_at, walk_below, highest_below, highest_differing, pairs_looked, WalkEnds, HighestDecides}
+use Rattle.numbers.specs.Order.{order_code, order_of, order_at, walk_below, highest_below, highest_differing, pairs_looked, WalkEnds, HighestDecides}
 use Rattle.lists.proofs.Lists.{Below}
 use Rattle.lists.proofs.Numbers.{lt_or_le}
 
@@ -16,6 +18,10 @@ order_equal {m} {n} same = rw (same, le-ltb n n (le_refl n))
 
 pub order-above : {m n : ℕ} → n < m → order_of m n ≡ 2
 order-above {m} {n} more = rw (le-ltb m n (le_of_lt more), lt-ltb n m more)
+
+-- what `cmp` answers is the order
+pub order_of_cmp : (m n : ℕ) → order_code (nat_cmp m n) ≡ order_of m n
+order_of_cmp m n = grind (arith, common_steps)
 
 -- below place 0 no words differ
 pub highest-none : (a b : List ℕ) → highest_below 0 a b ≡ none

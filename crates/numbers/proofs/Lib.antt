@@ -1,4 +1,4 @@
--- What the crate proves for others to cite: laws of numbers in words, of their order, of powers of two, and the steps of arithmetic on limbs.
+-- What the crate proves for others to cite: laws of numbers in words, of their order, of powers of two, and of limbs.
 pub mod Comparison
 pub mod LimbLaws
 pub mod NumberLaws

@@ -1,62 +1,10 @@
--- Numbers in three limbs: their sums and differences limb by limb, and their five words.
-use Rattle.std.proofs.Common.{◌≡◌, ℕ, suc, ◌+◌, ◌-◌, ◌*◌, ◌/◌, ◌%◌, ◌^◌, ◌<◌, ◌≤◌, List, [], ◌∷◌, length, get_or, sym, ap, ◌∙◌, arith}
+-- Numbers in three limbs, and their five words.
+use Rattle.std.proofs.Common.{◌≡◌, ℕ, suc, ◌+◌, ◌*◌, ◌/◌, ◌%◌, ◌^◌, ◌<◌, List, [], ◌∷◌, length, get_or, sym, ap, ◌∙◌, arith}
 use Rattle.numbers.specs.Number.{value, to_words}
 use Rattle.lists.proofs.Lists.{five}
 use Rattle.numbers.proofs.NumberLaws.{to_words-split}
 use Rattle.numbers.specs.inner.Limbs.{upper, number}
 use Rattle.numbers.specs.declared.limbs.Limbs.{Limbs}
-
--- what is above a limb of a number that is small
-above-small : (x n m : ℕ) → x + 2 ^ 64 * n < 2 ^ 64 * m → n < m
-above-small x n m h = omega arith
-
--- what is above a limb of a difference that is not below zero, less the borrow
-above_borrow : (x y r borrow u v : ℕ) → r < 2 ^ 64 → r + y ≡ x + 2 ^ 64 * borrow → y + 2 ^ 64 * v ≤ x + 2 ^ 64 * u → v + borrow ≤ u
-above_borrow x y r borrow u v h e f = omega arith
-
--- the steps that make the highest limb of a sum, and of a difference
-sum-steps : (x y carry : ℕ) → x + y + carry < 2 ^ 32 → (x + y < 2 ^ 32) × (x + y + carry < 2 ^ 32)
-sum-steps x y carry h = (omega arith, h)
-
-difference_steps : (x y borrow : ℕ) → y + borrow ≤ x → (y ≤ x) × (borrow ≤ x - y) × (x - y - borrow + y + borrow ≡ x)
-difference_steps x y borrow h = (omega arith, omega arith, omega arith)
-
--- the limbs of a sum
-module _ (a b : Limbs) (low middle c d : ℕ) (first : low + 2 ^ 64 * c ≡ a.low + b.low) (second : middle + 2 ^ 64 * d ≡ a.middle + b.middle + c) where
-  upper-sum : middle + 2 ^ 64 * (a.high + b.high + d) ≡ upper a + upper b + c
-  unfolding upper
-  upper-sum = omega arith
-
-  whole_sum : low + 2 ^ 64 * (upper a + upper b + c) ≡ number a + number b
-  unfolding number
-  whole_sum = omega arith
-
-  pub high_sum : number a + number b < 2 ^ 160 → (a.high + b.high < 2 ^ 32) × (a.high + b.high + d < 2 ^ 32)
-  high_sum h =
-      let small : upper a + upper b + c < 2 ^ 96 = above-small low (upper a + upper b + c) (2 ^ 96) (rw whole_sum h) in
-      sum-steps a.high b.high d (above-small middle (a.high + b.high + d) (2 ^ 32) (rw upper-sum small))
-
-  pub number-sum : number (record { low = low; middle = middle; high = a.high + b.high + d }) ≡ number a + number b
-  unfolding number upper
-  number-sum = rw upper-sum whole_sum
-
--- the limbs of a difference
-module _ (a b : Limbs) (low middle c d : ℕ) (first : low + b.low ≡ a.low + 2 ^ 64 * c) (second : middle + b.middle + c ≡ a.middle + 2 ^ 64 * d) where
-  pub high_difference : low < 2 ^ 64 → middle < 2 ^ 64 → number b ≤ number a
-      → (b.high ≤ a.high) × (d ≤ a.high - b.high) × (a.high - b.high - d + b.high + d ≡ a.high)
-  unfolding number upper
-  high_difference hl hm h =
-      let rest = above_borrow a.low b.low low c (upper a) (upper b) hl first h in
-      difference_steps a.high b.high d (above_borrow a.middle (b.middle + c) middle d a.high b.high hm (omega arith) (omega arith))
-
-  module _ (high : ℕ) (third : high + b.high + d ≡ a.high) where
-    upper_difference : upper (record { low = low; middle = middle; high = high }) + upper b + c ≡ upper a
-    unfolding upper
-    upper_difference = omega arith
-
-    pub number_difference : number (record { low = low; middle = middle; high = high }) + number b ≡ number a
-    unfolding number
-    number_difference = omega (arith, upper_difference)
 
 -- a limb is two words
 value_limb : (x y : ℕ) (ws : List ℕ) → value (x ∷ y ∷ ws) ≡ x + 2 ^ 32 * y + 2 ^ 64 * value ws

@@ -30,9 +30,6 @@ unfolding value
 value-below [] words = lit< tt
 value-below (x ∷ xs) words = rw (pow-suc (2 ^ 32) (length xs)) (omega (arith, words 0, value-below xs (λ j. words (suc j))))
 
-pub value_below_5 : (n : List ℕ) → length n ≡ 5 → Below (2 ^ 32) n → value n < 2 ^ 160
-value_below_5 n long words = rw long at (value-below n words)
-
 -- a number's words are the lowest of them, and those of what is left
 pub to_words-split : (k t n : ℕ) → to_words (suc k) (t + 2 ^ 32 * n) ≡ t % 2 ^ 32 ∷ to_words k (t / 2 ^ 32 + n)
 unfolding to_words

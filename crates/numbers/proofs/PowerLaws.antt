@@ -1,37 +1,42 @@
 -- Powers of two: the highest in a number, found by shifts, and a shift word by word.
-use Rattle.std.proofs.Common.{◌≡◌, ℕ, suc, ◌+◌, ◌-◌, ◌*◌, ◌/◌, ◌%◌, ◌^◌, ◌<◌, ◌≤◌, max, Bool, true, false, ltb, ◌⊎◌, List, [], ◌∷◌, ◌++◌, length, get_or, sym, refl, ap, ◌∙◌, inl, inr, le_trans, le_of_eq, le_of_lt, div-lt_iff_lt-mul, add_comm, mul-le-mul_left, le-div_iff_mul-le, arith, pow_pos, pow_mono, pow-add, shr-shr, ltb-false, ltb-true}
-use native.Mathlib.Nat.{zero-div, le-max_left}
+use Rattle.std.proofs.Common.{◌≡◌, ℕ, zero, suc, ◌+◌, ◌-◌, ◌*◌, ◌/◌, ◌%◌, ◌^◌, ◌<◌, ◌≤◌, max, ◌⊎◌, List, [], ◌∷◌, ◌++◌, length, get_or, take, sym, refl, ap, ◌∙◌, inl, inr, le_of_lt, add_comm, mul-le-mul_left, arith, lit<, mul-suc, pow_pos, pow_mono, pow-add, shr-shr}
+use native.Mathlib.Nat.{zero-div}
 use lib.Pow.{pow-lt, field, mod-mod-pow}
 use Rattle.numbers.specs.Number.{value}
 use Rattle.numbers.specs.Powers.{Log2}
 use Rattle.lists.proofs.Lists.{Below, five}
 use Rattle.lists.proofs.Numbers.{lt_or_le}
 
--- x shifted right by j, on the way to its highest power of two: what is left is not 0, unless nothing was shifted
-pub record Shifted (x j left : ℕ) : Type 0 where
-  pub quotient : left ≡ x / 2 ^ j
-  pub held : 2 ^ j ≤ max x 1
+-- where a word stands above j bits, its highest power of two, times 2^j, is that of the number
+log_above : (j k : ℕ) {low x : ℕ} → low < 2 ^ j → 2 ^ k ≤ x → x < 2 * 2 ^ k → Log2 (low + 2 ^ j * x) (j + k)
+log_above j k {low} {x} small held less =
+    let double : j + k + 1 ≡ 1 + k + j = omega arith in
+    record {
+      least = rw (pow-add 2 j k) (omega (arith, mul-le-mul_left (2 ^ j) held));
+      below = rw (pow-add 2 (j + k) 1, pow-add 2 j k) (omega (arith, mul-le-mul_left (2 ^ j) less));
+    }
 
--- a power of two in what is left, times what was shifted out, is in the number
-held_more : (d : ℕ) {x j left : ℕ} → Shifted x j left → 2 ^ d ≤ left → 2 ^ (j + d) ≤ x
-held_more d {x} {j} s h = le_trans (le_of_eq (ap (λ k. 2 ^ k) (add_comm j d) ∙ pow-add 2 d j)) ((le-div_iff_mul-le (pow_pos j)).0 (rw s.quotient at h))
+-- one word more of a number
+value_taken : (n : List ℕ) (i : ℕ) → value (take (suc i) n) ≡ value (take i n) + 2 ^ (32 * i) * get_or n i 0
+unfolding value
+value_taken [] zero = refl
+value_taken [] (suc i) = omega arith
+value_taken (x ∷ xs) zero = omega arith
+value_taken (x ∷ xs) (suc i) = rw (value_taken xs i, mul-suc 32 i, pow-add 2 (32 * i) 32) (omega arith)
 
--- one shift more
-pub shift_more : (d : ℕ) {x j left : ℕ} → Shifted x j left → 2 ^ d ≤ left → Shifted x (j + d) (left / 2 ^ d)
-shift_more d {x} {j} s h = record { quotient = rw s.quotient (shr-shr x j d); held = le_trans (held_more d s h) (le-max_left x 1) }
+taken_below : (n : List ℕ) (i : ℕ) → Below (2 ^ 32) n → value (take i n) < 2 ^ (32 * i)
+unfolding value
+taken_below n zero words = lit< tt
+taken_below [] (suc i) words = pow_pos (32 * suc i)
+taken_below (x ∷ xs) (suc i) words = rw (mul-suc 32 i, pow-add 2 (32 * i) 32) (omega (arith, words 0, taken_below xs i (λ j. words (suc j))))
 
--- the highest power of two in what is left gives that in the number
-pub log_shifted : {x j left k : ℕ} → Shifted x j left → Log2 left k → Log2 x (j + k)
-log_shifted {x} {j} {left} {k} s log =
-    let small : x / 2 ^ j < 2 ^ (k + 1) = rw (← s.quotient) log.below in
-    let order : j + k + 1 ≡ k + 1 + j = omega arith in
-    record { least = by (lt_or_le 0 left); below = rw (order, pow-add 2 (k + 1) j) ((div-lt_iff_lt-mul (pow_pos j)).0 small) }
-  where
-    by : (0 < left) ⊎ (left ≤ 0) → 2 ^ (j + k) ≤ max x 1
-    by (inl some) = le_trans (held_more k s (omega (arith, log.least))) (le-max_left x 1)
-    by (inr none) =
-        let one : 2 ^ k ≤ 1 = omega (arith, log.least) in
-        rw (pow-add 2 j k) (omega (arith, mul-le-mul_left (2 ^ j) one, s.held))
+-- of a number whose words above place i are 0, that word decides, if it is not 0; else the words above the place below are 0
+pub log_at : (n : List ℕ) (i k : ℕ) → Below (2 ^ 32) n → value n ≡ value (take (suc i) n) → 2 ^ k ≤ get_or n i 0 → get_or n i 0 < 2 * 2 ^ k
+    → Log2 (value n) (32 * i + k)
+log_at n i k words above held less = rw (above, value_taken n i) (log_above (32 * i) k (taken_below n i words) held less)
+
+pub taken_less : (n : List ℕ) (i : ℕ) → value n ≡ value (take (suc i) n) → get_or n i 0 ≡ 0 → value n ≡ value (take i n)
+taken_less n i above none = above ∙ value_taken n i ∙ rw none (omega arith)
 
 -- an exponent in a number is below the number's bits
 pub held_fits : {x j w : ℕ} → 2 ^ j ≤ max x 1 → x < 2 ^ w → 0 < w → j < w
@@ -53,24 +58,6 @@ value_zero (x ∷ xs) = rw (value_zero xs)
 
 pub value_dropped : (x : ℕ) (xs : List ℕ) → x < 2 ^ 32 → value (xs ++ (0 ∷ [])) ≡ value (x ∷ xs) / 2 ^ 32
 value_dropped x xs small = value_zero xs ∙ sym (value-upper x xs small)
-
--- a number below a word's bound is its lowest word
-pub one_word : (n : List ℕ) → value n < 2 ^ 32 → get_or n 0 0 ≡ value n
-unfolding value
-one_word [] small = refl
-one_word (x ∷ xs) small = omega arith
-
--- the largest number of one word, and what a comparison with it tells
-abbrev largest_word : List ℕ
-largest_word = 4294967295 ∷ 0 ∷ 0 ∷ 0 ∷ 0 ∷ []
-
-pub over_word : (n : List ℕ) {t : Bool} → t ≡ ltb (value largest_word) (value n) → t ≡ true → 2 ^ 32 ≤ value n
-unfolding value
-over_word n test holds = omega (arith, ltb-true (value largest_word) (value n) (sym test ∙ holds))
-
-pub within_word : (n : List ℕ) {t : Bool} → t ≡ ltb (value largest_word) (value n) → t ≡ false → value n < 2 ^ 32
-unfolding value
-within_word n test holds = omega (arith, ltb-false (value largest_word) (value n) (sym test ∙ holds))
 
 -- of a shift by t, at most a word, the lowest word depends on the two lowest words alone
 window : (n m t : ℕ) → t ≤ 32 → n % 2 ^ 64 ≡ m % 2 ^ 64 → n / 2 ^ t % 2 ^ 32 ≡ m / 2 ^ t % 2 ^ 32

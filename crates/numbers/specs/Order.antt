@@ -2,12 +2,12 @@
 use Rattle.std.specs.Prelude.{◌≡◌, ℕ, zero, suc, ◌-◌, ◌^◌, ◌<◌, cond, List, [], ◌∷◌, ◌++◌, length, ◌==◌, nat_lt, slice_index}
 use Rattle.std.proofs.Math.Option.{Option, none, some}
 use Rattle.numbers.specs.Number.{value}
-use Rattle.numbers.specs.declared.number.Order.{Order}
-use Rattle.numbers.specs.declared.number.Order.TheVariants.{Less, Equal, Greater}
+use Rattle.std.specs.declared.cmp.Ordering.{Ordering}
+use Rattle.std.specs.declared.cmp.Ordering.TheVariants.{Less, Equal, Greater}
 use Rattle.numbers.specs.declared.number.Compared.{Compared}
 
 -- the number of an order: 0 the first is less, 1 equal, 2 the first is greater
-abbrev pub order_code : Order → ℕ
+abbrev pub order_code : Ordering → ℕ
 order_code Less = 0
 order_code Equal = 1
 order_code Greater = 2

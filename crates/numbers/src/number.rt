@@ -1,17 +1,17 @@
 // Numbers of five 32-bit words, least word first: sums, differences and the order.
 ghost use Rattle.std.specs.Prelude.{◌≡◌, ◌+◌, ◌-◌, ◌^◌, ◌<◌, ◌≤◌, nat_lt};
 ghost use Rattle.numbers.specs.Number.{value, to_words};
-ghost use Rattle.numbers.specs.Order.{order_code, order_of, Compares};
+ghost use Rattle.numbers.specs.Order.{order_code, Compares};
 
 use super::limbs;
-use super::limbs::{from_words, to_words};
+use std::cmp::Ordering;
 
 // a + b, which fits five words.
 pub fn add(a: [u32; 5], b: [u32; 5]) -> [u32; 5]
     requires { value a + value b < 2 ^ 160 }
     ensures { result ≡ to_words 5 (value a + value b) }
 {
-    to_words(limbs::add(from_words(a), from_words(b)))
+    limbs::add(a.into(), b.into()).into()
 }
 
 // a - b, which is not below zero.
@@ -19,79 +19,50 @@ pub fn subtract(a: [u32; 5], b: [u32; 5]) -> [u32; 5]
     requires { value b ≤ value a }
     ensures { result ≡ to_words 5 (value a - value b) }
 {
-    to_words(limbs::subtract(from_words(a), from_words(b)))
+    limbs::subtract(a.into(), b.into()).into()
 }
 
-// How the first of two numbers stands to the second.
-#[derive(Clone, Copy)]
-pub enum Order {
-    Less,
-    Equal,
-    Greater,
-}
-
-// The number of an order: 0, 1, 2.
-pub fn order_code(o: Order) -> u32
+// The number of an order that the C interface writes: 0, 1, 2.
+pub fn order_code(o: Ordering) -> u32
     ensures { result ≡ order_code o }
 {
     match o {
-        Order::Less => 0,
-        Order::Equal => 1,
-        Order::Greater => 2,
+        Ordering::Less => 0,
+        Ordering::Equal => 1,
+        Ordering::Greater => 2,
     }
 }
 
 // The order of two numbers, and how many pairs of words were looked at to find it.
 #[derive(Clone, Copy)]
 pub struct Compared {
-    pub order: Order,
+    pub order: Ordering,
     pub looked: u32,
 }
 
-// The order of two words.
-fn word_order(x: u32, y: u32) -> Order
-    ensures { order_code result ≡ order_of x y }
-{
-    if x < y {
-        Order::Less
-    } else if y < x {
-        Order::Greater
-    } else {
-        Order::Equal
-    }
-}
-
-// Compares two numbers from the highest word down, as far as the first pair that differs.
+// Compares two numbers from the highest word down, as far as the first pair that differs, and counts the pairs one by one.
 pub fn compare(a: [u32; 5], b: [u32; 5]) -> Compared
     ensures { Compares a b result }
 {
-    let mut order = Order::Equal;
     let mut looked = 0;
-    let mut i = 5;
-    while 0 < i {
-        i -= 1;
+    for i in (0..5).rev() {
         looked += 1;
-        let x = a[i];
-        let y = b[i];
-        if x != y {
-            order = word_order(x, y);
-            break;
+        if a[i] != b[i] {
+            return Compared {
+                order: a[i].cmp(&b[i]),
+                looked,
+            };
         }
     }
     Compared {
-        order: order,
-        looked: looked,
+        order: Ordering::Equal,
+        looked,
     }
 }
 
-// Whether a is below b.
+// Whether a is below b. Of arrays with the least word first, the library's order is another.
 pub fn less(a: [u32; 5], b: [u32; 5]) -> bool
     ensures { result ≡ nat_lt (value a) (value b) }
 {
-    let order = compare(a, b).order;
-    match order {
-        Order::Less => true,
-        Order::Equal => false,
-        Order::Greater => false,
-    }
+    compare(a, b).order.is_lt()
 }

@@ -4,19 +4,17 @@ ghost use Rattle.numbers.specs.Number.{value};
 ghost use Rattle.numbers.specs.Powers.{Log2};
 
 use super::limbs::limb_of;
-use super::number::less;
 
-// The exponent of the highest power of two in a word; 0 for 0.
-fn word_log2(x: u32) -> u32
-    ensures { Log2 x result }
+// The exponent of the highest power of two in a number; 0 for 0.
+pub fn log2(n: [u32; 5]) -> u32
+    ensures { Log2 (value n) result }
 {
-    let mut rest = x;
-    let mut log = 0;
-    while 1 < rest {
-        rest = rest / 2;
-        log += 1;
+    for i in (0..5).rev() {
+        if n[i] != 0 {
+            return 32 * i as u32 + n[i].ilog2();
+        }
     }
-    log
+    0
 }
 
 // A number without its lowest word.
@@ -26,26 +24,12 @@ fn drop_word(n: [u32; 5]) -> [u32; 5]
     [n[1], n[2], n[3], n[4], 0]
 }
 
-// The exponent of the highest power of two in a number; 0 for 0.
-pub fn log2(n: [u32; 5]) -> u32
-    ensures { Log2 (value n) result }
-{
-    let mut rest = n;
-    let mut log = 0;
-    while less([4294967295, 0, 0, 0, 0], rest) {
-        let upper = drop_word(rest);
-        rest = upper;
-        log += 32;
-    }
-    log + word_log2(rest[0])
-}
-
 // The lower of two words, shifted right by less than a word, with the bits that come in from the higher.
 fn shift_word(low: u32, high: u32, bits: u32) -> u32
     requires { bits < 32 }
     ensures { result ≡ (low + 2 ^ 32 * high) / 2 ^ bits % 2 ^ 32 }
 {
-    ((limb_of(low, high) >> bits) % 4294967296) as u32
+    ((limb_of(low, high) >> bits) % (1 << 32)) as u32
 }
 
 // A number shifted right by less than a word.
@@ -67,11 +51,10 @@ pub fn shift_right(n: [u32; 5], bits: u32) -> [u32; 5]
     ensures { value result ≡ value n / 2 ^ bits }
 {
     let mut rest = n;
-    let mut left = bits;
-    while 31 < left {
+    for _ in 0..bits / 32 {
+        // In two steps: `rest = drop_word(rest)` is not proved, since the array would be read and written in one call.
         let upper = drop_word(rest);
         rest = upper;
-        left -= 32;
     }
-    shift_bits(rest, left)
+    shift_bits(rest, bits % 32)
 }

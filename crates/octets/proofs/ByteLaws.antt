@@ -10,6 +10,7 @@ use lib.Dec.{lit<}
 use lib.ListN.{length, get_or, take, length-append}
 use lib.Pow.{pow-add}
 use lib.Seq.{take-suc}
+use Rattle.std.specs.Int.{w32, from_be_bytes}
 use Rattle.octets.specs.Bytes.{from_bytes, to_bytes}
 use Rattle.lists.proofs.Lists.{Below}
 
@@ -61,3 +62,13 @@ front_wider i {n} {b} h k = rw (add-one, pow-succ') (omega arith)
 -- the first bytes of a word leave room for one more
 pub front-small : {n i : ℕ} → n < 256 ^ i → i ≤ 3 → n < 2 ^ 24
 front-small {n} {i} h k = omega (arith, pow-le-pow_right {n = 256} (lit< tt) {i = i} {j = 3} k)
+
+-- the library's number of four bytes
+pub be_bytes : (bytes : List ℕ) → length bytes ≡ 4 → from_be_bytes w32 bytes ≡ from_bytes bytes
+unfolding from_bytes
+be_bytes (a ∷ b ∷ c ∷ d ∷ []) four = omega arith
+be_bytes [] four = absurd (omega arith)
+be_bytes (a ∷ []) four = absurd (omega arith)
+be_bytes (a ∷ b ∷ []) four = absurd (omega arith)
+be_bytes (a ∷ b ∷ c ∷ []) four = absurd (omega arith)
+be_bytes (a ∷ b ∷ c ∷ d ∷ e ∷ more) four = absurd (omega arith)

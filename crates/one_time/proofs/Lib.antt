@@ -2,5 +2,4 @@
 pub mod Answers
 pub mod PlaceAnswer
 pub mod RecoverLaws
-pub mod RowLaws
 pub mod StepLaws

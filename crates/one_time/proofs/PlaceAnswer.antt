@@ -1,94 +1,106 @@
--- What Reveal and Recover share, once the table is filled past the causes before 7: what is answered and left, and what that tells.
+-- What Reveal and Recover share: what is answered and left on each way out, and what that tells.
 use mathlib.Core.Path.{◌≡◌, refl, ◌∙◌, ap, sym}
-use mathlib.Core.Bool.{Bool, false, cond}
+use mathlib.Core.Bool.{Bool, false}
 use mathlib.Core.List.{List, [], ◌∷◌, ◌++◌}
-use Prim.Native.Nat.{ℕ, ◌<◌, ◌≤◌}
-use native.Mathlib.Omega.{arith}
-use borrow.Author.Tests.{leb-false}
+use Prim.Native.Nat.{ℕ}
 use lib.Dec.{leb, eqb}
-use lib.ListN.{length, drop}
-use Rattle.refusal.specs.Code.{outcome_code, first_cause, then_first}
+use lib.ListN.{length, take, drop}
+use Rattle.std.specs.Prelude.{Result, Ok, Err}
+use Rattle.refusal.specs.Code.{outcome_code, first_cause}
 use Rattle.refusal.specs.declared.Refusal.{Refusal}
-use Rattle.refusal.specs.declared.Outcome.{Outcome}
-use Rattle.refusal.specs.declared.Outcome.TheVariants.{Granted, Refused}
-use Rattle.refusal.proofs.Causes.{Avoids, none_here, none-of-append, refused-number, code-kept}
+use Rattle.refusal.proofs.Causes.{Avoids, none_here, none-of-append, granted-none}
 use Rattle.profile.specs.Checks.{InLimits, leaf_beyond}
 use Rattle.profile.specs.declared.Profile.{Profile}
 use Rattle.counts.specs.Counts.{count}
 use Rattle.counts.specs.Table.{with_table, table_causes, leaves_table}
-use Rattle.counts.specs.inner.Filling.{FillsPast}
 use Rattle.counts.proofs.Room.{TablePassed, table-early, table-numbered, table-passed}
+use Rattle.counts.proofs.TableOperation.{Refuses, refused, refused-own, granted-own, table-left}
 use Rattle.codewords.specs.Operations.{row_of}
-use Rattle.codewords.specs.inner.Placing.{Placeable, PlacesPast}
-use Rattle.codewords.proofs.TableOperation.{early-code, none_before, answer-after, table-after}
-use Rattle.codewords.proofs.UnrankAnswer.{placeable}
+use Rattle.codewords.specs.inner.Placing.{PlacesNumber}
+use Rattle.codewords.proofs.RowLaws.{row_front}
+use Rattle.codewords.proofs.UnrankAnswer.{below_count}
 use Rattle.one_time.specs.Operations.{own_causes, place_code}
 use Rattle.one_time.specs.inner.Placing.{Places}
 
 -- the causes before 7: those of the table, then the size of the values and the leaf
-module _ (p : Profile) (work : List ℕ) (leaf : ℕ) (wrong : Bool) (size : ℕ) (other : leaves_table size ≡ false)
-    {n m : ℕ} (checked : n ≡ first_cause (table_causes p (length work))) (e : m ≡ then_first n (own_causes p.height leaf wrong size)) where
+module _ (p : Profile) (leaf n : ℕ) (wrong : Bool) (size : ℕ) (work : List ℕ) (other : leaves_table size ≡ false) where
   abbrev first : List (Bool × ℕ)
   first = table_causes p (length work)
 
   abbrev own : List (Bool × ℕ)
   own = own_causes p.height leaf wrong size
 
-  abbrev early : Avoids leaves_table first
-  early = table-early p (length work)
+  abbrev seven : List (Bool × ℕ)
+  seven = (leb (count p.shape) n, 7) ∷ []
 
   abbrev between : Avoids leaves_table own
   between = (other, (refl, tt))
 
-  code : m ≡ first_cause (first ++ own)
-  code = early-code first own early between checked e
+  stopped : {cause : Refusal} {answer : Result (List ℕ) Refusal} → Refuses (place_code p leaf n wrong size work) cause → answer ≡ Err cause
+      → Places p leaf n wrong size work work answer
+  stopped refuses e = rw e (record { code = refuses.answer; table = refuses.untouched p.shape work; placed = tt })
 
-  -- what the first refuse is refused
-  pub place_kept : n ≤ m
-  place_kept = code-kept n m own e
+  module _ {r : Result (Unit {0}) Refusal} (checked : outcome_code r ≡ first_cause (table_causes p (length work))) where
+    pub table_refused : {cause : Refusal} {answer : Result (List ℕ) Refusal} → r ≡ Err cause → answer ≡ Err cause
+        → Places p leaf n wrong size work work answer
+    unfolding place_code
+    table_refused was = stopped (refused first (own ++ seven) (table-early p (length work)) refl checked was)
 
-  pub place-passed : n ≡ 0 → TablePassed p (length work)
-  place-passed none = table-passed p (length work) (sym checked ∙ none)
+    module _ {v : Unit {0}} (passed : r ≡ Ok v) where
+      -- the table of the profile fits
+      pub table_fits : TablePassed p (length work)
+      table_fits = table-passed p (length work) (granted-none first passed checked)
 
-  pub place_answers : {k : ℕ} {left row row' : List ℕ} {r : Outcome} → left ≡ cond (eqb m 0) (with_table p.shape work) work
-      → PlacesPast m p.shape k row row' r → Places p leaf k wrong size work row left row' r
-  unfolding place_code
-  place_answers {k} filled places =
-      let seven : List (Bool × ℕ) = (leb (count p.shape) k, 7) ∷ [] in
-      let answer = places.answer ∙ answer-after first own early between code seven (refl, tt) refl in
-      let table = table-after first own early between code seven (refl, tt) refl p.shape work filled in
-      record { code = answer; table = table; placed = rw answer at places.placed }
+      module _ {s : Result (Unit {0}) Refusal} (looked : outcome_code s ≡ first_cause (own_causes p.height leaf wrong size)) where
+        pub own_refused : {cause : Refusal} {answer : Result (List ℕ) Refusal} → s ≡ Err cause → answer ≡ Err cause
+            → Places p leaf n wrong size work work answer
+        unfolding place_code
+        own_refused was = stopped (refused-own first own seven (table-early p (length work)) between refl checked passed looked was)
 
-  pub place-placeable : {left counted row : List ℕ} → FillsPast m p.shape work left counted → length row ≡ 40 → m ≡ 0 → Placeable p.shape counted left row
-  place-placeable fills long none =
-      let limits = (table-passed p (length work) (none_before first own early between code none).0).limits in
-      placeable work limits (omega (arith, limits.few_chains)) fills none
+        module _ {u : Unit {0}} (granted : s ≡ Ok u) where
+          rest : place_code p leaf n wrong size work ≡ first_cause seven
+          unfolding place_code
+          rest = (granted-own first own seven (table-early p (length work)) between refl checked passed looked granted).rest
 
--- what a grant tells: no cause holds, and the codeword stands in front of the row
-pub record Grants (code : ℕ) (p : Profile) (n : ℕ) (wrong : Bool) (row row' : List ℕ) : Type 0 where
+          -- 7 leaves the table, and so does a grant
+          module _ {left row row' : List ℕ} {t : Result (Unit {0}) Refusal} (filled : left ≡ with_table p.shape work)
+              (places : PlacesNumber p.shape n row row' t) where
+            pub number_refused : {cause : Refusal} {answer : Result (List ℕ) Refusal} → t ≡ Err cause → answer ≡ Err cause
+                → Places p leaf n wrong size work left answer
+            number_refused was e =
+                rw e (record {
+                  code = ap outcome_code (sym was) ∙ places.answer ∙ sym rest;
+                  table = table-left seven (refl, tt) rest p.shape work filled;
+                  placed = tt;
+                })
+
+            pub number_placed : {w : Unit {0}} → t ≡ Ok w → Places p leaf n wrong size work left (Ok row')
+            number_placed was =
+                let front = row_front p.shape n (below_count p.shape n row places.answer was) (drop p.shape.chains row) in
+                record {
+                  code = sym (rest ∙ granted-none seven was places.answer);
+                  table = table-left seven (refl, tt) rest p.shape work filled;
+                  placed = rw (rw was at places.placed) front;
+                }
+
+-- what a grant tells: no cause holds, and the row begins with the codeword
+pub record Grants (code : ℕ) (p : Profile) (n : ℕ) (wrong : Bool) (row : List ℕ) : Type 0 where
   pub none : code ≡ 0
   pub limits : InLimits p.shape
   pub sized : wrong ≡ false
-  pub below : n < count p.shape
-  pub placed : row' ≡ row_of p.shape n ++ drop p.shape.chains row
+  pub placed : take p.shape.chains row ≡ row_of p.shape n
 
-module _ {p : Profile} {leaf n : ℕ} {wrong : Bool} {size : ℕ} {work row work' row' : List ℕ} {r : Outcome}
-    (places : Places p leaf n wrong size work row work' row' r) where
-  pub place-some : {x : Refusal} → r ≡ Refused x → eqb (place_code p leaf n wrong size work) 0 ≡ false
-  place-some {x} q = refused-number r (place_code p leaf n wrong size work) x places.code q
-
-  pub place_grants : eqb size 0 ≡ false → r ≡ Granted → Grants (place_code p leaf n wrong size work) p n wrong row row'
+module _ {p : Profile} {leaf n : ℕ} {wrong : Bool} {size : ℕ} {work work' : List ℕ} {r : Result (List ℕ) Refusal}
+    (places : Places p leaf n wrong size work work' r) where
+  pub place_grants : {row : List ℕ} → eqb size 0 ≡ false → r ≡ Ok row → Grants (place_code p leaf n wrong size work) p n wrong row
   unfolding place_code
-  place_grants positive q =
-      let none : place_code p leaf n wrong size work ≡ 0 = sym places.code ∙ ap outcome_code q in
+  place_grants positive was =
+      let none : place_code p leaf n wrong size work ≡ 0 = sym places.code ∙ ap outcome_code was in
       let seven : List (Bool × ℕ) = (leb (count p.shape) n, 7) ∷ [] in
-      let first = none-of-append (table_causes p (length work)) (own_causes p.height leaf wrong size ++ seven) (table-numbered p (length work)) none in
-      let sized = none_here wrong size ((leaf_beyond p.height leaf, 11) ∷ seven) positive first.1 in
-      let within = none_here (leaf_beyond p.height leaf) 11 seven refl sized.1 in
+      let both = none-of-append (table_causes p (length work)) (own_causes p.height leaf wrong size ++ seven) (table-numbered p (length work)) none in
       record {
         none = none;
-        limits = (table-passed p (length work) first.0).limits;
-        sized = sized.0;
-        below = leb-false (count p.shape) n (none_here (leb (count p.shape) n) 7 [] refl within.1).0;
-        placed = rw none at places.placed;
+        limits = (table-passed p (length work) both.0).limits;
+        sized = (none_here wrong size ((leaf_beyond p.height leaf, 11) ∷ seven) positive both.1).0;
+        placed = rw was at places.placed;
       }

@@ -1,7 +1,8 @@
 -- Document 01, "Leaf key", "Reveal, number to l values" and "Recover, number and values to leaf key and steps".
-use Rattle.std.specs.Prelude.{◌≡◌, Bool, not, cond, List, [], ◌∷◌, ◌++◌, ℕ, ◌*◌, ltb, leb, eqb, length, drop, replicate}
+use Rattle.std.specs.Prelude.{◌≡◌, Bool, not, cond, List, [], ◌∷◌, ◌++◌, ℕ, ◌*◌, ltb, leb, eqb, length, drop, replicate, Result}
+use Rattle.std.specs.Result.{result_unwrap_or}
 use Rattle.refusal.specs.Code.{outcome_code, first_cause}
-use Rattle.refusal.specs.declared.Outcome.{Outcome}
+use Rattle.refusal.specs.declared.Refusal.{Refusal}
 use Rattle.profile.specs.Checks.{profile_causes, leaf_beyond}
 use Rattle.profile.specs.declared.Shape.{Shape}
 use Rattle.profile.specs.declared.Profile.{Profile}
@@ -11,17 +12,17 @@ use Rattle.codewords.specs.Operations.{row_of}
 use Rattle.tweak.specs.Tweak.{first_domain}
 use Rattle.tweak.specs.declared.Domain.{Domain}
 use Rattle.chains.specs.Leaves.{chains_of, revealed, leaf_key_of, recovered, steps_left}
-use Rattle.one_time.specs.declared.LeafKey.{LeafKey}
-use Rattle.one_time.specs.declared.Recovered.{Recovered}
+use Rattle.chains.specs.declared.steps.Walked.{Walked}
 
 -- "Leaf key and Root: profile checks; Leaf key also 11, leaf not below 2^h"
 unfoldable pub leaf_key_code : Profile → (leaf : ℕ) → ℕ
 leaf_key_code p leaf = first_cause (profile_causes p ++ ((leaf_beyond p.height leaf, 11) ∷ []))
 
--- what Leaf key answers; refused, the key is zero
-pub record LeafKeys (p : Profile) (seed secret : List ℕ) (leaf : ℕ) (r : LeafKey) : Type 0 where
-  pub code : outcome_code r.outcome ≡ leaf_key_code p leaf
-  pub key : r.key ≡ cond (eqb (leaf_key_code p leaf) 0) (leaf_key_of (first_domain seed) p secret leaf) (replicate 16 0)
+-- what Leaf key answers; a refusal is read as a key of zeros
+pub record LeafKeys (p : Profile) (seed secret : List ℕ) (leaf : ℕ) (r : Result (List ℕ) Refusal) : Type 0 where
+  pub code : outcome_code r ≡ leaf_key_code p leaf
+  pub key : result_unwrap_or r (replicate 16 0)
+      ≡ cond (eqb (leaf_key_code p leaf) 0) (leaf_key_of (first_domain seed) p secret leaf) (replicate 16 0)
 
 -- the causes of Reveal and Recover between 5 and 7: the size of the values, with the code that each has for it, and 11
 abbrev pub own_causes : (height leaf : ℕ) (wrong : Bool) (size : ℕ) → List (Bool × ℕ)
@@ -41,7 +42,8 @@ unfoldable pub revealed_by : Domain → Profile → (secret : List ℕ) (leaf n 
 revealed_by d p secret leaf n = revealed d (chains_of p.shape) secret leaf (row_of p.shape n)
 
 -- what Reveal answers and leaves
-pub record Reveals (p : Profile) (seed secret : List ℕ) (leaf n : ℕ) (work values work' values' : List ℕ) (r : Outcome) : Type 0 where
+pub record Reveals (p : Profile) (seed secret : List ℕ) (leaf n : ℕ) (work values work' values' : List ℕ)
+    (r : Result (Unit {0}) Refusal) : Type 0 where
   pub code : outcome_code r ≡ reveal_code p leaf n work values
   pub table : work' ≡ table_after (reveal_code p leaf n work values) p.shape work
   pub written : values'
@@ -61,9 +63,14 @@ recovered_by d p leaf n values = recovered d (chains_of p.shape) leaf (row_of p.
 unfoldable pub steps_of : Shape → (n : ℕ) → ℕ
 steps_of shape n = steps_left (chains_of shape) (row_of shape n)
 
--- what Recover answers and leaves; refused, the key is zero, and "Steps are 0 when refused"
-pub record Recovers (p : Profile) (seed : List ℕ) (leaf n : ℕ) (values work work' : List ℕ) (r : Recovered) : Type 0 where
-  pub code : outcome_code r.outcome ≡ recover_code p leaf n values work
-  pub key : r.key ≡ cond (eqb (recover_code p leaf n values work) 0) (recovered_by (first_domain seed) p leaf n values) (replicate 16 0)
-  pub steps : r.steps ≡ cond (eqb (recover_code p leaf n values work) 0) (steps_of p.shape n) 0
+-- "Steps are 0 when refused": what a refusal is read as
+abbrev pub no_walk : Walked
+no_walk = record { value = replicate 16 0; steps = 0 }
+
+-- what Recover answers and leaves
+pub record Recovers (p : Profile) (seed : List ℕ) (leaf n : ℕ) (values work work' : List ℕ) (r : Result Walked Refusal) : Type 0 where
+  pub code : outcome_code r ≡ recover_code p leaf n values work
+  pub key : (result_unwrap_or r no_walk).value
+      ≡ cond (eqb (recover_code p leaf n values work) 0) (recovered_by (first_domain seed) p leaf n values) (replicate 16 0)
+  pub steps : (result_unwrap_or r no_walk).steps ≡ cond (eqb (recover_code p leaf n values work) 0) (steps_of p.shape n) 0
   pub table : work' ≡ table_after (recover_code p leaf n values work) p.shape work

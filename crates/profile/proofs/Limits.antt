@@ -54,7 +54,7 @@ in_limits shape e =
 
 module _ (p : Profile) where
   -- the causes behind those of the shape
-  abbrev others : List (Bool × ℕ)
+  abbrev pub others : List (Bool × ℕ)
   others = (outside 0 10 p.height, 4) ∷ (outside 1 2 p.edition, 22) ∷ []
 
   pub profile-numbered : Numbered (profile_causes p)

@@ -1,16 +1,15 @@
--- Causes in order: those behind others count where none of these holds, and `then` goes from one to the next.
+-- Causes in order: those behind others count where none of these holds; and what the answer of a call tells of the causes that it looked at.
 use mathlib.Core.Path.{◌≡◌, refl, ◌∙◌, ap, sym}
-use mathlib.Core.Bool.{Bool, true, false, not, cond, true≢false}
-use mathlib.Core.List.{List, [], ◌∷◌, ◌++◌, append_assoc, append-nil}
+use mathlib.Core.Bool.{Bool, true, false, not, true≢false}
+use mathlib.Core.List.{List, [], ◌∷◌, ◌++◌}
 use mathlib.Core.Logic.{◌↔◌}
-use Prim.Native.Nat.{ℕ, zero, suc, ◌<◌, ◌≤◌}
+use Prim.Native.Nat.{ℕ, ◌<◌}
 use native.Mathlib.Omega.{arith}
-use borrow.Author.Tests.{eqb-true, eqb-false, eq-eqb, ne_eqb, not-false}
+use borrow.Author.Tests.{eqb-false, eq-eqb, ne_eqb, not-false}
 use lib.Dec.{eqb}
-use Rattle.refusal.specs.Code.{code, outcome_code, first_cause, then_first, then_code}
+use Rattle.std.specs.Prelude.{Result, Ok, Err}
+use Rattle.refusal.specs.Code.{code, outcome_code, first_cause}
 use Rattle.refusal.specs.declared.Refusal.{Refusal}
-use Rattle.refusal.specs.declared.Outcome.{Outcome}
-use Rattle.refusal.specs.declared.Outcome.TheVariants.{Granted, Refused}
 use Rattle.refusal.proofs.Positive.{code-positive}
 
 -- no cause of the list has a code of the kind that the test tells
@@ -90,10 +89,6 @@ none_then (cause ∷ first) more e p =
     let none = none_here cause.0 cause.1 first p.0 e in
     cause_passed cause.0 cause.1 (first ++ more) none.0 ∙ none_then first more none.1 p.1
 
-not_zero : (n : ℕ) → (n ≡ 0 → ⊥) → 0 < n
-not_zero zero h = absurd (h refl)
-not_zero (suc n) h = omega arith
-
 some_then : (first more : List (Bool × ℕ)) → 0 < first_cause first → first_cause (first ++ more) ≡ first_cause first
 some_then [] more h = absurd (omega arith)
 some_then (cause ∷ first) more h = by cause.0 cause.1 h (some_then first more)
@@ -124,95 +119,28 @@ none-of-append (cause ∷ first) more p e =
     let rest = none-of-append first more p.1 here.1 in
     (cause_passed cause.0 cause.1 first here.0 ∙ rest.0, rest.1)
 
--- a refused outcome's code is not 0
-pub refused-number : (o : Outcome) (n : ℕ) (r : Refusal) → outcome_code o ≡ n → o ≡ Refused r → eqb n 0 ≡ false
-refused-number o n r e q =
-    let positive : 0 < code r = code-positive r in
-    let number : n ≡ code r = sym e ∙ ap outcome_code q in
-    ne_eqb n 0 (λ z. omega arith)
+-- what an answer's code tells of the first causes, which gave it, and of all, with more behind them
+module _ {A : Type 0} {r : Result A Refusal} where
+  -- a refused answer's code is not 0
+  pub refused-some : {n : ℕ} {e : Refusal} → r ≡ Err e → outcome_code r ≡ n → 0 < n
+  refused-some {n} {e} q o = let positive : 0 < code e = code-positive e in let number : n ≡ code e = sym o ∙ ap outcome_code q in omega arith
 
--- a refused outcome's code is of no kind that its causes avoid
-pub refused_avoids : (kind : ℕ → Bool) (causes : List (Bool × ℕ)) (o : Outcome) → Avoids kind causes → outcome_code o ≡ first_cause causes → (r : Refusal)
-    → o ≡ Refused r
-    → kind (outcome_code o) ≡ false
-refused_avoids kind causes o p e r q =
-    let positive : 0 < code r = code-positive r in
-    let number : first_cause causes ≡ code r = sym e ∙ ap outcome_code q in
-    ap kind e ∙ first_avoids kind causes p (omega arith)
+  pub refused-number : {n : ℕ} {e : Refusal} → r ≡ Err e → outcome_code r ≡ n → eqb n 0 ≡ false
+  refused-number {n} q o = let some = refused-some q o in ne_eqb n 0 (λ z. omega arith)
 
--- the outcome of the first causes, with more behind them
-module _ (first more : List (Bool × ℕ)) (o : Outcome) (e : outcome_code o ≡ first_cause first) where
-  -- refused, the code of all causes is that of the first ones: not 0, and none that the first ones have not
-  module _ (r : Refusal) (q : o ≡ Refused r) where
-    pub refused_then : outcome_code o ≡ first_cause (first ++ more)
-    refused_then =
-        let positive : 0 < code r = code-positive r in
-        let number : first_cause first ≡ code r = sym e ∙ ap outcome_code q in
-        e ∙ sym (some_then first more (omega arith))
+  -- refused by one of the first, it is so by all
+  pub refused_first : (first more : List (Bool × ℕ)) {e : Refusal} → r ≡ Err e → outcome_code r ≡ first_cause first → code e ≡ first_cause (first ++ more)
+  refused_first first more q o = ap outcome_code (sym q) ∙ o ∙ sym (some_then first more (refused-some q o))
 
-    pub refused-some : eqb (first_cause (first ++ more)) 0 ≡ false
-    refused-some = refused-number o (first_cause (first ++ more)) r refused_then q
+  -- and its code is of no kind that they avoid
+  pub refused_avoids : (kind : ℕ → Bool) (first : List (Bool × ℕ)) {e : Refusal} → Avoids kind first → r ≡ Err e → outcome_code r ≡ first_cause first
+      → kind (code e) ≡ false
+  refused_avoids kind first {e} p q o = let number : code e ≡ first_cause first = ap outcome_code (sym q) ∙ o in rw number (first_avoids kind first p (refused-some q o))
 
-    pub refused-without : (k : ℕ) → eqb 0 k ≡ false → Without k first → eqb (first_cause (first ++ more)) k ≡ false
-    refused-without k h p = ap (λ n. eqb n k) (sym refused_then) ∙ refused_avoids (λ n. eqb n k) first o p e r q
+  -- granted, none of the first holds, and those behind them count
+  pub granted-none : (first : List (Bool × ℕ)) {v : A} → r ≡ Ok v → outcome_code r ≡ first_cause first → first_cause first ≡ 0
+  granted-none first q o = sym o ∙ ap outcome_code q
 
-  pub granted-none : o ≡ Granted → first_cause first ≡ 0
-  granted-none q = sym e ∙ ap outcome_code q
-
--- the code so far, or that of more causes where it is 0
-pub code_then : (first more : List (Bool × ℕ)) {n : ℕ} → Numbered first → n ≡ first_cause first → then_first n more ≡ first_cause (first ++ more)
-code_then first more {n} p e = by (eqb n 0) refl
-  where
-    by : (none : Bool) → eqb n 0 ≡ none → cond none (first_cause more) n ≡ first_cause (first ++ more)
-    by true z = sym (none_then first more (sym e ∙ eqb-true n 0 z) p)
-    by false z = let some : n ≡ 0 → ⊥ = eqb-false n 0 z in e ∙ sym (some_then first more (not_zero (first_cause first) (λ q. some (e ∙ q))))
-
--- more causes only add to what is refused
-pub code-kept : (n m : ℕ) (more : List (Bool × ℕ)) → m ≡ then_first n more → n ≤ m
-code-kept n m more e = by (eqb n 0) refl e
-  where
-    by : (none : Bool) → eqb n 0 ≡ none → m ≡ cond none (first_cause more) n → n ≤ m
-    by true z q = omega (arith, eqb-true n 0 z)
-    by false z q = omega arith
-
--- a chain of `then`: n is the code of the first causes, of which something else gave the outcome, and of the chain's own behind them
-pub record Chain (first own : List (Bool × ℕ)) (n : ℕ) : Type 0 where
-  pub numbered : Numbered (first ++ own)
-  pub answer : n ≡ first_cause (first ++ own)
-
-pub chain_begins : (first : List (Bool × ℕ)) {n : ℕ} → Numbered first → n ≡ first_cause first → Chain first [] n
-chain_begins first p e = record { numbered = rw append-nil p; answer = rw append-nil e }
-
--- a code that something gave is that of some causes: of none, or of one that holds
-abbrev pub standing : ℕ → List (Bool × ℕ)
-standing zero = []
-standing (suc n) = (true, suc n) ∷ []
-
--- a chain behind any code, and what its last code is
-pub chain_behind : (n : ℕ) → Chain (standing n) [] n
-chain_behind zero = chain_begins [] tt refl
-chain_behind (suc n) = chain_begins (standing (suc n)) (ne_eqb (suc n) 0 (λ z. omega arith), tt) refl
-
-pub chain_ends : (n : ℕ) {m : ℕ} {own : List (Bool × ℕ)} → Chain (standing n) own m → m ≡ then_first n own
-chain_ends zero chain = chain.answer
-chain_ends (suc n) chain = rw (ne_eqb (suc n) 0 (λ z. omega arith)) chain.answer
-
--- a test that means what it is to mean where none before it holds; behind a refusal it counts for nothing
-pub then_means : {n : ℕ} {test meant : Bool} (k : ℕ) → (n ≡ 0 → test ≡ meant) → then_code n test k ≡ then_code n meant k
-then_means {n} {test} {meant} k means = by (eqb n 0) refl
-  where
-    by : (none : Bool) → eqb n 0 ≡ none → cond none (cond test k 0) n ≡ cond none (cond meant k 0) n
-    by true z = rw (means (eqb-true n 0 z))
-    by false z = refl
-
--- one cause more, whose test means what it is to mean
-pub chain_next : {first own : List (Bool × ℕ)} {n m : ℕ} {test meant : Bool} (k : ℕ) → eqb k 0 ≡ false → Chain first own n → test ≡ meant
-    → m ≡ then_code n test k
-    → Chain first (own ++ ((meant, k) ∷ [])) m
-chain_next {first} {own} {n} {m} {test} {meant} k positive chain means e =
-    let last : List (Bool × ℕ) = (meant, k) ∷ [] in
-    let apart = append_assoc first own last in
-    record {
-      numbered = rw (← apart) (without-append 0 (first ++ own) last chain.numbered (positive, tt));
-      answer = e ∙ rw (means, ← apart) (code_then (first ++ own) last chain.numbered chain.answer);
-    }
+  pub granted_first : (first more : List (Bool × ℕ)) {v : A} → Numbered first → r ≡ Ok v → outcome_code r ≡ first_cause first
+      → first_cause (first ++ more) ≡ first_cause more
+  granted_first first more p q o = none_then first more (granted-none first q o) p

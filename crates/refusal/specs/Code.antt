@@ -1,6 +1,6 @@
 -- The codes of the causes of document 01, "Operations and their refusals", and of document 02; those from 23 on are of points still to
 -- come.
-use Rattle.std.specs.Prelude.{Bool, cond, List, [], ◌∷◌, ℕ, eqb}
+use Rattle.std.specs.Prelude.{Bool, cond, List, [], ◌∷◌, ℕ, Result, Ok, Err}
 use Rattle.refusal.specs.declared.Refusal.{Refusal}
 use Rattle.refusal.specs.declared.Refusal.TheVariants.{ChainCount, Width, Sum, Height, TableTooShort, OutputTooShort, NumberTooLarge}
 use Rattle.refusal.specs.declared.Refusal.TheVariants.{CodewordLength, DigitTooLarge, CodewordSum, LeafOutOfRange, KeySpent}
@@ -8,8 +8,6 @@ use Rattle.refusal.specs.declared.Refusal.TheVariants.{SignatureLength, LeafPass
 use Rattle.refusal.specs.declared.Refusal.TheVariants.{HashTooLong, CountTooSmall, NoMark, MarkStands, Edition, OrderCount}
 use Rattle.refusal.specs.declared.Refusal.TheVariants.{EndPlaces, LeafOrder, SiblingCount, LeafCount, ShareSum, DeskOutOfRange}
 use Rattle.refusal.specs.declared.Refusal.TheVariants.{ShareUsed, PlaceFilled, PlaceEmpty, ValueZero}
-use Rattle.refusal.specs.declared.Outcome.{Outcome}
-use Rattle.refusal.specs.declared.Outcome.TheVariants.{Granted, Refused}
 
 -- the number of each cause
 abbrev pub code : Refusal → ℕ
@@ -43,7 +41,7 @@ code RootDiffers = 15
 -- "16 order text empty or over 200 bytes"
 code MessageLength = 16
 -- "17 with the number, from 1, of the first line that is wrong"
-code SheetLine = 17
+code (SheetLine line) = 17
 -- "18, if the total with the new bytes is over 65,535"
 code HashTooLong = 18
 -- document 02, point 3: "19 when the count is below 256"
@@ -77,20 +75,22 @@ code PlaceEmpty = 32
 code ValueZero = 33
 
 -- 0 for granted, else the code of the cause
-abbrev pub outcome_code : Outcome → ℕ
-outcome_code Granted = 0
-outcome_code (Refused r) = code r
+abbrev pub outcome_code : {A : Type 0} → Result A Refusal → ℕ
+outcome_code (Ok value) = 0
+outcome_code (Err r) = code r
+
+-- "with the number, from 1, of the first line that is wrong": 0 where the cause is another
+abbrev pub wrong_line_of : Refusal → ℕ
+wrong_line_of (SheetLine line) = line
+wrong_line_of _ = 0
+
+-- and 0 where the call is granted
+abbrev pub line_told : {A : Type 0} → Result A Refusal → ℕ
+line_told (Ok value) = 0
+line_told (Err r) = wrong_line_of r
 
 -- "refused exactly for the causes …, the first in its order giving the number": of causes in order, each a test with its code, the code of
 -- the first that holds, or 0
 abbrev pub first_cause : List (Bool × ℕ) → ℕ
 first_cause [] = 0
 first_cause (cause ∷ more) = cond cause.0 cause.1 (first_cause more)
-
--- causes behind others: the code so far, or where that is 0 that of the first of them that holds
-abbrev pub then_first : (so_far : ℕ) → List (Bool × ℕ) → ℕ
-then_first so_far causes = cond (eqb so_far 0) (first_cause causes) so_far
-
--- one cause after another
-abbrev pub then_code : (so_far : ℕ) → (holds : Bool) → (next : ℕ) → ℕ
-then_code so_far holds next = then_first so_far ((holds, next) ∷ [])

@@ -1,12 +1,12 @@
 // The causes for which a call is refused, their codes, and how one cause is looked at after another.
 #![tactic(auto)]
 
-ghost use Rattle.std.specs.Prelude.{◌≡◌};
-ghost use Rattle.refusal.specs.Code.{code, outcome_code, then_code};
+ghost use Rattle.std.specs.Prelude.{◌≡◌, true, false, OnOk, IfErr};
+ghost use Rattle.refusal.specs.Code.{code, outcome_code, line_told};
 
 // Every cause of documents 01 and 02, in the order of their codes, which are the documents' numbers. Those from 23 on belong to
-// points of document 02 that are still to come.
-#[derive(Clone, Copy)]
+// points of document 02 that are still to come. `SheetLine` carries the first line that is wrong, from 1.
+#[derive(Clone, Copy, Debug, PartialEq, Eq)]
 pub enum Refusal {
     ChainCount,
     Width,
@@ -24,7 +24,7 @@ pub enum Refusal {
     LeafPassed,
     RootDiffers,
     MessageLength,
-    SheetLine,
+    SheetLine(u32),
     HashTooLong,
     CountTooSmall,
     NoMark,
@@ -43,79 +43,74 @@ pub enum Refusal {
     ValueZero,
 }
 
-// The answer of an operation that gives no value of its own.
-#[derive(Clone, Copy)]
-pub enum Outcome {
-    Granted,
-    Refused(Refusal),
-}
-
-// The code of a cause: the number that the interface page prints for it.
-pub fn code(r: Refusal) -> u8
-    ensures { result ≡ code r }
-{
-    match r {
-        Refusal::ChainCount => 1,
-        Refusal::Width => 2,
-        Refusal::Sum => 3,
-        Refusal::Height => 4,
-        Refusal::TableTooShort => 5,
-        Refusal::OutputTooShort => 6,
-        Refusal::NumberTooLarge => 7,
-        Refusal::CodewordLength => 8,
-        Refusal::DigitTooLarge => 9,
-        Refusal::CodewordSum => 10,
-        Refusal::LeafOutOfRange => 11,
-        Refusal::KeySpent => 12,
-        Refusal::SignatureLength => 13,
-        Refusal::LeafPassed => 14,
-        Refusal::RootDiffers => 15,
-        Refusal::MessageLength => 16,
-        Refusal::SheetLine => 17,
-        Refusal::HashTooLong => 18,
-        Refusal::CountTooSmall => 19,
-        Refusal::NoMark => 20,
-        Refusal::MarkStands => 21,
-        Refusal::Edition => 22,
-        Refusal::OrderCount => 23,
-        Refusal::EndPlaces => 24,
-        Refusal::LeafOrder => 25,
-        Refusal::SiblingCount => 26,
-        Refusal::LeafCount => 27,
-        Refusal::ShareSum => 28,
-        Refusal::DeskOutOfRange => 29,
-        Refusal::ShareUsed => 30,
-        Refusal::PlaceFilled => 31,
-        Refusal::PlaceEmpty => 32,
-        Refusal::ValueZero => 33,
-    }
-}
-
-// The code of an outcome: 0 for granted, else the code of its cause.
-pub fn outcome_code(o: Outcome) -> u8
-    ensures { result ≡ outcome_code o }
-{
-    match o {
-        Outcome::Granted => 0,
-        Outcome::Refused(r) => code(r),
-    }
-}
-
-impl Outcome {
-    // Goes on with the next cause: what is refused so far stays refused, and otherwise the cause is looked at. So causes in
-    // their order read from top to bottom.
-    pub fn then(self, holds: bool, cause: Refusal) -> Outcome
-        ensures { outcome_code result ≡ then_code (outcome_code self) holds (code cause) }
+impl Refusal {
+    // The code of a cause: the number that the interface page prints for it.
+    // A match and no discriminants, since one cause carries a line; a method and no `From`, since its clause is the number.
+    pub fn code(self) -> u8
+        ensures { result ≡ code self }
     {
         match self {
-            Outcome::Refused(_) => self,
-            Outcome::Granted => {
-                if holds {
-                    Outcome::Refused(cause)
-                } else {
-                    Outcome::Granted
-                }
-            }
+            Refusal::ChainCount => 1,
+            Refusal::Width => 2,
+            Refusal::Sum => 3,
+            Refusal::Height => 4,
+            Refusal::TableTooShort => 5,
+            Refusal::OutputTooShort => 6,
+            Refusal::NumberTooLarge => 7,
+            Refusal::CodewordLength => 8,
+            Refusal::DigitTooLarge => 9,
+            Refusal::CodewordSum => 10,
+            Refusal::LeafOutOfRange => 11,
+            Refusal::KeySpent => 12,
+            Refusal::SignatureLength => 13,
+            Refusal::LeafPassed => 14,
+            Refusal::RootDiffers => 15,
+            Refusal::MessageLength => 16,
+            Refusal::SheetLine(_) => 17,
+            Refusal::HashTooLong => 18,
+            Refusal::CountTooSmall => 19,
+            Refusal::NoMark => 20,
+            Refusal::MarkStands => 21,
+            Refusal::Edition => 22,
+            Refusal::OrderCount => 23,
+            Refusal::EndPlaces => 24,
+            Refusal::LeafOrder => 25,
+            Refusal::SiblingCount => 26,
+            Refusal::LeafCount => 27,
+            Refusal::ShareSum => 28,
+            Refusal::DeskOutOfRange => 29,
+            Refusal::ShareUsed => 30,
+            Refusal::PlaceFilled => 31,
+            Refusal::PlaceEmpty => 32,
+            Refusal::ValueZero => 33,
         }
     }
+}
+
+// The code of an answer: 0 where it is granted, else the code of its cause.
+pub fn outcome_code<T>(answer: &Result<T, Refusal>) -> u8
+    ensures { result ≡ outcome_code answer.now }
+{
+    match answer {
+        Ok(_) => 0,
+        Err(cause) => cause.code(),
+    }
+}
+
+// The wrong line that an answer tells, 0 where it tells none.
+pub fn line_told<T>(answer: &Result<T, Refusal>) -> u32
+    ensures { result ≡ line_told answer.now }
+{
+    match answer {
+        Err(Refusal::SheetLine(line)) => *line,
+        _ => 0,
+    }
+}
+
+// Refuses for a cause that holds, so that causes in their order read from top to bottom.
+pub fn refuse_if(holds: bool, cause: Refusal) -> Result<(), Refusal>
+    ensures granted { OnOk result (holds ≡ false) }
+    ensures refused { IfErr result (λ r. (r ≡ cause) × (holds ≡ true)) }
+{
+    if holds { Err(cause) } else { Ok(()) }
 }

@@ -2,11 +2,13 @@
 use mathlib.Core.Path.{◌≡◌, refl, ◌∙◌, ap, sym}
 use mathlib.Core.List.{List, [], ◌∷◌, ◌++◌, append_assoc}
 use Prim.Native.Nat.{ℕ, ◌+◌, ◌-◌, ◌*◌, ◌%◌, ◌<◌, ◌≤◌}
+use native.Mathlib.Numerals.{add-one}
 use native.Mathlib.Omega.{arith}
-use lib.ListN.{length, take, replicate, length-append, length-replicate, replicate-append-replicate}
+use lib.ListN.{length, take, set, replicate, length-append, length-replicate, replicate-append-replicate}
+use lib.Seq.{length-take-le}
 use Rattle.octets.specs.Bytes.{to_bytes}
 use Rattle.octets.proofs.ByteLaws.{length-to_bytes}
-use Rattle.lists.proofs.Fill.{take_fill}
+use Rattle.lists.proofs.Fill.{take_fill, store-next}
 use Rattle.sha256_block.specs.Compression.{compress}
 use Rattle.sha256_block.specs.declared.compression.HashWords.{HashWords}
 use Rattle.sha256.specs.Digest.{padding, compress_all}
@@ -15,6 +17,13 @@ use Rattle.sha256.proofs.Blocks.{all_append, all_one}
 -- the pending bytes and the mark, in a block of zeros
 abbrev pub marked : List ℕ → ℕ → List ℕ
 marked pending k = pending ++ (128 ∷ []) ++ replicate (64 - (k + 1)) 0
+
+-- the mark set behind the bytes of a block that are kept
+pub mark_set : (block : List ℕ) (n : ℕ) {k : ℕ} {held : List ℕ} → length block ≡ 64 → k ≡ n % 64 → held ≡ take k block ++ replicate (64 - k) 0
+    → set held k 128 ≡ marked (take (n % 64) block) (n % 64)
+mark_set block n room e h =
+    let long : length (take (n % 64) block) ≡ n % 64 = length-take-le (n % 64) block (omega arith) in
+    rw (h, e, add-one) (store-next (take (n % 64) block) 0 128 (n % 64) 64 long (omega arith))
 
 -- the last block: what is in front of the number of bits, and that number
 abbrev pub closed : List ℕ → ℕ → List ℕ

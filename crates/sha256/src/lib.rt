@@ -3,4 +3,4 @@
 
 mod running;
 
-pub use running::{Added, Hash, put};
+pub use running::{Added, Hash};

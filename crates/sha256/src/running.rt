@@ -1,12 +1,11 @@
 // The running hash: eight words, a block of pending bytes and the total.
 ghost use Rattle.std.specs.Prelude.{◌≡◌, ◌++◌, ◌+◌, ◌-◌, ◌*◌, ◌≤◌, length, take, replicate};
-ghost use Rattle.std.proofs.Math.Seq.{paste};
 ghost use Rattle.octets.specs.Bytes.{to_bytes};
 ghost use Rattle.sha256.specs.Digest.{compress_all, word_bytes};
 ghost use Rattle.sha256.specs.Running as spec;
 
-use octets::{copy, write_word};
-use refusal::{Outcome, Refusal};
+use octets::copy;
+use refusal::Refusal;
 use sha256_block::{HashWords, compress, initial};
 
 // Of the block, total modulo 64 bytes are pending; the others count for nothing.
@@ -17,14 +16,16 @@ pub struct Hash {
     pub total: u16,
 }
 
-// What add answers, with the state that it hands back.
+// What add answers, with the state that it hands back. The running hash goes by value, each step handing the next state back, and
+// so does a step that is refused: document 01 names that form.
 #[derive(Clone, Copy)]
 pub struct Added {
-    pub outcome: Outcome,
+    pub outcome: Result<(), Refusal>,
     pub hash: Hash,
 }
 
 impl Hash {
+    #[tactic(auto, unfolding(crate::specs::Running::started))]
     pub fn start() -> Hash
         ensures { result ≡ spec.started }
     {
@@ -34,19 +35,19 @@ impl Hash {
     pub fn add(self, bytes: &[u8]) -> Added
         ensures { spec.Adds self bytes.now result }
     {
-        let total = self.total as usize;
-        if 65535 - total < bytes.len() {
+        if 65535 - usize::from(self.total) < bytes.len() {
             return Added {
-                outcome: Outcome::Refused(Refusal::HashTooLong),
+                outcome: Err(Refusal::HashTooLong),
                 hash: self,
             };
         }
         Added {
-            outcome: Outcome::Granted,
+            outcome: Ok(()),
             hash: extended(self, bytes),
         }
     }
 
+    #[tactic(auto, unfolding(crate::specs::Running::finished))]
     pub fn finish(self) -> Hash
         ensures { result ≡ spec.finished self }
     {
@@ -58,14 +59,12 @@ impl Hash {
         ensures { result ≡ word_bytes self.words }
     {
         let w = self.words;
-        let a = put_word([0; 32], 0, w.a);
-        let b = put_word(a, 4, w.b);
-        let c = put_word(b, 8, w.c);
-        let d = put_word(c, 12, w.d);
-        let e = put_word(d, 16, w.e);
-        let f = put_word(e, 20, w.f);
-        let g = put_word(f, 24, w.g);
-        put_word(g, 28, w.h)
+        let words = [w.a, w.b, w.c, w.d, w.e, w.f, w.g, w.h];
+        let mut bytes = [0u8; 32];
+        for (k, word) in words.iter().enumerate() {
+            copy(&octets::word_bytes(*word), &mut bytes, 4 * k);
+        }
+        bytes
     }
 }
 
@@ -74,62 +73,38 @@ fn fresh(words: HashWords) -> Hash
     ensures { result ≡ spec.fresh words }
 {
     Hash {
-        words: words,
+        words,
         block: [0; 64],
         total: 0,
     }
 }
 
-// A word's four bytes from index `at` on.
-fn put_word(out: [u8; 32], at: usize, x: u32) -> [u8; 32]
-    requires { at + 4 ≤ 32 }
-    ensures { result ≡ paste out at (to_bytes 4 x) 4 }
-{
-    let mut next = out;
-    write_word(&mut next, at, x);
-    next
-}
-
 // The first n bytes of the block, the others zero.
-fn kept(block: [u8; 64], n: usize) -> [u8; 64]
+fn kept(mut block: [u8; 64], n: usize) -> [u8; 64]
     requires { n ≤ 64 }
     ensures { result ≡ take n block ++ replicate (64 - n) 0 }
 {
-    let mut out = [0u8; 64];
-    copy(&block, n, &mut out, 0);
-    out
-}
-
-// The block with the bytes from index `at` on.
-pub fn put(block: [u8; 64], at: usize, bytes: &[u8]) -> [u8; 64]
-    requires { at + length bytes.now ≤ 64 }
-    ensures { result ≡ paste block at bytes.now (length bytes.now) }
-{
-    let mut out = block;
-    copy(bytes, bytes.len(), &mut out, at);
-    out
+    block[n..].fill(0);
+    block
 }
 
 // The hash value after every whole block of the bytes.
-fn absorb(words: HashWords, bytes: &[u8]) -> HashWords
+fn absorb(mut words: HashWords, bytes: &[u8]) -> HashWords
     ensures { result ≡ compress_all words bytes.now }
 {
-    let mut v = words;
-    let mut at = 0;
-    while 64 <= bytes.len() - at {
-        let next = compress(v, &bytes[at..at + 64]);
-        v = next;
-        at += 64;
+    for block in bytes.chunks_exact(64) {
+        words = compress(words, block);
     }
-    v
+    words
 }
 
 // What is behind the last whole block, in a block.
 fn rest(bytes: &[u8]) -> [u8; 64]
     ensures { result ≡ spec.rest bytes.now }
 {
-    let at = bytes.len() / 64 * 64;
-    put([0; 64], 0, &bytes[at..])
+    let mut block = [0u8; 64];
+    copy(bytes.chunks_exact(64).remainder(), &mut block, 0);
+    block
 }
 
 // The state after bytes that are granted.
@@ -137,60 +112,40 @@ fn extended(s: Hash, bytes: &[u8]) -> Hash
     requires { s.total + length bytes.now ≤ 65535 }
     ensures { result ≡ spec.extended s bytes.now }
 {
-    let total = s.total as usize;
-    let pending = total % 64;
+    let pending = usize::from(s.total % 64);
     let room = 64 - pending;
-    let words = s.words;
-    let block = s.block;
-    let held = kept(block, pending);
-    let n = (total + bytes.len()) as u16;
+    let total = s.total + bytes.len() as u16;
+    let mut block = kept(s.block, pending);
     if bytes.len() < room {
-        return Hash {
-            words: words,
-            block: put(held, pending, bytes),
-            total: n,
-        };
+        copy(bytes, &mut block, pending);
+        return Hash { block, total, ..s };
     }
-    let first = put(held, pending, &bytes[..room]);
     let more = &bytes[room..];
+    copy(&bytes[..room], &mut block, pending);
     Hash {
-        words: absorb(compress(words, &first), more),
+        words: absorb(compress(s.words, &block), more),
         block: rest(more),
-        total: n,
+        total,
     }
 }
 
 // The block with the total's number of bits in its last eight bytes.
-fn with_length(block: [u8; 64], total: u16) -> [u8; 64]
+fn with_length(mut block: [u8; 64], total: u16) -> [u8; 64]
     ensures { result ≡ take 56 block ++ to_bytes 8 (8 * total) }
 {
-    let n = total as u32;
-    let mut out = block;
-    out[56] = 0;
-    out[57] = 0;
-    out[58] = 0;
-    out[59] = 0;
-    out[60] = 0;
-    out[61] = (n / 8192) as u8;
-    out[62] = (n / 32 % 256) as u8;
-    out[63] = (n * 8 % 256) as u8;
-    out
+    block[56..].copy_from_slice(&(8 * u64::from(total)).to_be_bytes());
+    block
 }
 
 // The hash value after the pending bytes and the padding.
 fn final_words(s: Hash) -> HashWords
     ensures { result ≡ (spec.finished s).words }
 {
-    let total = s.total;
-    let pending = total as usize % 64;
-    let words = s.words;
-    let block = s.block;
-    let mark = [128u8; 1];
-    let marked = put(kept(block, pending), pending, &mark);
+    let pending = usize::from(s.total % 64);
+    let mut marked = kept(s.block, pending);
+    marked[pending] = 128;
     if pending < 56 {
-        let last = with_length(marked, total);
-        return compress(words, &last);
+        return compress(s.words, &with_length(marked, s.total));
     }
-    let last = with_length([0; 64], total);
-    compress(compress(words, &marked), &last)
+    compress(compress(s.words, &marked), &with_length([0; 64], s.total))
 }

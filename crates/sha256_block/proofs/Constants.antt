@@ -4,7 +4,7 @@ use lib.ListN.{length-map, get_or-map}
 use Rattle.lists.proofs.Lists.{Below, below-by_test}
 use Rattle.sha256_block.specs.Constants.{has_divisor, is_prime, primes_from, primes, IsPrime, IsWholeRoot, IsRootWord, root_from, whole_root, root_word}
 use Rattle.sha256_block.specs.Constants.{round_words, initial_words, FirstPrimes, RootWords}
-use Rattle.sha256_block.proofs.Primes.{PrimesFrom, primes-rise, each_prime, rising-primes, none_missed}
+use Rattle.sha256_block.proofs.Primes.{PrimesFrom, primes-rise, each_prime, rising-primes, none_missed_before}
 
 -- the search keeps r^e ≤ n < (r + 2^b)^e while b falls
 root-from : (e n b r : ℕ) → r ^ e ≤ n → n < (r + 2 ^ b) ^ e → IsWholeRoot e n (root_from e n b r)
@@ -65,17 +65,17 @@ sixty_four : length primes ≡ 64
 unfolding listed
 sixty_four = ap length primes-listed
 
-last : get_or primes 63 0 ≡ 311
-unfolding listed
-last = ap (λ l. get_or l 63 0) primes-listed
-
 rise : PrimesFrom 0 primes
 unfolding primes
-rise = primes-rise 0 312
+rise = search primes-rise
 
-place : (q : ℕ) → q < 312 → IsPrime q → (i : ℕ) × (i < length primes) × (get_or primes i 0 ≡ q)
+-- the end of the range is found by the search, so that the definition alone names it
+none_missed : (q : ℕ) → IsPrime q → q ≤ get_or primes 63 0 → (i : ℕ) × (i < length primes) × (get_or primes i 0 ≡ q)
 unfolding primes
-place q h prime = none_missed 0 312 q (omega arith) h prime
+none_missed q prime most =
+    let enough : 63 < length primes = omega (arith, sixty_four) in
+    let low : 0 ≤ q = omega arith in
+    search (none_missed_before 63)
 
 first_primes : FirstPrimes 64 primes
 first_primes =
@@ -84,7 +84,7 @@ first_primes =
       each = λ i h. (each_prime 0 primes rise i (rw sixty_four h)).1;
       rising = λ i j less h. rising-primes 0 primes rise i j less (rw sixty_four h);
       none_missed = λ q prime most.
-          let found = place q (omega (arith, last)) prime in
+          let found = none_missed q prime most in
           (found.0, rw sixty_four at found.1, found.2);
     }
 

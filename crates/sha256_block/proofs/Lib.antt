@@ -3,5 +3,3 @@ pub mod Bits
 pub mod Constants
 mod Primes
 pub mod Schedule
-pub mod Window
-mod Words

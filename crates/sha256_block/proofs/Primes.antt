@@ -66,7 +66,7 @@ rising-primes n (p ∷ ps) r i zero less h = absurd (omega arith)
 rising-primes n (p ∷ ps) r zero (suc j) less h = (each_prime (suc p) ps r.2 j (le_of_suc-le-suc h)).0
 rising-primes n (p ∷ ps) r (suc i) (suc j) less h = rising-primes (suc p) ps r.2 i j (le_of_suc-le-suc less) (le_of_suc-le-suc h)
 
-pub none_missed : (n k q : ℕ) → n ≤ q → q < n + k → IsPrime q → (i : ℕ) × (i < length (primes_from n k)) × (get_or (primes_from n k) i 0 ≡ q)
+none_missed : (n k q : ℕ) → n ≤ q → q < n + k → IsPrime q → (i : ℕ) × (i < length (primes_from n k)) × (get_or (primes_from n k) i 0 ≡ q)
 unfolding primes_from
 none_missed n zero q low high p = absurd (omega arith)
 none_missed n (suc k) q low high p =
@@ -80,3 +80,21 @@ none_missed n (suc k) q low high p =
         × (get_or (cond t (n ∷ primes_from (suc n) k) (primes_from (suc n) k)) i 0 ≡ q)
     later true found = (suc found.0, omega (arith, found.1), found.2)
     later false found = found
+
+-- each prime that is listed stands before the end of the range
+before_end : (n k i : ℕ) → i < length (primes_from n k) → get_or (primes_from n k) i 0 < n + k
+unfolding primes_from
+before_end n zero i h = absurd (omega arith)
+before_end n (suc k) i h = by (is_prime n) i h (λ j. before_end (suc n) k j)
+  where
+    by : (t : Bool) (i : ℕ) → i < length (cond t (n ∷ primes_from (suc n) k) (primes_from (suc n) k))
+        → ((j : ℕ) → j < length (primes_from (suc n) k) → get_or (primes_from (suc n) k) j 0 < suc n + k)
+        → get_or (cond t (n ∷ primes_from (suc n) k) (primes_from (suc n) k)) i 0 < n + suc k
+    by true zero h rest = omega arith
+    by true (suc i) h rest = omega (arith, rest i (le_of_suc-le-suc h))
+    by false i h rest = omega (arith, rest i h)
+
+-- no prime up to one that is listed is missed
+pub none_missed_before : (i n k q : ℕ) → i < length (primes_from n k) → n ≤ q → q ≤ get_or (primes_from n k) i 0 → IsPrime q
+    → (j : ℕ) × (j < length (primes_from n k)) × (get_or (primes_from n k) j 0 ≡ q)
+none_missed_before i n k q h low high p = none_missed n k q low (omega (arith, before_end n k i h)) p

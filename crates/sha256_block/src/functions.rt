@@ -1,13 +1,6 @@
 // FIPS 180-4, 4.1.2: the six functions on 32-bit words.
-ghost use Rattle.std.specs.Prelude.{◌≡◌, ◌<◌};
-ghost use Rattle.sha256_block.specs.Functions.{rotr as rotrOf, Ch, Maj, Σ₀, Σ₁, σ₀, σ₁};
-
-fn rotr(x: u32, n: u32) -> u32
-    requires { (0 < n) × (n < 32) }
-    ensures { result ≡ rotrOf n x }
-{
-    (x >> n) | (x << (32 - n))
-}
+ghost use Rattle.std.specs.Prelude.{◌≡◌};
+ghost use Rattle.sha256_block.specs.Functions.{Ch, Maj, Σ₀, Σ₁, σ₀, σ₁};
 
 // Has one operation less than (4.2).
 pub fn ch(x: u32, y: u32, z: u32) -> u32
@@ -23,26 +16,27 @@ pub fn maj(x: u32, y: u32, z: u32) -> u32
     y ^ ((x ^ y) & (y ^ z))
 }
 
+// The four below stay apart: each is one line of the standard, and one function over the amounts would be called by four that give them.
 pub fn big_sigma0(x: u32) -> u32
     ensures { result ≡ Σ₀ x }
 {
-    rotr(x, 2) ^ rotr(x, 13) ^ rotr(x, 22)
+    x.rotate_right(2) ^ x.rotate_right(13) ^ x.rotate_right(22)
 }
 
 pub fn big_sigma1(x: u32) -> u32
     ensures { result ≡ Σ₁ x }
 {
-    rotr(x, 6) ^ rotr(x, 11) ^ rotr(x, 25)
+    x.rotate_right(6) ^ x.rotate_right(11) ^ x.rotate_right(25)
 }
 
 pub fn small_sigma0(x: u32) -> u32
     ensures { result ≡ σ₀ x }
 {
-    rotr(x, 7) ^ rotr(x, 18) ^ (x >> 3)
+    x.rotate_right(7) ^ x.rotate_right(18) ^ (x >> 3)
 }
 
 pub fn small_sigma1(x: u32) -> u32
     ensures { result ≡ σ₁ x }
 {
-    rotr(x, 17) ^ rotr(x, 19) ^ (x >> 10)
+    x.rotate_right(17) ^ x.rotate_right(19) ^ (x >> 10)
 }

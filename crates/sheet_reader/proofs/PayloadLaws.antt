@@ -6,13 +6,15 @@ use native.Mathlib.Nat.{zero-add}
 use native.Mathlib.Numerals.{add-one}
 use native.Mathlib.Omega.{arith}
 use lib.Dec.{lit<}
-use lib.ListN.{length, get_or, take, drop, set, length-append, length-drop, take-append-drop}
-use lib.Seq.{length-take-le, take_all, take_at, drop_at, drop-drop, get_or-drop, paste, paste-suc, length-paste}
+use lib.ListN.{length, get_or, take, drop, set, length-append, length-drop, take-append-drop, drop_of_length-le}
+use lib.Seq.{length-take-le, take_all, take_at, drop_at, drop-drop, get_or-drop, paste, paste-suc}
+use borrow.Rule.Slice.PartMut.{put_mid}
 use Rattle.lists.proofs.Lists.{Below, below-take, below-drop}
 use Rattle.profile.specs.declared.Profile.{Profile}
 use Rattle.hex_lines.specs.Hex.{hex_digit, hex_of, line_end, line_of, digit_of}
 use Rattle.hex_lines.specs.inner.Digits.{byte_at}
-use Rattle.hex_lines.specs.declared.Digits.TheVariants.{Byte}
+use Rattle.std.specs.Prelude.{Some}
+use Rattle.std.specs.Option.{unwrap_or}
 use Rattle.hex_lines.proofs.HexLaws.{digit_hex, length-hex_of, hex_of-append}
 use Rattle.hex_lines.proofs.Reading.{byte_right}
 use Rattle.frames.specs.Frames.{Frame, frames, text_frame}
@@ -20,7 +22,7 @@ use Rattle.frames.specs.Lines.{lines_of}
 use Rattle.frames.specs.inner.Size.{behind_frame, behind_all}
 use Rattle.frames.proofs.FrameLaws.{line-behind, line-within}
 use Rattle.frames.proofs.FrameList.{total}
-use Rattle.sheet_reader.specs.inner.Payload.{byte_or, bytes_in, payloads}
+use Rattle.sheet_reader.specs.inner.Payload.{bytes_in, payloads}
 use Rattle.sheet_reader.proofs.Exactness.{Apart}
 
 length-bytes_in : (sheet : List ℕ) (at n : ℕ) → length (bytes_in sheet at n) ≡ n
@@ -28,7 +30,7 @@ unfolding bytes_in
 length-bytes_in sheet at zero = refl
 length-bytes_in sheet at (suc n) = ap suc (length-bytes_in sheet (at + 2) n)
 
-get_or-bytes_in : (sheet : List ℕ) (at n i : ℕ) → i < n → get_or (bytes_in sheet at n) i 0 ≡ byte_or (byte_at sheet (at + 2 * i))
+get_or-bytes_in : (sheet : List ℕ) (at n i : ℕ) → i < n → get_or (bytes_in sheet at n) i 0 ≡ unwrap_or (byte_at sheet (at + 2 * i)) 0
 unfolding bytes_in
 get_or-bytes_in sheet at zero i h = absurd (omega arith)
 get_or-bytes_in sheet at (suc n) zero h = let same : at + 2 * 0 ≡ at = omega arith in rw same
@@ -36,19 +38,27 @@ get_or-bytes_in sheet at (suc n) (suc i) h =
     let same : at + 2 * suc i ≡ at + 2 + 2 * i = omega arith in
     rw same (get_or-bytes_in sheet (at + 2) n i (omega arith))
 
--- a loop that copies n bytes into the slice o, from index `from` on
-module _ (sheet : List ℕ) (at n : ℕ) (o : List ℕ) (from : ℕ) (fits : from + n ≤ length o) where
-  pub copy_next : (i b : ℕ) {out : List ℕ} → i < n → out ≡ paste o from (bytes_in sheet at n) i → b ≡ byte_or (byte_at sheet (at + 2 * i))
-      → set out (from + i) b ≡ paste o from (bytes_in sheet at n) (i + 1)
-  copy_next i b h e q =
-      rw (e, q, ← get_or-bytes_in sheet at n i h, add-one)
-      (paste-suc o from (bytes_in sheet at n) i 0 (omega arith) (omega (arith, length-bytes_in sheet at n)))
+-- a loop that copies n bytes into a slice of n
+module _ (sheet : List ℕ) (at : ℕ) (o : List ℕ) where
+  abbrev pub copied : List ℕ
+  copied = bytes_in sheet at (length o)
 
-  pub copy_long : (i : ℕ) {out : List ℕ} → i ≤ n → out ≡ paste o from (bytes_in sheet at n) i → length out ≡ length o
-  copy_long i h e = ap length e ∙ length-paste o from (bytes_in sheet at n) i (omega arith) (omega (arith, length-bytes_in sheet at n))
+  pub copy_next : (i b : ℕ) {out : List ℕ} → i < length o → out ≡ paste o 0 copied i → b ≡ unwrap_or (byte_at sheet (at + 2 * i)) 0
+      → set out i b ≡ paste o 0 copied (i + 1)
+  copy_next i b {out} h e q =
+      let next : set (paste o 0 copied i) (0 + i) (get_or copied i 0) ≡ paste o 0 copied (suc i) =
+      paste-suc o 0 copied i 0 (omega arith) (omega (arith, length-bytes_in sheet at (length o))) in
+      rw (e, q, ← get_or-bytes_in sheet at (length o) i h, add-one) (ap (λ k. set (paste o 0 copied i) k (get_or copied i 0)) (sym (zero-add i)) ∙ next)
 
-  pub copy_all : (i : ℕ) {out : List ℕ} → i ≡ n → out ≡ paste o from (bytes_in sheet at n) i → out ≡ take from o ++ bytes_in sheet at n ++ drop (from + n) o
-  copy_all i all e = e ∙ rw (all, take_all n (bytes_in sheet at n) (omega (arith, length-bytes_in sheet at n)))
+  pub copy_all : (i : ℕ) {out : List ℕ} → i ≡ length o → out ≡ paste o 0 copied i → out ≡ copied
+  copy_all i all e =
+      e ∙ rw (all, take_all (length o) copied (omega (arith, length-bytes_in sheet at (length o))), drop_of_length-le o {i = 0 + length o} (omega arith))
+      (append-nil copied)
+
+-- what a slice holds once a part of it is filled
+pub part-filled : (from k n : ℕ) (s ys : List ℕ) → k ≡ n → put_mid from k s ys ≡ take from s ++ ys ++ drop (from + n) s
+part-filled from k n s ys e =
+    sym (append_assoc (take from s) ys (drop k (drop from s))) ∙ rw e (ap (λ l. take from s ++ ys ++ l) (drop-drop n from s))
 
 -- the payloads of frames are copied one behind the other into the slice o
 module _ (sheet : List ℕ) (fs : List Frame) (o : List ℕ) where
@@ -65,9 +75,9 @@ module _ (sheet : List ℕ) (fs : List Frame) (o : List ℕ) where
 
   pub copying_next : (f : Frame) (left : List Frame) (s : List ℕ) (at from fixed n : ℕ) {s' : List ℕ} → fixed ≡ length f.head → n ≡ f.high
       → Copying s at from (f ∷ left) → from + n ≤ length s
-      → s' ≡ take from s ++ bytes_in sheet (at + 2 * fixed) n ++ drop (from + n) s → length s' ≡ length s → Copying s' (at + 2 * (fixed + n) + 1) (from + n) left
+      → s' ≡ take from s ++ bytes_in sheet (at + 2 * fixed) n ++ drop (from + n) s → Copying s' (at + 2 * (fixed + n) + 1) (from + n) left
   unfolding behind_all payloads
-  copying_next f left s at from fixed n {s'} d h c fits e same =
+  copying_next f left s at from fixed n {s'} d h c fits e =
       let mine : List ℕ = bytes_in sheet (at + 2 * fixed) n in
       let front_long : length (take from s ++ mine) ≡ from + n =
       length-append (take from s) mine ∙ omega (arith, length-take-le from s (omega arith), length-bytes_in sheet (at + 2 * fixed) n) in
@@ -80,7 +90,7 @@ module _ (sheet : List ℕ) (fs : List Frame) (o : List ℕ) where
             c.copied ∙ rw (front, d, h) (sym (append_assoc (take from s) (bytes_in sheet (at + 2 * length f.head) f.high)
             (payloads sheet (behind_frame at f) left)));
         kept = back ∙ sym (drop-drop n from s) ∙ ap (drop n) c.kept ∙ drop-drop n from o;
-        long = same ∙ c.long;
+        long = ap length e ∙ length-append (take from s ++ mine) (drop (from + n) s) ∙ omega (arith, front_long, length-drop (from + n) s, fits, c.long);
       }
 
   pub copying_all : (s : List ℕ) (at from : ℕ) → Copying s at from [] → (at ≡ behind_all 0 fs) × (s ≡ payloads sheet 0 fs ++ drop (total fs) o)
@@ -91,7 +101,7 @@ module _ (sheet : List ℕ) (fs : List Frame) (o : List ℕ) where
 
 -- a byte that stands as hex
 module _ (sheet : List ℕ) (at b : ℕ) (more : List ℕ) (small : b < 256) (e : drop at sheet ≡ hex_digit (b / 16) ∷ hex_digit (b % 16) ∷ more) where
-  byte_here : byte_at sheet at ≡ Byte b
+  byte_here : byte_at sheet at ≡ Some b
   byte_here =
       let room : at + 2 ≤ length sheet = omega (arith, ap length e, length-drop at sheet) in
       let none : at ≡ at + 0 = omega arith in
@@ -99,13 +109,13 @@ module _ (sheet : List ℕ) (at b : ℕ) (more : List ℕ) (small : b < 256) (e 
       let second : get_or sheet (at + 1) 0 ≡ hex_digit (b % 16) = sym (get_or-drop at sheet 1 0) ∙ ap (λ l. get_or l 1 0) e in
       let high : digit_of (get_or sheet at 0) ≡ b / 16 = ap digit_of first ∙ digit_hex (b / 16) (omega arith) in
       let low : digit_of (get_or sheet (at + 1) 0) ≡ b % 16 = ap digit_of second ∙ digit_hex (b % 16) (omega arith) in
-      byte_right sheet at room (omega (arith, high)) (omega (arith, low)) ∙ ap Byte (omega (arith, high, low))
+      byte_right sheet at room (omega (arith, high)) (omega (arith, low)) ∙ ap Some (omega (arith, high, low))
 
   behind_byte : drop (at + 2) sheet ≡ more
   behind_byte = sym (drop-drop 2 at sheet) ∙ ap (drop 2) e
 
 bytes-here : (sheet : List ℕ) (at : ℕ) (bytes rest : List ℕ) → Below 256 bytes → drop at sheet ≡ hex_of bytes ++ rest → bytes_in sheet at (length bytes) ≡ bytes
-unfolding bytes_in byte_or hex_of
+unfolding bytes_in hex_of
 bytes-here sheet at [] rest below e = refl
 bytes-here sheet at (b ∷ bytes) rest below e =
     rw (

@@ -1,11 +1,12 @@
 -- Document 01, "Read sheet, for an expected profile".
-use Rattle.std.specs.Prelude.{◌≡◌, Bool, true, false, cond, List, [], ◌∷◌, ◌++◌, ℕ, ltb, eqb, length, drop}
-use Rattle.refusal.specs.Code.{outcome_code, first_cause}
+use Rattle.std.specs.Prelude.{◌≡◌, Bool, true, false, cond, List, [], ◌∷◌, ◌++◌, ℕ, ltb, eqb, length, drop, Result}
+use Rattle.std.specs.Result.{result_unwrap_or}
+use Rattle.refusal.specs.Code.{outcome_code, line_told, first_cause}
+use Rattle.refusal.specs.declared.Refusal.{Refusal}
 use Rattle.profile.specs.Checks.{profile_causes}
 use Rattle.profile.specs.declared.Profile.{Profile}
 use Rattle.signature.specs.Signature.{signature_length}
 use Rattle.sheet_reader.specs.Sheet.{Reading, wrong_line, read, read_sheet}
-use Rattle.sheet_reader.specs.declared.SheetRead.{SheetRead}
 
 -- the wrong line's number; 0 where none is wrong
 unfoldable pub line_in : Reading → ℕ
@@ -39,12 +40,13 @@ sheet_code p sheet signature message = first_cause (profile_causes p ++ sheet_ca
 
 -- what Read sheet answers and leaves: "17 with the number, from 1, of the first line"; "Success writes the signature bytes and
 -- the text, and gives the text's length"
-pub record ReadsSheet (p : Profile) (sheet signature message signature' message' : List ℕ) (r : SheetRead) : Type 0 where
-  pub code : outcome_code r.outcome ≡ sheet_code p sheet signature message
-  pub line : r.line ≡ cond (eqb (sheet_code p sheet signature message) 17) (line_in (read_sheet p sheet)) 0
-  pub text_length : r.length ≡ cond (eqb (sheet_code p sheet signature message) 0) (length (text_in (read_sheet p sheet))) 0
+pub record ReadsSheet (p : Profile) (sheet signature message signature' message' : List ℕ) (r : Result ℕ Refusal) : Type 0 where
+  pub code : outcome_code r ≡ sheet_code p sheet signature message
+  pub line : line_told r ≡ cond (eqb (sheet_code p sheet signature message) 17) (line_in (read_sheet p sheet)) 0
+  pub text_length : result_unwrap_or r 0 ≡ cond (eqb (sheet_code p sheet signature message) 0) (length (text_in (read_sheet p sheet))) 0
   pub signature_written : signature'
-      ≡ cond (eqb (sheet_code p sheet signature message) 0) (signature_in (read_sheet p sheet) ++ drop (signature_length p) signature) signature
+      ≡ cond (eqb (sheet_code p sheet signature message) 0)
+      (signature_in (read_sheet p sheet) ++ drop (signature_length p) signature) signature
   pub text_written : message'
       ≡ cond (eqb (sheet_code p sheet signature message) 0)
       (text_in (read_sheet p sheet) ++ drop (length (text_in (read_sheet p sheet))) message) message

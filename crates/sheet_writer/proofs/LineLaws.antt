@@ -49,22 +49,19 @@ behind_grows at (f ∷ fs) = omega (arith, behind_grows (behind_frame at f) fs)
 
 -- the lines of frames are written one behind the other into the slice o, with these bytes behind the fixed ones
 module _ (fs : List Frame) (bytes o : List ℕ) where
-  -- the slice s, the next place and the next byte, with these frames still to come
-  pub record Writing (s : List ℕ) (at from : ℕ) (left : List Frame) : Type 0 where
-    pub room : from + total left ≡ length bytes
+  -- the slice s, the next place and the bytes that are left, with these frames still to come
+  pub record Writing (s : List ℕ) (at : ℕ) (rest : List ℕ) (left : List Frame) : Type 0 where
+    pub room : total left ≡ length rest
     pub place : behind_all at left ≡ behind_all 0 fs
-    pub lines : lines_of fs bytes ≡ take at s ++ lines_of left (drop from bytes)
+    pub lines : lines_of fs bytes ≡ take at s ++ lines_of left rest
     pub kept : drop at s ≡ drop at o
     pub long : length s ≡ length o
 
-  -- the next frame, with m of the bytes: its line has room
-  module _ (f : Frame) (left : List Frame) (s : List ℕ) (at from m : ℕ) (enough : behind_all 0 fs ≤ length o) (all : m ≡ f.high)
-      (w : Writing s at from (f ∷ left)) where
-    abbrev mine : List ℕ
-    mine = take m (drop from bytes)
-
-    mine-long : length mine ≡ m
-    mine-long = length-take-le m (drop from bytes) (omega (arith, w.room, length-drop from bytes))
+  -- the next frame, with these of the bytes: its line has room
+  module _ (f : Frame) (left : List Frame) (s rest mine : List ℕ) (at : ℕ) (enough : behind_all 0 fs ≤ length o) (cut : mine ≡ take f.high rest)
+      (w : Writing s at rest (f ∷ left)) where
+    mine-long : length mine ≡ f.high
+    mine-long = ap length cut ∙ length-take-le f.high rest (omega (arith, w.room))
 
     line-ends : at + length (frame_line f mine) ≡ behind_frame at f
     line-ends = omega (arith, line-long f.head mine, mine-long)
@@ -74,19 +71,17 @@ module _ (fs : List Frame) (bytes o : List ℕ) where
     writing_room = omega (arith, line-ends, w.place, w.long, behind_grows (behind_frame at f) left)
 
     pub writing_next : {s' : List ℕ} {end : ℕ} → end ≡ at + length (frame_line f mine) → s' ≡ take at s ++ frame_line f mine ++ drop end s
-        → Writing s' end (from + m) left
+        → Writing s' end (drop f.high rest) left
     unfolding behind_all lines_of
     writing_next {s'} {end} e q =
         let front : List ℕ = take at s ++ frame_line f mine in
         let front_long : length front ≡ end = length-append (take at s) (frame_line f mine) ∙ rw (length-take-le at s (omega (arith, writing_room))) (sym e) in
-        let rest : drop m (drop from bytes) ≡ drop (from + m) bytes = drop-drop m from bytes in
-        let here : frame_line f (take f.high (drop from bytes)) ++ lines_of left (drop f.high (drop from bytes)) ≡ frame_line f mine ++ lines_of left
-        (drop (from + m) bytes) = rw (← all, rest) in
         record {
-          room = omega (arith, w.room);
+          room = omega (arith, w.room, length-drop f.high rest);
           place = ap (λ n. behind_all n left) (e ∙ line-ends) ∙ w.place;
           lines =
-              w.lines ∙ ap (λ l. take at s ++ l) here ∙ sym (append_assoc (take at s) (frame_line f mine) (lines_of left (drop (from + m) bytes)))
+              w.lines ∙ ap (λ b. take at s ++ (frame_line f b ++ lines_of left (drop f.high rest))) (sym cut)
+              ∙ sym (append_assoc (take at s) (frame_line f mine) (lines_of left (drop f.high rest)))
               ∙ rw (q, take_at front (drop end s) end front_long);
           kept =
               ap (drop end) q ∙ drop_at front (drop end s) end front_long
@@ -95,13 +90,13 @@ module _ (fs : List Frame) (bytes o : List ℕ) where
           long = ap length q ∙ length-append front (drop end s) ∙ omega (arith, front_long, length-drop end s, e, writing_room, w.long);
         }
 
-  pub writing_all : {s : List ℕ} {at from : ℕ} → Writing s at from [] → (at ≡ behind_all 0 fs) × (s ≡ lines_of fs bytes ++ drop at o)
+  pub writing_all : {s rest : List ℕ} {at : ℕ} → Writing s at rest [] → (at ≡ behind_all 0 fs) × (s ≡ lines_of fs bytes ++ drop at o)
   unfolding behind_all lines_of
-  writing_all {s} {at} w = (w.place, sym (take-append-drop at s) ∙ rw (w.kept, w.lines, append-nil))
+  writing_all {s} {rest} {at} w = (w.place, sym (take-append-drop at s) ∙ rw (w.kept, w.lines, append-nil))
 
 -- behind the first line: the other frames of a profile are still to come, and what follows is as it was
 pub first-written : (p : Profile) (bytes o : List ℕ) {o₁ : List ℕ} → o₁ ≡ frame_line first_frame [] ++ drop 7 o → length bytes ≡ total (frames p)
-    → Writing (frames p) bytes o₁ o₁ 7 0 (drop 1 (frames p))
+    → Writing (frames p) bytes o₁ o₁ 7 bytes (drop 1 (frames p))
 unfolding frames lines_of behind_all line_of hex_of
 first-written p bytes o e whole =
     let none : total (frames p) ≡ 0 + total (drop 1 (frames p)) = refl in

@@ -1,5 +1,5 @@
 -- What Write sheet answers and leaves: refused before the sheet's slice is looked at, refused by its length, and granted.
-use mathlib.Core.Path.{◌≡◌, refl, sym, ◌∙◌}
+use mathlib.Core.Path.{◌≡◌, refl, sym, ap, ◌∙◌}
 use mathlib.Core.Bool.{Bool, not}
 use mathlib.Core.List.{List, [], ◌∷◌, ◌++◌}
 use Prim.Native.Nat.{ℕ, ◌+◌, ◌*◌, ◌≤◌, ◌<◌}
@@ -7,12 +7,11 @@ use native.Mathlib.Omega.{arith}
 use borrow.Author.Tests.{lt-ltb, le-ltb, eq-eqb, eqb-true, not-false}
 use lib.Dec.{ltb, eqb}
 use lib.ListN.{length, take, drop, length-append}
-use Rattle.refusal.specs.Code.{outcome_code, first_cause}
+use Rattle.std.specs.Prelude.{Result, Ok, Err}
+use Rattle.refusal.specs.Code.{code, outcome_code, first_cause}
 use Rattle.refusal.specs.declared.Refusal.{Refusal}
 use Rattle.refusal.specs.declared.Refusal.TheVariants.{OutputTooShort}
-use Rattle.refusal.specs.declared.Outcome.{Outcome}
-use Rattle.refusal.specs.declared.Outcome.TheVariants.{Granted, Refused}
-use Rattle.refusal.proofs.Causes.{Numbered, without-append, none_here, none_then, none-of-append, refused_then, refused-some}
+use Rattle.refusal.proofs.Causes.{Numbered, without-append, none_here, none_then, none-of-append, refused_first, refused-number}
 use Rattle.lists.proofs.Joins.{written_behind}
 use Rattle.profile.specs.Checks.{profile_causes}
 use Rattle.profile.specs.declared.Profile.{Profile}
@@ -27,7 +26,7 @@ use Rattle.sheet_writer.specs.Operations.{carried_causes, write_sheet_code, Writ
 
 module _ (p : Profile) (signature message : List ℕ) where
   -- the causes behind those of the profile
-  abbrev own : List (Bool × ℕ)
+  abbrev pub own : List (Bool × ℕ)
   own = (outside_text (length message), 16) ∷ (not (eqb (length signature) (signature_length p)), 13) ∷ []
 
   pub carried-numbered : Numbered (carried_causes p signature message)
@@ -86,31 +85,34 @@ module _ (p : Profile) (signature message : List ℕ) where
     abbrev late : List (Bool × ℕ)
     late = (ltb (length sheet) (length (sheet_of p signature message)), 6) ∷ []
 
-    -- refused by the profile, the text or the signature
-    pub carried-refused : (o : Outcome) → outcome_code o ≡ first_cause (carried_causes p signature message) → (r : Refusal) → o ≡ Refused r
-        → WritesSheet p signature message sheet sheet (record { outcome = o; length = 0 })
+    -- refused, nothing is written
+    sheet-refused : {e : Refusal} {r : Result ℕ Refusal} → r ≡ Err e → code e ≡ write_sheet_code p signature message sheet
+        → WritesSheet p signature message sheet sheet r
+    sheet-refused q number =
+        let told = ap outcome_code q ∙ number in
+        let some = refused-number q told in
+        record { code = told; bytes = rw (q, some); written = rw some }
+
+    -- by the profile, the text or the signature
+    pub carried-refused : {e : Refusal} {checked : Result (Unit {0}) Refusal} {r : Result ℕ Refusal} → checked ≡ Err e
+        → outcome_code checked ≡ first_cause (carried_causes p signature message) → r ≡ Err e → WritesSheet p signature message sheet sheet r
     unfolding write_sheet_code
-    carried-refused o e r q =
-        let causes = carried_causes p signature message in
-        let some = refused-some causes late o e r q in
-        record { code = refused_then causes late o e r q; bytes = rw some; written = rw some }
+    carried-refused q o told = sheet-refused told (refused_first (carried_causes p signature message) late q o)
 
     module _ (none : first_cause (carried_causes p signature message) ≡ 0) where
       code_then : write_sheet_code p signature message sheet ≡ first_cause late
       unfolding write_sheet_code
       code_then = none_then (carried_causes p signature message) late none carried-numbered
 
-      pub no_room : length sheet < length (sheet_of p signature message)
-          → WritesSheet p signature message sheet sheet (record { outcome = Refused OutputTooShort; length = 0 })
-      no_room short =
-          let six : write_sheet_code p signature message sheet ≡ 6 = code_then ∙ rw (lt-ltb (length sheet) (length (sheet_of p signature message)) short) in
-          record { code = sym six; bytes = rw six; written = rw six }
+      pub no_room : {r : Result ℕ Refusal} → length sheet < length (sheet_of p signature message) → r ≡ Err OutputTooShort
+          → WritesSheet p signature message sheet sheet r
+      no_room short q = sheet-refused q (sym (code_then ∙ rw (lt-ltb (length sheet) (length (sheet_of p signature message)) short)))
 
       pub room-granted : length (sheet_of p signature message) ≤ length sheet → write_sheet_code p signature message sheet ≡ 0
       room-granted room = code_then ∙ rw (le-ltb (length sheet) (length (sheet_of p signature message)) room)
 
       pub sheet-written : {sheet' : List ℕ} {end : ℕ} → length (sheet_of p signature message) ≤ length sheet → end ≡ length (sheet_of p signature message)
-          → sheet' ≡ sheet_of p signature message ++ drop end sheet → WritesSheet p signature message sheet sheet' (record { outcome = Granted; length = end })
+          → sheet' ≡ sheet_of p signature message ++ drop end sheet → WritesSheet p signature message sheet sheet' (Ok end)
       sheet-written room e w =
           let zero = room-granted room in
           record { code = sym zero; bytes = rw zero e; written = rw zero (w ∙ rw e) }

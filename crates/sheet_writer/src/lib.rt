@@ -4,4 +4,4 @@
 mod lines;
 mod writer;
 
-pub use writer::{SheetWritten, write_sheet};
+pub use writer::write_sheet;

@@ -2,20 +2,17 @@
 use mathlib.Core.Path.{◌≡◌, refl, ◌∙◌, sym, ap}
 use mathlib.Core.Bool.{Bool, false, not}
 use mathlib.Core.List.{List, [], ◌∷◌, ◌++◌}
-use Prim.Native.Nat.{ℕ, ◌^◌, ◌<◌, ◌≤◌}
+use Prim.Native.Nat.{ℕ, ◌+◌, ◌^◌, ◌<◌, ◌≤◌}
 use native.Mathlib.Nat.{zero-add}
 use native.Mathlib.Omega.{arith}
 use borrow.Author.Tests.{ltb-false, not-false}
 use lib.Dec.{ltb}
-use lib.ListN.{length, take}
-use lib.Seq.{paste}
-use Rattle.refusal.specs.Code.{outcome_code, first_cause, then_first, then_code}
+use lib.ListN.{length, take, drop}
+use Rattle.std.specs.Prelude.{Result, Ok, Err}
+use Rattle.refusal.specs.Code.{outcome_code, first_cause}
 use Rattle.refusal.specs.declared.Refusal.{Refusal}
-use Rattle.refusal.specs.declared.Outcome.{Outcome}
-use Rattle.refusal.specs.declared.Outcome.TheVariants.{Refused}
-use Rattle.refusal.proofs.Causes.{Avoids, none_here, refused-number, code-kept, then_means}
-use Rattle.numbers.specs.Number.{value}
-use Rattle.profile.specs.Checks.{InLimits}
+use Rattle.refusal.proofs.Causes.{Avoids, none_here, granted-none, refused-number}
+use Rattle.numbers.specs.Number.{value, to_words}
 use Rattle.profile.specs.declared.Shape.{Shape}
 use Rattle.signature.specs.Signature.{outside_text, joined_parts, signature_length}
 use Rattle.signature.proofs.Fits.{short_text}
@@ -24,13 +21,12 @@ use Rattle.signing_key.specs.Key.{recounted}
 use Rattle.signing_key.specs.declared.SigningKey.{SigningKey}
 use Rattle.signing_key.proofs.CounterLaws.{mark-within}
 use Rattle.counts.specs.Counts.{count}
-use Rattle.counts.specs.Table.{table_length, table_causes, leaves_table, table_after}
-use Rattle.counts.specs.inner.Filling.{FillsPast}
+use Rattle.counts.specs.Table.{with_table, table_causes, leaves_table}
 use Rattle.counts.proofs.Answer.{count-value, table-held}
-use Rattle.counts.proofs.Room.{table-early, table-passed}
+use Rattle.counts.proofs.Room.{TablePassed, table-early, table-passed}
+use Rattle.counts.proofs.TableOperation.{Refuses, refused, refused-own, granted-own, table-left}
 use Rattle.codewords.specs.Operations.{row_of}
 use Rattle.codewords.proofs.RowLaws.{row_front}
-use Rattle.codewords.proofs.TableOperation.{early-code, none_before, answer-after, table-after, granted-before}
 use Rattle.tweak.specs.Tweak.{first_domain}
 use Rattle.tweak.specs.declared.Domain.{Domain}
 use Rattle.chains.specs.Leaves.{chains_of, revealed}
@@ -72,8 +68,7 @@ signature-is key r message large more made {d} {row} domain number placed way pa
     parts ∙ rw (revealed-front (chains_of shape) row front d key.secret (leaf_to_sign key), way, domain)
 
 -- the causes before 19: those of the table, then those of the order
-module _ (key : SigningKey) (call : SigningCall) {n m : ℕ} (checked : n ≡ first_cause (table_causes key.profile (length call.work)))
-    (e : m ≡ then_first n (sign_causes key (length call.message) (length call.out))) where
+module _ (key : SigningKey) (call : SigningCall) where
   abbrev shape : Shape
   shape = key.profile.shape
 
@@ -83,82 +78,105 @@ module _ (key : SigningKey) (call : SigningCall) {n m : ℕ} (checked : n ≡ fi
   abbrev own : List (Bool × ℕ)
   own = sign_causes key (length call.message) (length call.out)
 
+  -- the cause behind the table
+  abbrev after : List (Bool × ℕ)
+  after = (count_too_small (count shape), 19) ∷ []
+
   early : Avoids leaves_table first
   early = table-early key.profile (length call.work)
 
   between : Avoids leaves_table own
   between = (refl, (refl, (refl, tt)))
 
-  before : m ≡ first_cause (first ++ own)
-  before = early-code first own early between checked e
-
-  -- the table may be filled
-  pub sign_filled : m ≡ 0 → InLimits shape × (table_length shape ≤ length call.work)
-  sign_filled q =
-      let passed = table-passed key.profile (length call.work) (none_before first own early between before q).0 in
-      (passed.limits, passed.room)
-
-  -- the cause behind the table
-  abbrev after : List (Bool × ℕ)
-  after = (count_too_small (count shape), 19) ∷ []
-
   -- all causes
   causes : sign_code key call ≡ first_cause (first ++ (own ++ after))
   unfolding sign_code
   causes = refl
 
-  -- the table is filled past the causes before 19, and the count is looked at
-  module _ {left counted : List ℕ} {small : Bool} (fills : FillsPast m shape call.work left counted)
-      (tested : small ≡ count_too_small (value counted)) (o : Outcome) (looked : outcome_code o ≡ then_code m small 19) where
-    number : m ≡ 0 → value counted ≡ count shape
-    number none = count-value shape (sign_filled none).0 (rw none at fills.counted)
+  stopped : {cause : Refusal} {answer : Result (Unit {0}) Refusal} → Refuses (sign_code key call) cause → answer ≡ Err cause
+      → Signs key call call.work call.out key answer
+  unfolding key_after output_after
+  stopped refuses e =
+      rw e (record { code = refuses.answer; key' = rw refuses.some refl; table = refuses.untouched shape call.work; written = rw refuses.some refl })
 
-    answer : outcome_code o ≡ sign_code key call
-    answer =
-        looked ∙ then_means 19 (λ none. tested ∙ ap count_too_small (number none))
-        ∙ answer-after first own early between before after (refl, tt) causes
+  module _ {r : Result (Unit {0}) Refusal} (checked : outcome_code r ≡ first_cause (table_causes key.profile (length call.work))) where
+    pub sign_table_refused : {cause : Refusal} {answer : Result (Unit {0}) Refusal} → r ≡ Err cause → answer ≡ Err cause
+        → Signs key call call.work call.out key answer
+    sign_table_refused was = stopped (refused first (own ++ after) early causes checked was)
 
-    -- granted, none of them holds, and the count is large enough; the output has room
-    pub sign_ready : outcome_code o ≡ 0 → ReadyToSign key counted call.message left × (signature_length key.profile ≤ length call.out)
-    sign_ready zero =
-        let kept = code-kept m (outcome_code o) ((small, 19) ∷ []) looked in
-        let none : m ≡ 0 = omega (arith, kept, zero) in
-        let last : first_cause after ≡ 0 = sym (granted-before first own early between before after (refl, tt) causes none) ∙ sym answer ∙ zero in
-        let each = none_before first own early between before none in
-        let passed = table-passed key.profile (length call.work) each.0 in
-        let unmarked : Bool = not (mark_counts (2 ^ key.profile.height) key.counter) in
-        let size = ltb (length call.out) (signature_length key.profile) in
-        let text = none_here (outside_text (length call.message)) 16 ((size, 6) ∷ (unmarked, 20) ∷ []) refl each.1 in
-        let room = none_here size 6 ((unmarked, 20) ∷ []) refl text.1 in
-        let leaf = mark-within (2 ^ key.profile.height) key.counter (not-false _ (none_here unmarked 20 [] refl room.1).0) in
-        let known : ReadyToSign key counted call.message left =
-        record {
-          limits = passed.limits;
-          low = passed.low;
-          short = short_text (length call.message) text.0;
-          some = leaf.0;
-          in_tree = omega arith;
-          held = table-held shape call.work (rw none at fills.table);
-          number = number none;
-          large = (none_here (count_too_small (count shape)) 19 [] refl last).0;
-        } in
-        (known, ltb-false (length call.out) (signature_length key.profile) room.0)
+    module _ {v : Unit {0}} (passed : r ≡ Ok v) where
+      -- the table may be filled
+      pub sign_filled : TablePassed key.profile (length call.work)
+      sign_filled = table-passed key.profile (length call.work) (granted-none first passed checked)
 
-    table : left ≡ table_after (sign_code key call) shape call.work
-    table = table-after first own early between before after (refl, tt) causes shape call.work fills.table
+      -- and a signature is not longer than what it is made in
+      pub sign_within : (made : List ℕ) {bytes : ℕ} → bytes ≡ signature_length key.profile → length made ≡ 820 → bytes ≤ length made
+      unfolding signature_length
+      sign_within made e long = omega (arith, sign_filled.limits.few_chains, sign_filled.low)
 
-    pub sign-refused : {x : Refusal} → o ≡ Refused x → Signs key call left call.out (record { outcome = o; key = key })
-    unfolding key_after output_after
-    sign-refused {x} q =
-        let some = refused-number o (sign_code key call) x answer q in
-        record { code = answer; key' = rw some; table = table; written = rw some }
+      module _ {s : Result (Unit {0}) Refusal} (ordered : outcome_code s ≡ first_cause (sign_causes key (length call.message) (length call.out))) where
+        pub sign_order_refused : {cause : Refusal} {answer : Result (Unit {0}) Refusal} → s ≡ Err cause → answer ≡ Err cause
+            → Signs key call call.work call.out key answer
+        sign_order_refused was = stopped (refused-own first own after early between causes checked passed ordered was)
 
-    -- the signature made, and copied to the output
-    pub sign-granted : {out' : List ℕ} {after' : SigningKey} {bytes : ℕ} (made : List ℕ) → outcome_code o ≡ 0
-        → take (signature_length key.profile) made ≡ key_signature key call.r call.message
-        → bytes ≡ signature_length key.profile → out' ≡ paste call.out 0 made bytes → after' ≡ recounted key (cleared key.counter)
-        → Signs key call left out' (record { outcome = o; key = after' })
-    unfolding key_after output_after
-    sign-granted made zero is long w a =
-        let none : sign_code key call ≡ 0 = sym answer ∙ zero in
-        record { code = answer; key' = rw none a; table = table; written = rw none (w ∙ rw (long, zero-add, is)) }
+        module _ {u : Unit {0}} (granted : s ≡ Ok u) where
+          rest : sign_code key call ≡ first_cause after
+          rest = (granted-own first own after early between causes checked passed ordered granted).rest
+
+          -- the table is filled, and the count is looked at
+          module _ {left counted : List ℕ} (numbered : counted ≡ to_words 5 (count key.profile.shape))
+              (filled : left ≡ with_table key.profile.shape call.work) where
+            answer-code : {m : ℕ} → m ≡ first_cause ((count_too_small (value counted), 19) ∷ []) → m ≡ sign_code key call
+            answer-code looked = looked ∙ rw (count-value shape sign_filled.limits numbered) (sym rest)
+
+            module _ {t : Result (Unit {0}) Refusal} (looked : outcome_code t ≡ first_cause ((count_too_small (value counted), 19) ∷ [])) where
+              pub sign_count_refused : {cause : Refusal} {answer : Result (Unit {0}) Refusal} → t ≡ Err cause → answer ≡ Err cause
+                  → Signs key call left call.out key answer
+              unfolding key_after output_after
+              sign_count_refused was e =
+                  let some = refused-number was (answer-code looked) in
+                  rw e
+                  (record {
+                    code = ap outcome_code (sym was) ∙ answer-code looked;
+                    key' = rw some refl;
+                    table = table-left after (refl, tt) rest shape call.work filled;
+                    written = rw some refl;
+                  })
+
+              module _ {w : Unit {0}} (large : t ≡ Ok w) where
+                none : sign_code key call ≡ 0
+                none = sym (answer-code looked) ∙ ap outcome_code large
+
+                -- everything is ready, and the output has room
+                pub sign_ready : ReadyToSign key counted call.message left × (signature_length key.profile ≤ length call.out)
+                sign_ready =
+                    let unmarked : Bool = not (mark_counts (2 ^ key.profile.height) key.counter) in
+                    let size = ltb (length call.out) (signature_length key.profile) in
+                    let text = none_here (outside_text (length call.message)) 16 ((size, 6) ∷ (unmarked, 20) ∷ []) refl (granted-none own granted ordered) in
+                    let room = none_here size 6 ((unmarked, 20) ∷ []) refl text.1 in
+                    let leaf = mark-within (2 ^ key.profile.height) key.counter (not-false _ (none_here unmarked 20 [] refl room.1).0) in
+                    let known : ReadyToSign key counted call.message left =
+                    record {
+                      limits = sign_filled.limits;
+                      low = sign_filled.low;
+                      short = short_text (length call.message) text.0;
+                      some = leaf.0;
+                      in_tree = omega arith;
+                      held = table-held shape call.work filled;
+                      number = count-value shape sign_filled.limits numbered;
+                      large = (none_here (count_too_small (count shape)) 19 [] refl (sym rest ∙ none)).0;
+                    } in
+                    (known, ltb-false (length call.out) (signature_length key.profile) room.0)
+
+                -- the signature made, and copied to the output
+                pub sign_granted : (made : List ℕ) {out' : List ℕ} → made ≡ key_signature key call.r call.message
+                    → length made ≡ signature_length key.profile → out' ≡ take 0 call.out ++ made ++ drop (0 + length made) call.out
+                    → Signs key call left out' (recounted key (cleared key.counter)) (Ok tt)
+                unfolding key_after output_after
+                sign_granted made is long written =
+                    record {
+                      code = sym none;
+                      key' = rw none refl;
+                      table = table-left after (refl, tt) rest shape call.work filled;
+                      written = rw none (written ∙ rw (long, zero-add, is));
+                    }

@@ -1,7 +1,8 @@
 -- Document 02, point 5, "sign uses the marked leaf and clears the mark", with document 01, "Issue", which Reserve and Sign have replaced:
 -- what Sign answers and leaves.
-use Rattle.std.specs.Prelude.{◌≡◌, Bool, not, cond, List, [], ◌∷◌, ◌++◌, ℕ, ◌^◌, ltb, eqb, length, drop}
+use Rattle.std.specs.Prelude.{◌≡◌, Bool, not, cond, List, [], ◌∷◌, ◌++◌, ℕ, ◌^◌, ltb, eqb, length, drop, Result}
 use Rattle.refusal.specs.Code.{outcome_code, first_cause}
+use Rattle.refusal.specs.declared.Refusal.{Refusal}
 use Rattle.signature.specs.Signature.{outside_text, signature_length}
 use Rattle.signing_key.specs.Counter.{mark_counts, cleared}
 use Rattle.signing_key.specs.Key.{recounted}
@@ -10,7 +11,6 @@ use Rattle.counts.specs.Counts.{count}
 use Rattle.counts.specs.Table.{table_causes, table_after}
 use Rattle.message.specs.Message.{count_too_small}
 use Rattle.signer.specs.Signing.{key_signature}
-use Rattle.signer.specs.declared.Signed.{Signed}
 
 -- a call of Sign: R, order text, work slice and output slice, each as it is when the call begins
 pub record SigningCall : Type 0 where
@@ -32,7 +32,7 @@ sign_code key call =
     (table_causes key.profile (length call.work)
     ++ (sign_causes key (length call.message) (length call.out) ++ ((count_too_small (count key.profile.shape), 19) ∷ [])))
 
--- the key that comes back: sign "clears the mark"; "a sign refused keeps the mark", an idle one too
+-- the key that is left: sign "clears the mark"; "a sign refused keeps the mark", an idle one too
 unfoldable pub key_after : SigningKey → SigningCall → SigningKey
 key_after key call = cond (eqb (sign_code key call) 0) (recounted key (cleared key.counter)) key
 
@@ -43,9 +43,10 @@ output_after key call =
     (key_signature key call.r call.message ++ drop (signature_length key.profile) call.out)
     call.out
 
--- what Sign answers and leaves
-pub record Signs (key : SigningKey) (call : SigningCall) (work' out' : List ℕ) (answer : Signed) : Type 0 where
-  pub code : outcome_code answer.outcome ≡ sign_code key call
-  pub key' : answer.key ≡ key_after key call
+-- what Sign answers and leaves, the key among it
+pub record Signs (key : SigningKey) (call : SigningCall) (work' out' : List ℕ) (left : SigningKey)
+    (answer : Result (Unit {0}) Refusal) : Type 0 where
+  pub code : outcome_code answer ≡ sign_code key call
+  pub key' : left ≡ key_after key call
   pub table : work' ≡ table_after (sign_code key call) key.profile.shape call.work
   pub written : out' ≡ output_after key call

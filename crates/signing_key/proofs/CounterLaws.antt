@@ -1,35 +1,19 @@
 -- What a mark that counts tells, and what Reserve answers on each way out.
-use mathlib.Core.Path.{◌≡◌, refl, sym, ap, ◌∙◌}
+use mathlib.Core.Path.{◌≡◌, refl, sym, ◌∙◌}
 use mathlib.Core.Bool.{Bool, true, false, not, ◌&&◌, true≢false}
-use mathlib.Core.List.{List, [], ◌∷◌}
-use Prim.Native.Nat.{ℕ, zero, suc, ◌+◌, ◌^◌, ◌≤◌, ◌<◌}
+use mathlib.Core.List.{[], ◌∷◌}
+use Prim.Native.Nat.{ℕ, ◌+◌, ◌^◌, ◌≤◌, ◌<◌}
 use native.Mathlib.Omega.{arith}
-use borrow.Author.Tests.{leb-true, leb-false, le-leb, lt-leb, ne_eqb}
+use borrow.Author.Tests.{leb-true, leb-false, le-leb, lt-leb}
 use lib.Dec.{leb}
-use Rattle.refusal.specs.Code.{outcome_code, first_cause, then_first}
-use Rattle.refusal.specs.declared.Refusal.{Refusal}
-use Rattle.refusal.specs.declared.Outcome.{Outcome}
-use Rattle.refusal.specs.declared.Outcome.TheVariants.{Granted, Refused}
-use Rattle.refusal.proofs.Causes.{none_here, none_then, none-of-append, refused-number, code_then}
+use Rattle.refusal.specs.Code.{first_cause}
+use Rattle.refusal.proofs.Causes.{none_here, none_then, none-of-append}
 use Rattle.profile.specs.Checks.{outside, profile_causes, counted_leaves}
 use Rattle.profile.specs.declared.Profile.{Profile}
-use Rattle.profile.proofs.Limits.{outside_high, inside, not_outside, profile-numbered, counted-leaves}
-use Rattle.signing_key.specs.Counter.{mark_counts, spent, reserved, cleared, counter_causes, counter_after, AnswersWith}
+use Rattle.profile.proofs.Limits.{inside, not_outside, profile-numbered, counted-leaves}
+use Rattle.signing_key.specs.Counter.{mark_counts, spent, reserved, cleared, counter_causes, counter_after}
 use Rattle.signing_key.specs.Operations.{reserve_code}
 use Rattle.signing_key.specs.declared.Counter.{Counter}
-
--- from the low limit on, a number is within the limits where the high one is not below it
-pub from_low : (low high x : ℕ) → low ≤ x → leb x high ≡ not (outside low high x)
-from_low low high x some = by (leb x high) refl
-  where
-    by : (t : Bool) → leb x high ≡ t → t ≡ not (outside low high x)
-    by true e = sym (ap not (inside low high x some (leb-true x high e)))
-    by false e = sym (ap not (outside_high low high x some (leb-false x high e)))
-
--- where neither the code so far nor the causes behind it refuse, each of them is 0
-pub none_of_then : (n : ℕ) (more : List (Bool × ℕ)) → then_first n more ≡ 0 → (n ≡ 0) × (first_cause more ≡ 0)
-none_of_then zero more e = (refl, e)
-none_of_then (suc n) more e = absurd (omega (arith, rw (ne_eqb (suc n) 0 (λ z. omega arith)) at e))
 
 module _ (leaves : ℕ) (c : Counter) where
   -- a mark that counts: the marked leaf is one of so many
@@ -64,31 +48,11 @@ module _ (leaves : ℕ) (c : Counter) where
       record { no_mark = free.0; left = leb-false leaves c.next (none_here (spent leaves c) 12 [] refl free.1).0 }
 
 -- the leaves that the code counts tell as 2^h does
-module _ (h : ℕ) (c : Counter) (word : c.next < 2 ^ 32) where
-  pub mark-counted : mark_counts (counted_leaves h) c ≡ mark_counts (2 ^ h) c
-  unfolding mark_counts
-  mark-counted = rw (counted-leaves h c.next word).1
-
-  pub causes-counted : counter_causes (counted_leaves h) c ≡ counter_causes (2 ^ h) c
-  unfolding spent
-  causes-counted = rw (mark-counted, (counted-leaves h c.next word).0)
-
--- what Reserve answers with a number
-module _ (c : Counter) (number : ℕ) (o : Outcome) (e : outcome_code o ≡ number) where
-  pub answer-refused : (r : Refusal) → o ≡ Refused r → AnswersWith number c (record { outcome = o; counter = c })
-  unfolding counter_after
-  answer-refused r q = record { code = e; counter = rw (refused-number o number r e q) }
-
-  pub answer-granted : {after : Counter} → o ≡ Granted → after ≡ reserved c → AnswersWith number c (record { outcome = o; counter = after })
-  unfolding counter_after
-  answer-granted q a = let none : number ≡ 0 = sym e ∙ ap outcome_code q in record { code = e; counter = a ∙ rw none }
+pub mark-counted : (h : ℕ) (c : Counter) → c.next < 2 ^ 32 → mark_counts (counted_leaves h) c ≡ mark_counts (2 ^ h) c
+unfolding mark_counts
+mark-counted h c word = rw (counted-leaves h c.next word).1
 
 module _ (p : Profile) (c : Counter) where
-  -- the causes of the counter behind those of the profile
-  pub reserve-code : {n : ℕ} → n ≡ first_cause (profile_causes p) → then_first n (counter_causes (2 ^ p.height) c) ≡ reserve_code p c
-  unfolding reserve_code
-  reserve-code e = code_then (profile_causes p) (counter_causes (2 ^ p.height) c) (profile-numbered p) e
-
   -- past the causes of Reserve the profile is within its limits, and a leaf is left
   pub can_reserve : reserve_code p c ≡ 0 → (first_cause (profile_causes p) ≡ 0) × LeafLeft (2 ^ p.height) c
   unfolding reserve_code

@@ -1,10 +1,10 @@
 -- Document 02, point 5: "Reserve marks the next leaf and advances the key". What of a key counts its leaves, and what Reserve does to it,
 -- over any number of leaves.
-use Rattle.std.specs.Prelude.{◌≡◌, Bool, true, false, not, ◌&&◌, cond, List, [], ◌∷◌, ℕ, ◌+◌, ◌-◌, eqb, leb}
+use Rattle.std.specs.Prelude.{◌≡◌, Bool, true, false, not, ◌&&◌, cond, List, [], ◌∷◌, ℕ, ◌+◌, ◌-◌, eqb, leb, Result}
 use Rattle.refusal.specs.Code.{outcome_code}
+use Rattle.refusal.specs.declared.Refusal.{Refusal}
 use Rattle.profile.specs.Checks.{outside}
 use Rattle.signing_key.specs.declared.Counter.{Counter}
-use Rattle.signing_key.specs.declared.Reserved.{Reserved}
 
 -- "Fresh means 0 in that field", the next leaf; "A fresh key has no mark"
 abbrev pub fresh_counter : Counter
@@ -34,11 +34,11 @@ cleared c = record { next = c.next; mark = false }
 abbrev pub counter_causes : (leaves : ℕ) → Counter → List (Bool × ℕ)
 counter_causes leaves c = (mark_counts leaves c, 21) ∷ (spent leaves c, 12) ∷ []
 
--- the counter that comes back with the number of a cause, or 0: refused, as it came, an idle mark included
+-- the counter that is left with the number of a cause, or 0: refused, as it came, an idle mark included
 unfoldable pub counter_after : (number : ℕ) → Counter → Counter
 counter_after number c = cond (eqb number 0) (reserved c) c
 
--- the answer with that number, and the counter that comes back with it
-pub record AnswersWith (number : ℕ) (c : Counter) (answer : Reserved) : Type 0 where
-  pub code : outcome_code answer.outcome ≡ number
-  pub counter : answer.counter ≡ counter_after number c
+-- the answer with that number, and the counter that is left with it
+pub record AnswersWith (number : ℕ) (c c' : Counter) {A : Type 0} (r : Result A Refusal) : Type 0 where
+  pub code : outcome_code r ≡ number
+  pub counter : c' ≡ counter_after number c

@@ -18,7 +18,7 @@ fresh_key p seed secret = key_with p seed secret fresh_counter
 abbrev pub recounted : SigningKey → Counter → SigningKey
 recounted key c = key_with key.profile key.seed key.secret c
 
--- the key that comes back from Reserve
+-- the key that Reserve leaves
 abbrev pub reserved_key : SigningKey → SigningKey
 reserved_key key = recounted key (counter_after (reserve_code key.profile key.counter) key.counter)
 

@@ -1,16 +1,17 @@
 // A key, the counter of its leaves, and Reserve.
 #![tactic(auto)]
 
-ghost use Rattle.std.specs.Prelude.{◌≡◌, ◌+◌, ◌^◌, ◌<◌};
-ghost use Rattle.refusal.specs.Code.{outcome_code, then_first};
+ghost use Rattle.std.specs.Prelude.{◌≡◌, ◌^◌, ◌<◌};
+ghost use Rattle.refusal.specs.Code.{first_cause};
 ghost use Rattle.signing_key.specs.Counter as spec;
-ghost use Rattle.signing_key.specs.Key.{recounted, restarted_key};
+ghost use Rattle.signing_key.specs.Key.{restarted_key};
 ghost use Rattle.signing_key.specs.Operations.{Reserves};
 
 use profile::{Profile, check_profile, leaf_count};
-use refusal::{Outcome, Refusal};
+use refusal::{Refusal, refuse_if};
 
-// What of a key counts its leaves: the next one, and a mark, which says that the one before it is reserved for a signature.
+// What of a key counts its leaves: the next one, and a mark, which says that the one before it is reserved for a signature. The mark
+// is a flag and no Option, since one that does not count comes back as it came (`counter_after`).
 #[derive(Clone, Copy)]
 pub struct Counter {
     pub next: u32,
@@ -27,113 +28,49 @@ pub struct SigningKey {
 }
 
 // Whether a leaf is reserved: there is a mark, and it counts.
+#[tactic(auto, unfolding(crate::specs::Counter::mark_counts))]
 fn mark_counts(leaves: u64, c: Counter) -> bool
     ensures { result ≡ spec.mark_counts leaves c }
 {
-    let next = c.next as u64;
-    if c.mark {
-        if next == 0 { false } else { next <= leaves }
-    } else {
-        false
-    }
+    c.mark && 1 <= c.next && u64::from(c.next) <= leaves
 }
 
 // Whether a leaf of a profile's tree is reserved.
 pub fn mark_stands(p: Profile, c: Counter) -> bool
     ensures { result ≡ spec.mark_counts (2 ^ p.height) c }
 {
-    let height = p.height;
-    mark_counts(leaf_count(height), c)
+    mark_counts(leaf_count(p.height), c)
 }
 
 // Whether no leaf is left.
+#[tactic(auto, unfolding(crate::specs::Counter::spent))]
 fn spent(leaves: u64, c: Counter) -> bool
     ensures { result ≡ spec.spent leaves c }
 {
-    leaves <= c.next as u64
+    leaves <= u64::from(c.next)
 }
 
-// The causes of Reserve behind the outcome of the checks: 21, then 12.
-fn reserve_outcome(checked: Outcome, leaves: u64, c: Counter) -> Outcome
-    ensures { outcome_code result ≡ then_first (outcome_code checked) (spec.counter_causes leaves c) }
+// Reserve over a number of leaves: refused for 21, then for 12, the counter is as it was.
+#[tactic(auto, unfolding(crate::specs::Counter::counter_after, crate::specs::Counter::spent))]
+pub fn reserve_leaf(leaves: u64, counter: &mut Counter) -> Result<(), Refusal>
+    requires { leaves < 2 ^ 32 }
+    ensures { spec.AnswersWith (first_cause (spec.counter_causes leaves counter.old)) counter.old counter.new result }
 {
-    let standing = mark_counts(leaves, c);
-    let used = spent(leaves, c);
-    checked
-        .then(standing, Refusal::MarkStands)
-        .then(used, Refusal::KeySpent)
-}
-
-// The counter once its next leaf is reserved.
-fn advance(c: Counter) -> Counter
-    requires { c.next + 1 < 2 ^ 32 }
-    ensures { result ≡ spec.reserved c }
-{
-    Counter {
-        next: c.next + 1,
+    refuse_if(mark_counts(leaves, *counter), Refusal::MarkStands)?;
+    refuse_if(spent(leaves, *counter), Refusal::KeySpent)?;
+    *counter = Counter {
+        next: counter.next + 1,
         mark: true,
-    }
-}
-
-// What Reserve answers, with the counter that it hands back.
-#[derive(Clone, Copy)]
-pub struct Reserved {
-    pub outcome: Outcome,
-    pub counter: Counter,
-}
-
-// Reserve over a number of leaves, behind the outcome of a key's checks.
-pub fn reserve_leaf(checked: Outcome, leaves: u64, c: Counter) -> Reserved
-    requires { outcome_code checked ≡ 0 → leaves < 2 ^ 32 }
-    ensures { spec.AnswersWith (then_first (outcome_code checked) (spec.counter_causes leaves c)) c result }
-{
-    let outcome = reserve_outcome(checked, leaves, c);
-    match outcome {
-        Outcome::Refused(_) => Reserved {
-            outcome: outcome,
-            counter: c,
-        },
-        Outcome::Granted => {
-            let after = advance(c);
-            Reserved {
-                outcome: outcome,
-                counter: after,
-            }
-        }
-    }
+    };
+    Ok(())
 }
 
 // Reserve: marks the next leaf. The key's seeds have no part in it. The desk stores the key before it signs.
-pub fn reserve(p: Profile, c: Counter) -> Reserved
-    ensures { Reserves p c result }
+pub fn reserve(p: Profile, counter: &mut Counter) -> Result<(), Refusal>
+    ensures { Reserves p counter.old counter.new result }
 {
-    let height = p.height;
-    reserve_leaf(check_profile(p), leaf_count(height), c)
-}
-
-// The counter without a mark.
-pub fn clear(c: Counter) -> Counter
-    ensures { result ≡ spec.cleared c }
-{
-    Counter {
-        next: c.next,
-        mark: false,
-    }
-}
-
-// A key with its leaves counted otherwise.
-pub fn with_counter(key: SigningKey, c: Counter) -> SigningKey
-    ensures { result ≡ recounted key c }
-{
-    let profile = key.profile;
-    let seed = key.seed;
-    let secret = key.secret;
-    SigningKey {
-        profile: profile,
-        seed: seed,
-        secret: secret,
-        counter: c,
-    }
+    check_profile(p)?;
+    reserve_leaf(leaf_count(p.height), counter)
 }
 
 // The key with which a desk goes on after a restart, from the one that was stored: without a mark, since the stored key
@@ -141,7 +78,11 @@ pub fn with_counter(key: SigningKey, c: Counter) -> SigningKey
 pub fn restart(key: SigningKey) -> SigningKey
     ensures { result ≡ restarted_key key }
 {
-    let found = key.counter;
-    let cleared = clear(found);
-    with_counter(key, cleared)
+    SigningKey {
+        counter: Counter {
+            mark: false,
+            ..key.counter
+        },
+        ..key
+    }
 }

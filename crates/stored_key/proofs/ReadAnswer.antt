@@ -2,14 +2,21 @@
 use mathlib.Core.Path.{◌≡◌, refl, sym, ap, ◌∙◌}
 use mathlib.Core.Bool.{Bool, true, false, cond, true≢false}
 use mathlib.Core.List.{List, [], ◌∷◌, append-nil}
-use Prim.Native.Nat.{ℕ, ◌+◌, ◌-◌, ◌*◌, ◌^◌, ◌≤◌}
+use Prim.Native.Nat.{ℕ, ◌+◌, ◌*◌, ◌^◌, ◌≤◌, ◌<◌}
 use native.Mathlib.Omega.{arith}
 use borrow.Author.Tests.{lt-ltb, eq-eqb, ltb-true, eqb-true}
 use lib.Dec.{ltb, eqb}
 use lib.ListN.{length, get_or, take, drop, length-drop, drop_of_length-le}
 use lib.Seq.{drop-cons, drop-drop, get_or-drop}
-use Rattle.refusal.specs.Code.{outcome_code, first_cause}
-use Rattle.refusal.specs.declared.Outcome.{Outcome}
+use Rattle.std.specs.Prelude.{Some, None, Result, Ok, Err}
+use Rattle.std.specs.Prelude.{is_some}
+use Rattle.std.specs.Option.{ok_or}
+use Rattle.std.specs.Result.{result_ok}
+use Rattle.refusal.specs.Code.{code, outcome_code, first_cause}
+use Rattle.refusal.proofs.Positive.{code-positive}
+use Rattle.refusal.specs.declared.Refusal.{Refusal}
+use Rattle.refusal.specs.declared.Refusal.TheVariants.{SheetLine}
+use Rattle.std.specs.Int.{w16, from_be_bytes}
 use Rattle.octets.specs.Bytes.{from_bytes}
 use Rattle.lists.proofs.Lists.{drop-two, below-drop}
 use Rattle.lists.proofs.Tests.{both}
@@ -21,43 +28,42 @@ use Rattle.profile.specs.declared.Profile.{Profile}
 use Rattle.signing_key.specs.Counter.{mark_counts}
 use Rattle.signing_key.specs.declared.SigningKey.{SigningKey}
 use Rattle.stored_key.specs.KeyFields.{chains_field, width_field, height_field, sum_field, seed_field, secret_field, next_field, mark_field, offset, key_length}
-use Rattle.stored_key.specs.KeyFields.{byte_in}
-use Rattle.stored_key.specs.KeyFrame.{key_in, without_idle_mark}
+use Rattle.stored_key.specs.KeyFields.{field_in, byte_in}
+use Rattle.stored_key.specs.KeyFrame.{key_in, without_idle_mark, Stored, wrong_frame, stored, read_stored}
 use Rattle.stored_key.specs.Operations.{read_key_code, stored_line, key_of, ReadsKey}
-use Rattle.stored_key.specs.inner.Parts.{field_place, frame_length, framed_test, RefusesFrame}
-use Rattle.stored_key.specs.declared.reader.KeyRead.{KeyRead}
+use Rattle.stored_key.specs.inner.Parts.{field_place, frame_length, framed_test, key_found}
 use Rattle.stored_key.proofs.KeyLaws.{idle-profile}
 use Rattle.stored_key.proofs.StoredLaws.{RightFrame, right-line, right-read, right-long, wrong-read}
 
+-- the library's number of two bytes
+two-bytes : (high low : ℕ) → from_be_bytes w16 (high ∷ low ∷ []) ≡ from_bytes (high ∷ low ∷ [])
+unfolding from_bytes
+two-bytes high low = omega arith
+
 module _ (bytes : List ℕ) (long : frame_length ≤ length bytes) where
+  -- the sum behind the kind
+  pub sum-behind : {two : List ℕ} → two ≡ take 2 (drop (field_place sum_field) bytes)
+      → from_be_bytes w16 two ≡ from_bytes (field_in sum_field (drop 1 bytes))
+  sum-behind e =
+      rw (e, drop-drop (offset sum_field) 1 bytes, drop-two 0 bytes (field_place sum_field) (omega arith))
+      (two-bytes (get_or bytes (field_place sum_field) 0) (get_or bytes (field_place sum_field + 1) 0))
+
   -- the profile behind the kind
-  pub profile-behind : {edition : ℕ} → edition ≡ cond (eqb (length bytes - 1) (key_length + 1)) 2 1
+  pub profile-behind : {sum edition : ℕ} → sum ≡ from_bytes (field_in sum_field (drop 1 bytes))
+      → edition ≡ cond (eqb (length (drop 1 bytes)) (key_length + 1)) 2 1
       → ◌≡◌ {A = Profile} (record {
         shape = record {
           chains = get_or bytes (field_place chains_field) 0;
           width = get_or bytes (field_place width_field) 0;
-          sum =
-              256 * get_or bytes (field_place sum_field) 0 + get_or bytes (field_place sum_field + 1) 0;
+          sum = sum;
         };
         height = get_or bytes (field_place height_field) 0;
         edition = edition;
       })
       (key_in (drop 1 bytes)).profile
-  unfolding key_in from_bytes
-  profile-behind e =
-      let high : ℕ = get_or bytes (field_place sum_field) 0 in
-      let low : ℕ = get_or bytes (field_place sum_field + 1) 0 in
-      let sum : high * 256 ^ 1 + (low * 256 ^ 0 + 0) ≡ 256 * high + low = omega arith in
-      rw (
-        get_or-drop 1 bytes (offset chains_field) 0,
-        get_or-drop 1 bytes (offset width_field) 0,
-        get_or-drop 1 bytes (offset height_field) 0,
-        length-drop 1 bytes,
-        drop-drop (offset sum_field) 1 bytes,
-        drop-two 0 bytes (field_place sum_field) (omega arith),
-        sum,
-        e,
-      )
+  unfolding key_in
+  profile-behind s e =
+      rw (get_or-drop 1 bytes (offset chains_field) 0, get_or-drop 1 bytes (offset width_field) 0, get_or-drop 1 bytes (offset height_field) 0, s, e)
 
   -- the key behind the kind
   pub key-behind : {p : Profile} {seed secret : List ℕ} {next : ℕ} {mark : Bool} → p ≡ (key_in (drop 1 bytes)).profile
@@ -80,25 +86,39 @@ module _ (bytes : List ℕ) (long : frame_length ≤ length bytes) where
         get_or-drop 1 bytes (offset mark_field) 0,
       )
 
+-- the value of an answer is there where it is granted
+pub value-granted : (r : Result (Unit {0}) Refusal) → {v : Unit {0}} → result_ok r ≡ Some v → outcome_code r ≡ 0
+value-granted (Ok v) q = refl
+value-granted (Err e) {v} q = absurd (true≢false (sym (ap is_some q)))
+
+pub none-refused : (r : Result (Unit {0}) Refusal) → result_ok r ≡ None → outcome_code r ≡ 0 → ⊥
+none-refused (Ok v) q z = true≢false (ap is_some q)
+none-refused (Err e) q z = let positive : 0 < code e = code-positive e in omega arith
+
 module _ (frame : List ℕ) where
   -- a frame that is refused
-  pub refuses_key : {r : KeyRead} → ((bytes : List ℕ) → RightFrame frame bytes → ⊥) → RefusesFrame r → ReadsKey frame r
-  unfolding read_key_code stored_line key_of
-  refuses_key never answer =
-      let e = wrong-read frame never in
-      record { code = answer.code ∙ ap read_key_code (sym e); line = answer.line ∙ ap stored_line (sym e); key = answer.key ∙ ap key_of (sym e) }
+  pub no-key : ((bytes : List ℕ) → RightFrame frame bytes → ⊥) → key_found (read_stored frame) ≡ None
+  unfolding key_found
+  no-key never = ap key_found (wrong-read frame never)
 
   -- a right frame is as long as the line of either edition
   pub other-long : (length frame ≡ 2 * frame_length + 1 → ⊥) → (length frame ≡ 2 * frame_length + 3 → ⊥) → (bytes : List ℕ) → RightFrame frame bytes → ⊥
   other-long first second bytes r = omega (arith, right-long r, r.some, r.few)
 
   -- a frame that is read
-  pub reads-key : {bytes : List ℕ} {o : Outcome} {key : SigningKey} → RightFrame frame bytes → outcome_code o ≡ 0 → key ≡ without_idle_mark (key_in bytes)
-      → ReadsKey frame (record { outcome = o; line = 0; key = key })
-  unfolding read_key_code stored_line key_of
-  reads-key r granted found =
-      let e = right-read r in
-      record { code = granted ∙ ap read_key_code (sym e); line = ap stored_line (sym e); key = found ∙ ap key_of (sym e) }
+  pub reads-key : {bytes : List ℕ} {key : SigningKey} → RightFrame frame bytes → key ≡ without_idle_mark (key_in bytes)
+      → key_found (read_stored frame) ≡ Some key
+  unfolding key_found
+  reads-key r found = ap key_found (right-read r) ∙ ap Some (sym found)
+
+  -- what is answered to the key that is found, or to none
+  pub key-answer : {r : Result SigningKey Refusal} → r ≡ ok_or (key_found (read_stored frame)) (SheetLine 1) → ReadsKey frame r
+  unfolding key_found read_key_code stored_line key_of
+  key-answer e = rw e (by (read_stored frame) refl)
+    where
+      by : (s : Stored) → read_stored frame ≡ s → ReadsKey frame (ok_or (key_found s) (SheetLine 1))
+      by wrong_frame q = record { code = rw q; line = rw q; key = rw q }
+      by (stored key) q = record { code = rw q; line = rw q; key = rw q }
 
   -- a line of other than the slice's bytes is no right frame of its length
   pub other-line : (old new : List ℕ) → length frame ≡ 2 * length old + 1 → ReadsLine frame 0 old new false → (bytes : List ℕ) → RightFrame frame bytes → ⊥

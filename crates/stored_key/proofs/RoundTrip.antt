@@ -7,7 +7,10 @@ use native.Mathlib.Omega.{arith}
 use borrow.Author.Tests.{eqb-true}
 use lib.ListN.{length, take, drop}
 use lib.Seq.{take_at}
-use Rattle.refusal.specs.Code.{outcome_code}
+use Rattle.std.specs.Prelude.{Result}
+use Rattle.std.specs.Result.{result_unwrap_or}
+use Rattle.refusal.specs.Code.{outcome_code, line_told}
+use Rattle.refusal.specs.declared.Refusal.{Refusal}
 use Rattle.lists.proofs.Tests.{both}
 use Rattle.profile.specs.Checks.{outside}
 use Rattle.profile.specs.declared.Profile.{Profile}
@@ -16,24 +19,23 @@ use Rattle.signing_key.specs.declared.Counter.{Counter}
 use Rattle.signing_key.specs.declared.SigningKey.{SigningKey}
 use Rattle.stored_key.specs.KeyFields.{mark_field, byte_in}
 use Rattle.stored_key.specs.KeyFrame.{key_in, without_idle_mark, stored_key, Stored, wrong_frame, stored, read_stored}
-use Rattle.stored_key.specs.Operations.{read_key_code, stored_line, key_of, ReadsKey}
+use Rattle.stored_key.specs.Operations.{no_key, read_key_code, stored_line, key_of, ReadsKey}
 use Rattle.stored_key.specs.RoundTrip.{WrittenKeyIsRead, IdleIn, ReadKeyIsWritten}
-use Rattle.stored_key.specs.declared.reader.KeyRead.{KeyRead}
 use Rattle.stored_key.proofs.BytesLaws.{bytes_again}
 use Rattle.stored_key.proofs.StoredLaws.{RightFrame, right_frame, read_right, stored-read}
 use Rattle.stored_key.proofs.WriteAnswer.{granted-passed, granted-written, room-granted}
 
 -- what Read key answers to a frame that is read as a key, and the other way round
-module _ {frame : List ℕ} {found : KeyRead} (r : ReadsKey frame found) where
-  stored_answer : {key : SigningKey} → read_stored frame ≡ stored key → (outcome_code found.outcome ≡ 0) × (found.line ≡ 0) × (found.key ≡ key)
+module _ {frame : List ℕ} {found : Result SigningKey Refusal} (r : ReadsKey frame found) where
+  stored_answer : {key : SigningKey} → read_stored frame ≡ stored key → (outcome_code found ≡ 0) × (line_told found ≡ 0) × (result_unwrap_or found no_key ≡ key)
   unfolding read_key_code stored_line key_of
   stored_answer e = (r.code ∙ ap read_key_code e, r.line ∙ ap stored_line e, r.key ∙ ap key_of e)
 
-  answer-stored : outcome_code found.outcome ≡ 0 → read_stored frame ≡ stored found.key
+  answer-stored : outcome_code found ≡ 0 → read_stored frame ≡ stored (result_unwrap_or found no_key)
   unfolding read_key_code key_of
   answer-stored granted = by (read_stored frame) refl
     where
-      by : (s : Stored) → read_stored frame ≡ s → read_stored frame ≡ stored found.key
+      by : (s : Stored) → read_stored frame ≡ s → read_stored frame ≡ stored (result_unwrap_or found no_key)
       by wrong_frame e = let seventeen = r.code ∙ ap read_key_code e in absurd (omega arith)
       by (stored key) e = e ∙ ap stored (sym (r.key ∙ ap key_of e))
 
@@ -41,7 +43,7 @@ pub written-is-read : WrittenKeyIsRead
 written-is-read key frame frame' made held w granted found r =
     let zero = sym w.code ∙ granted in
     let written = granted-written key frame w zero in
-    let front : take made.length frame' ≡ stored_key key = rw (written.0, written.1)
+    let front : take (result_unwrap_or made 0) frame' ≡ stored_key key = rw (written.0, written.1)
     (take_at (stored_key key) (drop (length (stored_key key)) frame) (length (stored_key key)) refl) in
     stored_answer r (rw front (stored-read key held (granted-passed key frame zero)))
 
@@ -75,9 +77,10 @@ module _ {frame bytes : List ℕ} (r : RightFrame frame bytes) (counts : IdleIn 
 
 pub read-is-written : ReadKeyIsWritten
 read-is-written frame found r granted counts slice slice' made room w =
+    let key : SigningKey = result_unwrap_or found no_key in
     let of = read_right frame (answer-stored r granted) in
-    let same : found.key ≡ key_in of.0 = of.2 ∙ no_idle_mark of.1 counts in
-    let again : stored_key found.key ≡ frame = ap stored_key same ∙ frame_again of.1 counts in
-    let zero = room-granted found.key slice (rw same of.1.passed) (rw again room) in
-    let written = granted-written found.key slice w zero in
+    let same : key ≡ key_in of.0 = of.2 ∙ no_idle_mark of.1 counts in
+    let again : stored_key key ≡ frame = ap stored_key same ∙ frame_again of.1 counts in
+    let zero = room-granted key slice (rw same of.1.passed) (rw again room) in
+    let written = granted-written key slice w zero in
     (w.code ∙ zero, rw again at written.0, rw again at written.1)

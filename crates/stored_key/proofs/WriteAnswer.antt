@@ -7,12 +7,12 @@ use native.Mathlib.Omega.{arith}
 use borrow.Author.Tests.{lt-ltb, le-ltb}
 use lib.Dec.{ltb}
 use lib.ListN.{length, take, drop, length-append}
-use Rattle.refusal.specs.Code.{outcome_code, first_cause}
+use Rattle.std.specs.Prelude.{Result, Ok, Err}
+use Rattle.std.specs.Result.{result_unwrap_or}
+use Rattle.refusal.specs.Code.{code, outcome_code, first_cause}
 use Rattle.refusal.specs.declared.Refusal.{Refusal}
 use Rattle.refusal.specs.declared.Refusal.TheVariants.{OutputTooShort}
-use Rattle.refusal.specs.declared.Outcome.{Outcome}
-use Rattle.refusal.specs.declared.Outcome.TheVariants.{Granted, Refused}
-use Rattle.refusal.proofs.Causes.{none_then, none-of-append, refused_then, refused-some}
+use Rattle.refusal.proofs.Causes.{none_then, none-of-append, refused_first, refused-number}
 use Rattle.octets.specs.Bytes.{to_bytes}
 use Rattle.lists.proofs.Joins.{written_behind}
 use Rattle.hex_lines.specs.Hex.{hex_of, line_end, line_of}
@@ -30,7 +30,6 @@ use Rattle.stored_key.specs.KeyFields.{seed_field, secret_field, next_field}
 use Rattle.stored_key.specs.KeyFrame.{key_bytes, without_idle_mark, stored_key}
 use Rattle.stored_key.specs.Operations.{write_key_code, bytes_written, frame_after, WritesKey}
 use Rattle.stored_key.specs.inner.Parts.{field_place, frame_length, last_length, front_bytes, last_bytes}
-use Rattle.stored_key.specs.declared.writer.KeyWritten.{KeyWritten}
 use Rattle.stored_key.proofs.KeyLaws.{key_parts, key-bytes-long}
 
 -- bytes that are written behind others, and a line
@@ -104,25 +103,31 @@ module _ (key : SigningKey) (seed_long : length key.seed ≡ 16) (secret_long : 
             ∙ ap (λ l. line_of l ++ drop end o) (sym (key_parts (without_idle_mark key))),
       )
 
--- the two answers to a profile within its limits, and the one to another
+-- the two refusals, and the answer to a key that is written
 module _ (key : SigningKey) (frame : List ℕ) where
   abbrev late : List (Bool × ℕ)
   late = (ltb (length frame) (length (stored_key key)), 6) ∷ []
 
-  pub profile-refused : (o : Outcome) → outcome_code o ≡ first_cause (profile_causes key.profile) → (r : Refusal) → o ≡ Refused r
-      → WritesKey key frame frame (record { outcome = o; length = 0 })
-  unfolding write_key_code bytes_written frame_after
-  profile-refused o e r q =
-      let some = refused-some (profile_causes key.profile) late o e r q in
-      record { code = refused_then (profile_causes key.profile) late o e r q; bytes = rw some; written = rw some }
+  -- refused, nothing is written
+  key-refused : {e : Refusal} {r : Result ℕ Refusal} → r ≡ Err e → code e ≡ write_key_code key frame → WritesKey key frame frame r
+  unfolding bytes_written frame_after
+  key-refused q number =
+      let told = ap outcome_code q ∙ number in
+      let some = refused-number q told in
+      record { code = told; bytes = rw (q, some); written = rw some }
+
+  pub profile-refused : {e : Refusal} {checked : Result (Unit {0}) Refusal} {r : Result ℕ Refusal} → checked ≡ Err e
+      → outcome_code checked ≡ first_cause (profile_causes key.profile) → r ≡ Err e → WritesKey key frame frame r
+  unfolding write_key_code
+  profile-refused q o w = key-refused w (refused_first (profile_causes key.profile) late q o)
 
   pub granted-passed : write_key_code key frame ≡ 0 → first_cause (profile_causes key.profile) ≡ 0
   unfolding write_key_code
   granted-passed zero = (none-of-append (profile_causes key.profile) late (profile-numbered key.profile) zero).0
 
   -- what is left where nothing is refused
-  pub granted-written : {frame' : List ℕ} {made : KeyWritten} → WritesKey key frame frame' made → write_key_code key frame ≡ 0
-      → (made.length ≡ length (stored_key key)) × (frame' ≡ stored_key key ++ drop (length (stored_key key)) frame)
+  pub granted-written : {frame' : List ℕ} {made : Result ℕ Refusal} → WritesKey key frame frame' made → write_key_code key frame ≡ 0
+      → (result_unwrap_or made 0 ≡ length (stored_key key)) × (frame' ≡ stored_key key ++ drop (length (stored_key key)) frame)
   unfolding bytes_written frame_after
   granted-written w zero = (rw zero at w.bytes, rw zero at w.written)
 
@@ -131,18 +136,15 @@ module _ (key : SigningKey) (frame : List ℕ) where
     unfolding write_key_code
     code_then = none_then (profile_causes key.profile) late none (profile-numbered key.profile)
 
-    pub no_room : length frame < length (stored_key key) → WritesKey key frame frame (record { outcome = Refused OutputTooShort; length = 0 })
-    unfolding bytes_written frame_after
-    no_room short =
-        let six : write_key_code key frame ≡ 6 = code_then ∙ rw (lt-ltb (length frame) (length (stored_key key)) short) in
-        record { code = sym six; bytes = rw six; written = rw six }
+    pub no_room : {r : Result ℕ Refusal} → length frame < length (stored_key key) → r ≡ Err OutputTooShort → WritesKey key frame frame r
+    no_room short q = key-refused q (sym (code_then ∙ rw (lt-ltb (length frame) (length (stored_key key)) short)))
 
     pub room-granted : length (stored_key key) ≤ length frame → write_key_code key frame ≡ 0
     room-granted room = code_then ∙ rw (le-ltb (length frame) (length (stored_key key)) room)
 
     pub key_written : {frame' : List ℕ} {end : ℕ} → length (stored_key key) ≤ length frame → end ≡ length (stored_key key)
         → frame' ≡ stored_key key ++ drop end frame
-        → WritesKey key frame frame' (record { outcome = Granted; length = end })
+        → WritesKey key frame frame' (Ok end)
     unfolding bytes_written frame_after
     key_written room e w =
         let zero = room-granted room in

@@ -36,7 +36,11 @@ unfoldable pub key_in : (bytes : List ℕ) → SigningKey
 key_in bytes =
     record {
       profile = record {
-        shape = record { chains = byte_in chains_field bytes; width = byte_in width_field bytes; sum = from_bytes (field_in sum_field bytes) };
+        shape = record {
+          chains = byte_in chains_field bytes;
+          width = byte_in width_field bytes;
+          sum = from_bytes (field_in sum_field bytes);
+        };
         height = byte_in height_field bytes;
         edition = cond (eqb (length bytes) (key_length + 1)) 2 1;
       };

@@ -1,11 +1,11 @@
 -- Document 02, point 5: what Write key and Read key answer and leave.
-use Rattle.std.specs.Prelude.{◌≡◌, false, cond, List, [], ◌∷◌, ◌++◌, ℕ, ltb, eqb, length, drop, replicate}
-use Rattle.refusal.specs.Code.{outcome_code, first_cause}
+use Rattle.std.specs.Prelude.{◌≡◌, false, cond, List, [], ◌∷◌, ◌++◌, ℕ, ltb, eqb, length, drop, replicate, Result}
+use Rattle.std.specs.Result.{result_unwrap_or}
+use Rattle.refusal.specs.Code.{outcome_code, line_told, first_cause}
+use Rattle.refusal.specs.declared.Refusal.{Refusal}
 use Rattle.profile.specs.Checks.{profile_causes}
 use Rattle.signing_key.specs.declared.SigningKey.{SigningKey}
 use Rattle.stored_key.specs.KeyFrame.{stored_key, Stored, wrong_frame, stored, read_stored}
-use Rattle.stored_key.specs.declared.writer.KeyWritten.{KeyWritten}
-use Rattle.stored_key.specs.declared.reader.KeyRead.{KeyRead}
 
 -- "Writing it gives the profile checks, then 6"
 unfoldable pub write_key_code : SigningKey → (frame : List ℕ) → ℕ
@@ -20,9 +20,9 @@ unfoldable pub frame_after : SigningKey → (frame : List ℕ) → List ℕ
 frame_after key frame = cond (eqb (write_key_code key frame) 0) (stored_key key ++ drop (length (stored_key key)) frame) frame
 
 -- what Write key answers and leaves
-pub record WritesKey (key : SigningKey) (frame frame' : List ℕ) (r : KeyWritten) : Type 0 where
-  pub code : outcome_code r.outcome ≡ write_key_code key frame
-  pub bytes : r.length ≡ bytes_written key frame
+pub record WritesKey (key : SigningKey) (frame frame' : List ℕ) (r : Result ℕ Refusal) : Type 0 where
+  pub code : outcome_code r ≡ write_key_code key frame
+  pub bytes : result_unwrap_or r 0 ≡ bytes_written key frame
   pub written : frame' ≡ frame_after key frame
 
 -- the key of a refused answer: every number, byte and mark zero
@@ -51,7 +51,7 @@ key_of wrong_frame = no_key
 key_of (stored key) = key
 
 -- what Read key answers
-pub record ReadsKey (frame : List ℕ) (r : KeyRead) : Type 0 where
-  pub code : outcome_code r.outcome ≡ read_key_code (read_stored frame)
-  pub line : r.line ≡ stored_line (read_stored frame)
-  pub key : r.key ≡ key_of (read_stored frame)
+pub record ReadsKey (frame : List ℕ) (r : Result SigningKey Refusal) : Type 0 where
+  pub code : outcome_code r ≡ read_key_code (read_stored frame)
+  pub line : line_told r ≡ stored_line (read_stored frame)
+  pub key : result_unwrap_or r no_key ≡ key_of (read_stored frame)

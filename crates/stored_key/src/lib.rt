@@ -5,5 +5,5 @@ mod fields;
 mod reader;
 mod writer;
 
-pub use reader::{KeyRead, read_key};
-pub use writer::{KeyWritten, write_key};
+pub use reader::read_key;
+pub use writer::write_key;

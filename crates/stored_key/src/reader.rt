@@ -1,77 +1,36 @@
 // Read key: the key of a frame.
 ghost use Rattle.std.specs.Prelude.{◌≡◌, cond, ◌+◌, ◌*◌, ◌≤◌, eqb, length, drop};
 ghost use Rattle.stored_key.specs.KeyFields.{key_length};
-ghost use Rattle.stored_key.specs.KeyFrame.{key_in, without_idle_mark};
+ghost use Rattle.stored_key.specs.KeyFrame.{key_in, without_idle_mark, read_stored};
 ghost use Rattle.stored_key.specs.Operations.{ReadsKey};
-ghost use Rattle.stored_key.specs.inner.Parts.{frame_length, framed_test, RefusesFrame};
+ghost use Rattle.stored_key.specs.inner.Parts.{frame_length, framed_test, key_found};
 
 use super::fields::{
     CHAINS_AT, FRAME_BYTES, HEIGHT_AT, LINE_LENGTH, MARK_AT, NEXT_AT, SECRET_AT, SEED_AT, SUM_AT,
     WIDTH_AT,
 };
+use frames::Kind;
 use hex_lines::read_line;
-use octets::{read_16, word_at};
+use octets::{array_at, word_at};
 use profile::{Profile, Shape, check_profile};
-use refusal::{Outcome, Refusal};
+use refusal::Refusal;
 use signing_key::{Counter, SigningKey, mark_stands};
-
-// What Read key answers: refused, the line is 1 and the key is all zero.
-#[derive(Clone, Copy)]
-pub struct KeyRead {
-    pub outcome: Outcome,
-    pub line: u32,
-    pub key: SigningKey,
-}
-
-// The answer to a frame that is wrong.
-fn refused() -> KeyRead
-    ensures { RefusesFrame result }
-{
-    KeyRead {
-        outcome: Outcome::Refused(Refusal::SheetLine),
-        line: 1,
-        key: SigningKey {
-            profile: Profile {
-                shape: Shape {
-                    chains: 0,
-                    width: 0,
-                    sum: 0,
-                },
-                height: 0,
-                edition: 0,
-            },
-            seed: [0; 16],
-            secret: [0; 16],
-            counter: Counter {
-                next: 0,
-                mark: false,
-            },
-        },
-    }
-}
 
 // Whether the kind, the mark and the edition's byte of a frame's bytes are right. The last stands in edition 2 alone.
 fn is_framed(bytes: &[u8]) -> bool
     requires { frame_length ≤ length bytes.now }
     ensures { result ≡ framed_test bytes.now }
 {
-    if bytes[0] != 7 {
-        return false;
-    }
-    if 2 <= bytes[MARK_AT] {
-        return false;
-    }
-    if bytes.len() == FRAME_BYTES {
-        return true;
-    }
-    bytes[FRAME_BYTES] == 2
+    bytes[0] == Kind::StoredKey.byte()
+        && bytes[MARK_AT] < 2
+        && (bytes.len() == FRAME_BYTES || bytes[FRAME_BYTES] == 2)
 }
 
-// The edition of a frame with so many bytes behind its kind: in edition 2 one more than the fields have.
-fn edition_of(behind: usize) -> u32
-    ensures { result ≡ cond (eqb behind (key_length + 1)) 2 1 }
+// The edition of a frame's bytes: edition 2 has one more than the fields have.
+fn edition_of(bytes: &[u8]) -> u32
+    ensures { result ≡ cond (eqb (length (drop 1 bytes.now)) (key_length + 1)) 2 1 }
 {
-    if behind == FRAME_BYTES { 2 } else { 1 }
+    if bytes.len() == FRAME_BYTES + 1 { 2 } else { 1 }
 }
 
 // The profile in a frame's bytes.
@@ -79,16 +38,14 @@ fn profile_in(bytes: &[u8]) -> Profile
     requires { frame_length ≤ length bytes.now }
     ensures { result ≡ (key_in (drop 1 bytes.now)).profile }
 {
-    let edition = edition_of(bytes.len() - 1);
-    let sum = 256 * bytes[SUM_AT] as u32 + bytes[SUM_AT + 1] as u32;
     Profile {
         shape: Shape {
-            chains: bytes[CHAINS_AT] as u32,
-            width: bytes[WIDTH_AT] as u32,
-            sum: sum,
+            chains: u32::from(bytes[CHAINS_AT]),
+            width: u32::from(bytes[WIDTH_AT]),
+            sum: u32::from(u16::from_be_bytes(array_at(bytes, SUM_AT))),
         },
-        height: bytes[HEIGHT_AT] as u32,
-        edition: edition,
+        height: u32::from(bytes[HEIGHT_AT]),
+        edition: edition_of(bytes),
     }
 }
 
@@ -97,61 +54,47 @@ fn key_in(bytes: &[u8]) -> SigningKey
     requires { frame_length ≤ length bytes.now }
     ensures { result ≡ without_idle_mark (key_in (drop 1 bytes.now)) }
 {
-    let p = profile_in(bytes);
-    let seed = read_16(bytes, SEED_AT);
-    let secret = read_16(bytes, SECRET_AT);
-    let next = word_at(bytes, NEXT_AT);
+    let profile = profile_in(bytes);
     let counter = Counter {
-        next: next,
+        next: word_at(bytes, NEXT_AT),
         mark: bytes[MARK_AT] == 1,
     };
-    let mark = mark_stands(p, counter);
     SigningKey {
-        profile: p,
-        seed: seed,
-        secret: secret,
+        profile,
+        seed: array_at(bytes, SEED_AT),
+        secret: array_at(bytes, SECRET_AT),
         counter: Counter {
-            next: next,
-            mark: mark,
+            mark: mark_stands(profile, counter),
+            ..counter
         },
     }
 }
 
-// Read key for a frame as long as a line of so many bytes as the slice has, into which it is read.
-fn read_sized(frame: &[u8], bytes: &mut [u8]) -> KeyRead
+// The key of a frame as long as a line of so many bytes as the slice has, into which it is read.
+fn read_sized(frame: &[u8], bytes: &mut [u8]) -> Option<SigningKey>
     requires { (frame_length ≤ length bytes.old) × (length bytes.old ≤ frame_length + 1)
         × (length frame.now ≡ 2 * length bytes.old + 1) }
-    ensures { ReadsKey frame.now result }
+    ensures { result ≡ key_found (read_stored frame.now) }
 {
-    if !read_line(frame, 0, bytes) {
-        return refused();
-    }
-    if !is_framed(bytes) {
-        return refused();
+    if !read_line(frame, 0, bytes) || !is_framed(bytes) {
+        return None;
     }
     let key = key_in(bytes);
-    let p = key.profile;
-    let outcome = check_profile(p);
-    match outcome {
-        Outcome::Refused(_) => refused(),
-        Outcome::Granted => KeyRead {
-            outcome: outcome,
-            line: 0,
-            key: key,
-        },
-    }
+    check_profile(key.profile).ok()?;
+    Some(key)
 }
 
-// Read key: a frame of the fields alone is of edition 1, and one with a byte more of edition 2.
-pub fn read_key(frame: &[u8]) -> KeyRead
+// Read key: a frame of the fields alone is of edition 1, and one with a byte more of edition 2. A wrong frame is line 1.
+pub fn read_key(frame: &[u8]) -> Result<SigningKey, Refusal>
     ensures { ReadsKey frame.now result }
 {
-    let mut bytes = [0u8; FRAME_BYTES + 1];
-    if frame.len() == LINE_LENGTH {
-        return read_sized(frame, &mut bytes[..FRAME_BYTES]);
-    }
-    if frame.len() == LINE_LENGTH + 2 {
-        return read_sized(frame, &mut bytes[..FRAME_BYTES + 1]);
-    }
-    refused()
+    let mut bytes = [0; FRAME_BYTES + 1];
+    let found = if frame.len() == LINE_LENGTH {
+        read_sized(frame, &mut bytes[..FRAME_BYTES])
+    } else if frame.len() == LINE_LENGTH + 2 {
+        read_sized(frame, &mut bytes)
+    } else {
+        None
+    };
+    found.ok_or(Refusal::SheetLine(1))
 }

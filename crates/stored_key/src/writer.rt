@@ -1,103 +1,53 @@
 // Write key: the frame of a key.
-ghost use Rattle.std.specs.Prelude.{◌≡◌, cond, ◌++◌, ◌+◌, ◌*◌, ◌^◌, ◌≤◌, length, drop};
-ghost use Rattle.refusal.specs.Code.{first_cause};
+ghost use Rattle.std.specs.Prelude.{◌≡◌, ◌++◌, ◌*◌, ◌^◌, ◌≤◌, length, drop};
 ghost use Rattle.hex_lines.specs.Hex.{hex_of};
-ghost use Rattle.profile.specs.Checks.{profile_causes};
-ghost use Rattle.frames.specs.Frames.{SizesInLimits, edition_byte};
 ghost use Rattle.signing_key.specs.Counter as counting;
 ghost use Rattle.stored_key.specs.KeyFields.{next_field};
-ghost use Rattle.stored_key.specs.KeyFrame.{stored_key};
 ghost use Rattle.stored_key.specs.Operations.{WritesKey};
-ghost use Rattle.stored_key.specs.inner.Parts.{field_place, frame_length, front_bytes, last_bytes};
+ghost use Rattle.stored_key.specs.inner.Parts.{field_place, front_bytes, last_bytes};
 
 use super::fields::{LAST_BYTES, LINE_LENGTH, NEXT_AT, SECRET_AT, SEED_AT};
-use frames::{edition_bytes, profile_head};
+use frames::{Kind, LimitedProfile, edition_bytes};
 use hex_lines::{write_bytes, write_line};
 use octets::word_bytes;
 use profile::{Profile, check_profile};
-use refusal::{Outcome, Refusal};
+use refusal::{Refusal, refuse_if};
 use signing_key::{Counter, SigningKey, mark_stands};
 
-// What Write key answers: refused, no byte is written.
-#[derive(Clone, Copy)]
-pub struct KeyWritten {
-    pub outcome: Outcome,
-    pub length: usize,
-}
-
-// The byte of a mark.
-fn mark_byte(mark: bool) -> u8
-    ensures { result ≡ cond mark 1 0 }
-{
-    if mark { 1 } else { 0 }
-}
-
 // The bytes behind the seeds, as in edition 2: in edition 1 the last is left out. A mark that does not count is written as none.
+#[tactic(auto, unfolding(octets::specs::Bytes::to_bytes, frames::specs::Frames::edition_byte))]
 fn last_bytes(p: Profile, counter: Counter) -> [u8; 6]
     ensures { result ≡ last_bytes counter.next (counting.mark_counts (2 ^ p.height) counter) 2 }
 {
-    let next = word_bytes(counter.next);
-    let mark = mark_byte(mark_stands(p, counter));
-    [next[0], next[1], next[2], next[3], mark, 2]
+    let [a, b, c, d] = word_bytes(counter.next);
+    [a, b, c, d, u8::from(mark_stands(p, counter)), 2]
 }
 
 // Writes the frame of a key up to behind its seeds.
-fn write_front(p: Profile, seed: [u8; 16], secret: [u8; 16], frame: &mut [u8])
-    requires { SizesInLimits p × (2 * field_place next_field ≤ length frame.old) }
-    ensures { frame.new ≡ hex_of (front_bytes p ++ seed ++ secret) ++ drop (2 * field_place next_field) frame.old }
+fn write_front(limited: LimitedProfile, seed: [u8; 16], secret: [u8; 16], frame: &mut [u8])
+    requires { 2 * field_place next_field ≤ length frame.old }
+    ensures { frame.new ≡ hex_of (front_bytes limited.profile ++ seed ++ secret) ++ drop (2 * field_place next_field) frame.old }
 {
-    let front = profile_head(7, p);
+    let front = limited.profile_head(Kind::StoredKey.byte());
     write_bytes(frame, 0, &front[..SEED_AT]);
     write_bytes(frame, 2 * SEED_AT, &seed);
     write_bytes(frame, 2 * SECRET_AT, &secret);
 }
 
-// Writes the frame of a key, and gives the index behind it.
-fn write_frame(key: SigningKey, frame: &mut [u8]) -> usize
-    requires { SizesInLimits key.profile
-        × (2 * (frame_length + length (edition_byte key.profile.edition)) + 1 ≤ length frame.old) }
-    ensures { (result ≡ length (stored_key key)) × (frame.new ≡ stored_key key ++ drop result frame.old) }
-{
-    let p = key.profile;
-    let seed = key.seed;
-    let secret = key.secret;
-    let last = last_bytes(p, key.counter);
-    let count = LAST_BYTES + edition_bytes(p.edition);
-    write_front(p, seed, secret, frame);
-    write_line(frame, 2 * NEXT_AT, &last[..count])
-}
-
-// Write key for a profile within its limits: nothing is written unless the frame has room.
-fn write_checked(key: SigningKey, frame: &mut [u8]) -> KeyWritten
-    requires { first_cause (profile_causes key.profile) ≡ 0 }
+// Write key: the frame of a key into the first bytes of `frame`, which is written only where it has room.
+pub fn write_key(key: SigningKey, frame: &mut [u8]) -> Result<usize, Refusal>
     ensures { WritesKey key frame.old frame.new result }
 {
-    let p = key.profile;
-    if frame.len() < LINE_LENGTH + 2 * edition_bytes(p.edition) {
-        KeyWritten {
-            outcome: Outcome::Refused(Refusal::OutputTooShort),
-            length: 0,
-        }
-    } else {
-        let end = write_frame(key, frame);
-        KeyWritten {
-            outcome: Outcome::Granted,
-            length: end,
-        }
-    }
-}
-
-// Write key: the frame of a key into the first bytes of `frame`.
-pub fn write_key(key: SigningKey, frame: &mut [u8]) -> KeyWritten
-    ensures { WritesKey key frame.old frame.new result }
-{
-    let p = key.profile;
-    let outcome = check_profile(p);
-    match outcome {
-        Outcome::Refused(_) => KeyWritten {
-            outcome: outcome,
-            length: 0,
-        },
-        Outcome::Granted => write_checked(key, frame),
-    }
+    check_profile(key.profile)?;
+    let limited = LimitedProfile {
+        profile: key.profile,
+    };
+    let added = edition_bytes(key.profile.edition);
+    refuse_if(
+        frame.len() < LINE_LENGTH + 2 * added,
+        Refusal::OutputTooShort,
+    )?;
+    let last = last_bytes(key.profile, key.counter);
+    write_front(limited, key.seed, key.secret, frame);
+    Ok(write_line(frame, 2 * NEXT_AT, &last[..LAST_BYTES + added]))
 }

@@ -4,8 +4,11 @@ use super::hash::hash;
 use super::input::{length, number, profile, value, word};
 use super::output::{decimal, hex, number_is, outcome_is};
 use super::streams::{Streams, read_full, write_all};
-use signing_key::{Counter, SigningKey, with_counter};
+use chains::steps::Walked;
+use refusal::line_told;
+use signing_key::{Counter, SigningKey};
 use std::io;
+use std::io::Write;
 use verifier::Verifier;
 use window::Window;
 
@@ -16,6 +19,7 @@ pub fn call(
     bytes: &mut [u8],
     text: &mut [u8],
 ) -> io::Result<()> {
+    // The numbers are the input's own and stand here alone, so an enum would say each of them twice.
     match operation {
         0 => hash(s, bytes, text),
         1 => count(s, table),
@@ -34,31 +38,21 @@ pub fn call(
 }
 
 fn count(s: &mut Streams, table: &mut [u32]) -> io::Result<()> {
-    let p = profile(s)?;
-    let shape = p.shape;
-    let a = counts::codeword_count(shape, table);
-    let outcome = a.outcome;
-    let count = a.count;
-    outcome_is(s, outcome)?;
-    number_is(s, &count)
+    let counted = counts::codeword_count(profile(s)?.shape, table);
+    outcome_is(s, &counted)?;
+    number_is(s, &counted.unwrap_or([0; 5]))
 }
 
 fn unrank(s: &mut Streams, table: &mut [u32], row: &mut [u8]) -> io::Result<()> {
     let p = profile(s)?;
-    let shape = p.shape;
     let n = number(s)?;
-    let outcome = codewords::unrank(shape, n, table, row);
-    outcome_is(s, outcome)
+    outcome_is(s, &codewords::unrank(p.shape, n, table, row))
 }
 
 fn rank(s: &mut Streams, table: &mut [u32], row: &[u8]) -> io::Result<()> {
-    let p = profile(s)?;
-    let shape = p.shape;
-    let a = codewords::rank(shape, row, table);
-    let outcome = a.outcome;
-    let number = a.number;
-    outcome_is(s, outcome)?;
-    number_is(s, &number)
+    let ranked = codewords::rank(profile(s)?.shape, row, table);
+    outcome_is(s, &ranked)?;
+    number_is(s, &ranked.unwrap_or([0; 5]))
 }
 
 fn leaf_key(s: &mut Streams) -> io::Result<()> {
@@ -66,22 +60,18 @@ fn leaf_key(s: &mut Streams) -> io::Result<()> {
     let seed = value(s)?;
     let secret = value(s)?;
     let leaf = word(s)?;
-    let a = one_time::leaf_key(p, seed, &secret, leaf);
-    let outcome = a.outcome;
-    let key = a.key;
-    outcome_is(s, outcome)?;
-    hex(s, b", key ", &key)
+    let made = one_time::leaf_key(p, seed, &secret, leaf);
+    outcome_is(s, &made)?;
+    hex(s, b", key ", &made.unwrap_or([0; 16]))
 }
 
 fn root(s: &mut Streams) -> io::Result<()> {
     let p = profile(s)?;
     let seed = value(s)?;
     let secret = value(s)?;
-    let a = tree::root(p, seed, &secret);
-    let outcome = a.outcome;
-    let root = a.root;
-    outcome_is(s, outcome)?;
-    hex(s, b", root ", &root)
+    let made = tree::root(p, seed, &secret);
+    outcome_is(s, &made)?;
+    hex(s, b", root ", &made.unwrap_or([0; 16]))
 }
 
 fn reveal(s: &mut Streams, table: &mut [u32], values: &mut [u8]) -> io::Result<()> {
@@ -90,8 +80,10 @@ fn reveal(s: &mut Streams, table: &mut [u32], values: &mut [u8]) -> io::Result<(
     let secret = value(s)?;
     let leaf = word(s)?;
     let n = number(s)?;
-    let outcome = one_time::one_time_sign(p, seed, &secret, leaf, n, table, values);
-    outcome_is(s, outcome)
+    outcome_is(
+        s,
+        &one_time::one_time_sign(p, seed, &secret, leaf, n, table, values),
+    )
 }
 
 fn recover(s: &mut Streams, table: &mut [u32], values: &[u8]) -> io::Result<()> {
@@ -99,16 +91,17 @@ fn recover(s: &mut Streams, table: &mut [u32], values: &[u8]) -> io::Result<()> 
     let seed = value(s)?;
     let leaf = word(s)?;
     let n = number(s)?;
-    let a = one_time::one_time_recover(p, seed, leaf, n, values, table);
-    let outcome = a.outcome;
-    let key = a.key;
-    let steps = a.steps;
-    outcome_is(s, outcome)?;
-    hex(s, b", key ", &key)?;
-    decimal(s, b", steps ", steps)
+    let recovered = one_time::one_time_recover(p, seed, leaf, n, values, table);
+    outcome_is(s, &recovered)?;
+    let found = recovered.unwrap_or(Walked {
+        value: [0; 16],
+        steps: 0,
+    });
+    hex(s, b", key ", &found.value)?;
+    decimal(s, b", steps ", found.steps)
 }
 
-// The steps of a desk, each with the key that the one before handed back.
+// The steps of a desk, each with the key that the one before left.
 fn orders(s: &mut Streams, table: &mut [u32], text: &[u8], signature: &mut [u8]) -> io::Result<()> {
     let mut key = SigningKey {
         profile: profile(s)?,
@@ -122,74 +115,49 @@ fn orders(s: &mut Streams, table: &mut [u32], text: &[u8], signature: &mut [u8])
     let r = value(s)?;
     let steps = length(s, 16)?;
     for _ in 0..steps {
-        let kind = word(s)?;
-        key = step(s, kind, key, r, table, text, signature)?;
+        // The steps' numbers are the input's own and stand here alone.
+        match word(s)? {
+            0 => reserve(s, &mut key)?,
+            1 => sign(s, &mut key, r, table, text, signature)?,
+            _ => restart(s, &mut key)?,
+        }
     }
     Ok(())
 }
 
-fn step(
-    s: &mut Streams,
-    kind: u32,
-    key: SigningKey,
-    r: [u8; 16],
-    table: &mut [u32],
-    text: &[u8],
-    signature: &mut [u8],
-) -> io::Result<SigningKey> {
-    match kind {
-        0 => reserve(s, key),
-        1 => sign(s, key, r, table, text, signature),
-        _ => restart(s, key),
-    }
-}
-
-fn reserve(s: &mut Streams, key: SigningKey) -> io::Result<SigningKey> {
+fn reserve(s: &mut Streams, key: &mut SigningKey) -> io::Result<()> {
     write_all(s, b": reserve")?;
-    let p = key.profile;
-    let counter = key.counter;
-    let a = signing_key::reserve(p, counter);
-    let outcome = a.outcome;
-    let after = a.counter;
-    outcome_is(s, outcome)?;
-    counter_is(s, after)?;
-    Ok(with_counter(key, after))
+    outcome_is(s, &signing_key::reserve(key.profile, &mut key.counter))?;
+    counter_is(s, key.counter)
 }
 
 fn sign(
     s: &mut Streams,
-    key: SigningKey,
+    key: &mut SigningKey,
     r: [u8; 16],
     table: &mut [u32],
     text: &[u8],
     signature: &mut [u8],
-) -> io::Result<SigningKey> {
+) -> io::Result<()> {
     write_all(s, b": sign")?;
-    let a = signer::sign(key, r, text, table, signature);
-    let outcome = a.outcome;
-    let after = a.key;
-    outcome_is(s, outcome)?;
-    let counter = after.counter;
-    counter_is(s, counter)?;
-    Ok(after)
+    outcome_is(s, &signer::sign(key, r, text, table, signature))?;
+    counter_is(s, key.counter)
 }
 
-fn restart(s: &mut Streams, key: SigningKey) -> io::Result<SigningKey> {
+fn restart(s: &mut Streams, key: &mut SigningKey) -> io::Result<()> {
     write_all(s, b": restart")?;
-    let after = signing_key::restart(key);
-    let counter = after.counter;
-    counter_is(s, counter)?;
-    Ok(after)
+    *key = signing_key::restart(*key);
+    counter_is(s, key.counter)
 }
 
 fn counter_is(s: &mut Streams, counter: Counter) -> io::Result<()> {
     decimal(s, b", next ", counter.next)?;
-    decimal(s, b", mark ", if counter.mark { 1 } else { 0 })
+    decimal(s, b", mark ", u32::from(counter.mark))
 }
 
-// The second call gets the cabinet that the first handed back.
+// The second call gets the cabinet that the first left.
 fn check(s: &mut Streams, table: &mut [u32], text: &[u8], signature: &[u8]) -> io::Result<()> {
-    let cabinet = Verifier {
+    let mut cabinet = Verifier {
         profile: profile(s)?,
         seed: value(s)?,
         root: value(s)?,
@@ -198,28 +166,24 @@ fn check(s: &mut Streams, table: &mut [u32], text: &[u8], signature: &[u8]) -> i
             marks: word(s)?,
         },
     };
-    let after = check_by(s, cabinet, table, text, signature)?;
-    check_by(s, after, table, text, signature)?;
+    for _ in 0..2 {
+        check_by(s, &mut cabinet, table, text, signature)?;
+    }
     Ok(())
 }
 
 fn check_by(
     s: &mut Streams,
-    v: Verifier,
+    v: &mut Verifier,
     table: &mut [u32],
     text: &[u8],
     signature: &[u8],
-) -> io::Result<Verifier> {
-    let a = verifier::verify(v, text, signature, table);
-    let outcome = a.outcome;
-    let after = a.verifier;
-    let steps = a.steps;
-    outcome_is(s, outcome)?;
-    let kept = after.window;
-    decimal(s, b", highest ", kept.highest)?;
-    decimal(s, b", marks ", kept.marks)?;
-    decimal(s, b", steps ", steps)?;
-    Ok(after)
+) -> io::Result<()> {
+    let verdict = verifier::verify(v, text, signature, table);
+    outcome_is(s, &verdict.outcome)?;
+    decimal(s, b", highest ", v.window.highest)?;
+    decimal(s, b", marks ", v.window.marks)?;
+    decimal(s, b", steps ", verdict.steps)
 }
 
 fn sheet(s: &mut Streams, signature: &mut [u8], text: &mut [u8]) -> io::Result<()> {
@@ -236,11 +200,10 @@ fn read_sheet(
 ) -> io::Result<()> {
     read_full(s, sheet)?;
     let p = profile(s)?;
-    let a = sheet_reader::read_sheet(p, sheet, signature, text);
-    let outcome = a.outcome;
-    let line = a.line;
-    let length = a.length;
-    outcome_is(s, outcome)?;
-    decimal(s, b", line ", line)?;
-    decimal(s, b", length ", length)
+    let read = sheet_reader::read_sheet(p, sheet, signature, text);
+    outcome_is(s, &read)?;
+    decimal(s, b", line ", line_told(&read))?;
+    write_all(s, b", length ")?;
+    let length = read.unwrap_or(0);
+    write!(s.output, "{length}")
 }

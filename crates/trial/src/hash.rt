@@ -9,21 +9,14 @@ use std::io;
 // Two pieces, one after the other; what the state then holds, and the digest.
 pub fn hash(s: &mut Streams, one: &[u8], two: &[u8]) -> io::Result<()> {
     let start = state(s)?;
-    let first = add(s, start, one)?;
-    let last = add(s, first, two)?;
-    state_is(s, b", total ", last)?;
-    let finished = last.finish();
+    let first = start.add(one);
+    outcome_is(s, &first.outcome)?;
+    let last = first.hash.add(two);
+    outcome_is(s, &last.outcome)?;
+    state_is(s, b", total ", last.hash)?;
+    let finished = last.hash.finish();
     state_is(s, b", finished: total ", finished)?;
-    let digest = finished.digest();
-    hex(s, b", digest ", &digest)
-}
-
-fn add(s: &mut Streams, hash: Hash, piece: &[u8]) -> io::Result<Hash> {
-    let a = hash.add(piece);
-    let outcome = a.outcome;
-    let after = a.hash;
-    outcome_is(s, outcome)?;
-    Ok(after)
+    hex(s, b", digest ", &finished.digest())
 }
 
 // The start, or a state that no run reaches, at any total: every byte of its block is 0xA5, also where nothing is pending.
@@ -49,8 +42,6 @@ fn state(s: &mut Streams) -> io::Result<Hash> {
 }
 
 fn state_is(s: &mut Streams, label: &[u8], hash: Hash) -> io::Result<()> {
-    let total = hash.total;
-    let block = hash.block;
-    decimal(s, label, total as u32)?;
-    hex(s, b", block ", &block)
+    decimal(s, label, u32::from(hash.total))?;
+    hex(s, b", block ", &hash.block)
 }

@@ -17,7 +17,7 @@ pub fn length(s: &mut Streams, most: usize) -> io::Result<usize>
     ensures { IfOk result (λ n. n ≤ most) }
 {
     let n = word(s)? as usize;
-    Ok(if n < most { n } else { most })
+    Ok(n.min(most))
 }
 
 pub fn value(s: &mut Streams) -> io::Result<[u8; 16]> {

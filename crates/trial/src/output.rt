@@ -1,11 +1,11 @@
 // What is written.
 use super::streams::{Streams, write_all};
-use refusal::{Outcome, outcome_code};
+use refusal::{Refusal, outcome_code};
 use std::io;
 use std::io::Write;
 
-pub fn outcome_is(s: &mut Streams, outcome: Outcome) -> io::Result<()> {
-    decimal(s, b": outcome ", outcome_code(outcome) as u32)
+pub fn outcome_is<T>(s: &mut Streams, answer: &Result<T, Refusal>) -> io::Result<()> {
+    decimal(s, b": outcome ", u32::from(outcome_code(answer)))
 }
 
 pub fn decimal(s: &mut Streams, label: &[u8], n: u32) -> io::Result<()> {

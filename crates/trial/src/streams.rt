@@ -11,6 +11,7 @@ pub struct Streams {
 // Reads until the bytes are full or the input ends.
 pub fn read_full(s: &mut Streams, bytes: &mut [u8]) -> io::Result<()> {
     let mut at = 0;
+    // No `for`: a read takes as many bytes as it likes.
     while at < bytes.len() {
         let n = s.input.read(&mut bytes[at..])?;
         if n == 0 {

@@ -1,14 +1,12 @@
 -- The running hash on the way to a tweaked hash, and the lengths of what the definitions give.
 use mathlib.Core.Path.{◌≡◌, refl, sym, ap, ◌∙◌}
-use mathlib.Core.List.{List, [], ◌∷◌, ◌++◌, append_assoc, append-nil}
-use Prim.Native.Nat.{ℕ, ◌/◌, ◌%◌, ◌^◌, ◌<◌}
-use native.Mathlib.Nat.{div-one, mod-eq_of_lt}
+use mathlib.Core.List.{List, [], ◌++◌, append_assoc, append-nil}
+use Prim.Native.Nat.{ℕ, ◌+◌}
 use native.Mathlib.Omega.{arith}
-use lib.ListN.{length, get_or, take, drop, set, replicate, length-append}
-use lib.Seq.{length-take-le, paste}
+use lib.ListN.{length, take, drop, set, replicate, length-append}
+use lib.Seq.{length-take-le, take_at, drop-append-add}
 use Rattle.octets.specs.Bytes.{to_bytes}
 use Rattle.octets.proofs.ByteLaws.{length-to_bytes}
-use Rattle.lists.proofs.Fill.{paste_behind}
 use Rattle.sha256_block.specs.Compression.{initial, compress}
 use Rattle.sha256_block.specs.declared.compression.HashWords.{HashWords}
 use Rattle.sha256.specs.Digest.{padding, compress_all, final_words, word_bytes, digest}
@@ -23,25 +21,6 @@ use Rattle.tweak.specs.declared.Domain.{Domain}
 pub length-address : (d : Domain) (kind first second third : ℕ) → length (address d kind first second third) ≡ 22
 unfolding address
 length-address d kind first second third = simp (length-append, length-to_bytes)
-
--- the bytes of an address one by one; a quotient by 256^0 is the number itself
-pub address-bytes : (d : Domain) (kind first second third : ℕ) {a b c : List ℕ} → d.layer < 256 → kind < 256
-    → a ≡ to_bytes 4 first → b ≡ to_bytes 4 second → c ≡ to_bytes 4 third
-    → d.layer
-    ∷ d.tree / 256 ^ 7 % 256 ∷ d.tree / 256 ^ 6 % 256 ∷ d.tree / 256 ^ 5 % 256 ∷ d.tree / 256 ^ 4 % 256
-    ∷ d.tree / 256 ^ 3 % 256 ∷ d.tree / 256 ^ 2 % 256 ∷ d.tree / 256 % 256 ∷ d.tree % 256
-    ∷ kind
-    ∷ get_or a 0 0 ∷ get_or a 1 0 ∷ get_or a 2 0 ∷ get_or a 3 0
-    ∷ get_or b 0 0 ∷ get_or b 1 0 ∷ get_or b 2 0 ∷ get_or b 3 0
-    ∷ get_or c 0 0 ∷ get_or c 1 0 ∷ get_or c 2 0 ∷ get_or c 3 0
-    ∷ []
-    ≡ address d kind first second third
-unfolding address to_bytes
-address-bytes d kind first second third hl hk ea eb ec =
-    let whole : d.tree / 1 ≡ d.tree = div-one d.tree in
-    let layer : d.layer / 1 % 256 ≡ d.layer = rw (div-one d.layer) (mod-eq_of_lt hl) in
-    let type' : kind / 1 % 256 ≡ kind = rw (div-one kind) (mod-eq_of_lt hk) in
-    rw (ea, eb, ec, layer, type', whole)
 
 pub length_seed_block : (seed : List ℕ) → length seed ≡ 16 → length (seed_block seed) ≡ 64
 unfolding seed_block
@@ -74,13 +53,15 @@ tweak_ended d a bytes e f = f ∙ rw e (ap (λ v. take 16 (word_bytes v)) (finis
 abbrev padding_only : List ℕ
 padding_only = set (set (set (replicate 64 0) 38 128) 62 3) 63 48
 
--- the address and a value put in front of that padding
+-- the address and a value copied in front of that padding
 pub block_made : (a v : List ℕ) {held block : List ℕ} → length a ≡ 22 → length v ≡ 16
-    → held ≡ paste padding_only 0 a (length a) → block ≡ paste held 22 v (length v) → block ≡ a ++ v ++ padding 102
+    → held ≡ take 0 padding_only ++ a ++ drop (0 + length a) padding_only → block ≡ take 22 held ++ v ++ drop (22 + length v) held
+    → block ≡ a ++ v ++ padding 102
 unfolding padding to_bytes
-block_made a v la lv e f =
-    let front = e ∙ paste_behind [] padding_only a 0 refl in
-    f ∙ ap (λ (h : List ℕ). paste h 22 v (length v)) front ∙ paste_behind a (drop (length a) padding_only) v 22 la ∙ rw (lv, la)
+block_made a v {held} la lv e f =
+    let front : held ≡ a ++ drop 22 padding_only = e ∙ rw la in
+    let behind : drop 38 (a ++ drop 22 padding_only) ≡ drop 38 padding_only = ap (λ (k : ℕ). drop (k + 16) (a ++ drop 22 padding_only)) (sym la) ∙ drop-append-add a (drop 22 padding_only) 16 in
+    f ∙ rw (front, lv, take_at a (drop 22 padding_only) 22 la, behind)
 
 length-padding : length (padding 102) ≡ 26
 unfolding padding to_bytes

@@ -1,10 +1,8 @@
 -- Document 01, Hashing: the address and the tweaked hash.
-use Rattle.std.specs.Prelude.{◌≡◌, List, ◌++◌, ℕ, length, take, replicate}
+use Rattle.std.specs.Prelude.{List, ◌++◌, ℕ, take, replicate}
 use Rattle.octets.specs.Bytes.{to_bytes}
-use Rattle.sha256_block.specs.Compression.{initial, compress}
 use Rattle.sha256.specs.Digest.{digest}
 use Rattle.tweak.specs.declared.Domain.{Domain}
-use Rattle.tweak.specs.declared.Hasher.{Hasher}
 
 -- "layer (1 byte, zero), tree (8, zero)": in every address of document 01
 abbrev pub first_domain : (seed : List ℕ) → Domain
@@ -38,8 +36,3 @@ seed_block seed = seed ++ replicate 48 0
 -- "Tweaked hash: the first 16 bytes of SHA-256 over the public seed (16), 48 zero bytes, the address (22), the data"
 unfoldable pub tweaked_hash : Domain → (address data' : List ℕ) → List ℕ
 tweaked_hash d address data' = take 16 (digest (seed_block d.seed ++ address ++ data'))
-
--- a hasher whose seed has 16 bytes and whose words are those after the seed's block
-pub record Seeded (h : Hasher) : Type 0 where
-  pub long : length h.domain.seed ≡ 16
-  pub words : h.words ≡ compress initial (seed_block h.domain.seed)

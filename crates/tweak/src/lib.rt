@@ -2,13 +2,14 @@
 #![tactic(auto)]
 
 ghost use Rattle.std.specs.Prelude.{◌≡◌, ◌++◌, take};
+ghost use Rattle.sha256_block.specs.Compression.{initial as initial_words, compress as compressed};
 ghost use Rattle.sha256.specs.Digest.{padding, word_bytes};
 ghost use Rattle.sha256.specs.Running.{add_state, finished, hashed};
 ghost use Rattle.tweak.specs.Tweak.{first_domain, address as address_of, chain_step_address, leaf_key_address, node_address};
-ghost use Rattle.tweak.specs.Tweak.{chain_start_address, seed_block, tweaked_hash, Seeded};
+ghost use Rattle.tweak.specs.Tweak.{chain_start_address, seed_block, tweaked_hash};
 
-use octets::{read_16, word_bytes, write_16};
-use sha256::{Hash, put};
+use octets::{array_at, copy};
+use sha256::Hash;
 use sha256_block::{HashWords, compress, initial};
 
 // What the hashes of one tree share (FIPS 205: PK.seed and the first two fields of an address).
@@ -24,6 +25,7 @@ pub struct Domain {
 pub struct Hasher {
     pub domain: Domain,
     pub words: HashWords,
+    ghost after_seed: { words ≡ compressed initial_words (seed_block domain.seed) },
 }
 
 // Leaf, chain and height numbers have the same width; each is a type of its own, so that none can stand in another's field.
@@ -37,39 +39,19 @@ pub struct Chain(pub u32);
 #[derive(Clone, Copy)]
 pub struct Height(pub u32);
 
-// The 22 bytes of an address.
+// The 22 bytes of an address. Its type is the number of FIPS 205: an enum would name once more what each of the functions below
+// is named for.
 fn address(d: Domain, kind: u8, first: u32, second: u32, third: u32) -> [u8; 22]
     ensures { result ≡ address_of d kind first second third }
 {
-    let layer = d.layer;
-    let tree = d.tree;
-    let a = word_bytes(first);
-    let b = word_bytes(second);
-    let c = word_bytes(third);
-    [
-        layer,
-        (tree / 72057594037927936 % 256) as u8,
-        (tree / 281474976710656 % 256) as u8,
-        (tree / 1099511627776 % 256) as u8,
-        (tree / 4294967296 % 256) as u8,
-        (tree / 16777216 % 256) as u8,
-        (tree / 65536 % 256) as u8,
-        (tree / 256 % 256) as u8,
-        (tree % 256) as u8,
-        kind,
-        a[0],
-        a[1],
-        a[2],
-        a[3],
-        b[0],
-        b[1],
-        b[2],
-        b[3],
-        c[0],
-        c[1],
-        c[2],
-        c[3],
-    ]
+    let mut bytes = [0u8; 22];
+    bytes[0] = d.layer;
+    bytes[1..9].copy_from_slice(&d.tree.to_be_bytes());
+    bytes[9] = kind;
+    bytes[10..14].copy_from_slice(&first.to_be_bytes());
+    bytes[14..18].copy_from_slice(&second.to_be_bytes());
+    bytes[18..22].copy_from_slice(&third.to_be_bytes());
+    bytes
 }
 
 // The address of a chain step (type 0), by the height before it.
@@ -101,27 +83,23 @@ pub fn chain_start_address(d: Domain, leaf: Leaf, chain: Chain) -> [u8; 22]
 }
 
 // The hasher of a domain: its seed's block is hashed once.
-pub fn seeded(d: Domain) -> Hasher
-    ensures domain { result.domain ≡ d }
-    ensures ready { Seeded result }
+pub fn seeded(domain: Domain) -> Hasher
+    ensures { result.domain ≡ domain }
 {
-    let seed = d.seed;
     let mut block = [0u8; 64];
-    write_16(&mut block, 0, seed);
-    let words = compress(initial(), &block);
+    block[..16].copy_from_slice(&domain.seed);
     Hasher {
-        domain: d,
-        words: words,
+        domain,
+        words: compress(initial(), &block),
     }
 }
 
 // The hasher of the layer 0 and the tree 0.
 pub fn first_hasher(seed: [u8; 16]) -> Hasher
-    ensures domain { result.domain ≡ first_domain seed }
-    ensures ready { Seeded result }
+    ensures { result.domain ≡ first_domain seed }
 {
     seeded(Domain {
-        seed: seed,
+        seed,
         layer: 0,
         tree: 0,
     })
@@ -129,25 +107,21 @@ pub fn first_hasher(seed: [u8; 16]) -> Hasher
 
 // The running hash of a tweaked hash, before its data.
 pub fn begin(hasher: Hasher, address: [u8; 22]) -> Hash
-    requires { Seeded hasher }
     ensures { result ≡ hashed (seed_block hasher.domain.seed ++ address) }
 {
-    let words = hasher.words;
-    let state = Hash {
-        words: words,
+    let hash = Hash {
+        words: hasher.words,
         block: [0; 64],
         total: 64,
     };
-    let with_address = state.add(&address);
-    with_address.hash
+    hash.add(&address).hash
 }
 
-// The running hash after a value more.
-pub fn absorb(hash: Hash, value: [u8; 16]) -> Hash
-    ensures { result ≡ add_state hash value }
+// The running hash after a value more; where that is refused it stays as it is.
+pub fn absorb(hash: &mut Hash, value: [u8; 16])
+    ensures { hash.new ≡ add_state hash.old value }
 {
-    let with_value = hash.add(&value);
-    with_value.hash
+    *hash = hash.add(&value).hash;
 }
 
 // The first 16 bytes of a hash value.
@@ -155,39 +129,35 @@ fn front(words: HashWords) -> [u8; 16]
     ensures { result ≡ take 16 (word_bytes words) }
 {
     let whole = Hash {
-        words: words,
+        words,
         block: [0; 64],
         total: 0,
-    }
-    .digest();
-    read_16(&whole, 0)
+    };
+    array_at(&whole.digest(), 0)
 }
 
 // The first 16 bytes of the digest.
 pub fn end(hash: Hash) -> [u8; 16]
     ensures { result ≡ take 16 (word_bytes (finished hash).words) }
 {
-    let finished = hash.finish();
-    front(finished.words)
+    front(hash.finish().words)
 }
 
-// The block behind the seed's where the data are one value: the address, the value, and the padding of the 102 bytes.
+// The block behind the seed's where the data are one value: the address, the value, and the padding of the 102 bytes, which are 816 bits.
 fn last_block(address: [u8; 22], value: [u8; 16]) -> [u8; 64]
     ensures { result ≡ address ++ value ++ padding 102 }
 {
-    let mut padded = [0u8; 64];
-    padded[38] = 128;
-    padded[62] = 3;
-    padded[63] = 48;
-    put(put(padded, 0, &address), 22, &value)
+    let mut block = [0u8; 64];
+    block[38] = 128;
+    block[56..].copy_from_slice(&816u64.to_be_bytes());
+    copy(&address, &mut block, 0);
+    copy(&value, &mut block, 22);
+    block
 }
 
 // The tweaked hash of one value: one compression.
 pub fn tweaked_hash(hasher: Hasher, address: [u8; 22], value: [u8; 16]) -> [u8; 16]
-    requires { Seeded hasher }
     ensures { result ≡ tweaked_hash hasher.domain address value }
 {
-    let block = last_block(address, value);
-    let words = hasher.words;
-    front(compress(words, &block))
+    front(compress(hasher.words, &last_block(address, value)))
 }

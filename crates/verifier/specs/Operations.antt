@@ -34,7 +34,7 @@ unfoldable pub verify_code : Verifier → VerifyingCall → ℕ
 verify_code v call =
     first_cause (causes_before_root v call ++ ((not (same_bytes (root_in v call.message call.signature) v.root), 15) ∷ []))
 
--- the cabinet that comes back; refused, as it was
+-- the cabinet afterwards; refused, as it was
 unfoldable pub verifier_after : Verifier → VerifyingCall → Verifier
 verifier_after v call = cond (eqb (verify_code v call) 0) (with_accepted v (leaf_in call.signature)) v
 
@@ -43,9 +43,9 @@ unfoldable pub steps_made : Verifier → VerifyingCall → ℕ
 steps_made v call =
     cond (eqb (verify_code v call) 0 || eqb (verify_code v call) 15) (steps_in v call.message call.signature) 0
 
--- what Check answers and leaves
-pub record Verifies (v : Verifier) (call : VerifyingCall) (work' : List ℕ) (answer : Verdict) : Type 0 where
+-- what Check answers and leaves, the cabinet among it
+pub record Verifies (v : Verifier) (call : VerifyingCall) (work' : List ℕ) (left : Verifier) (answer : Verdict) : Type 0 where
   pub code : outcome_code answer.outcome ≡ verify_code v call
-  pub verifier : answer.verifier ≡ verifier_after v call
+  pub verifier : left ≡ verifier_after v call
   pub steps : answer.steps ≡ steps_made v call
   pub table : work' ≡ table_after (verify_code v call) v.profile.shape call.work

@@ -1,12 +1,12 @@
 -- The marks as bits of one number: those of marks moved up with mark 0 set, and those of marks to which one that is not set is added.
 use mathlib.Core.Path.{◌≡◌, sym, ap, subst, ◌∙◌}
-use mathlib.Core.Bool.{true, false}
+use mathlib.Core.Bool.{true, false, cond}
 use mathlib.Core.Logic.{◌⊎◌, inl, inr}
 use Prim.Native.Nat.{ℕ, suc, ◌+◌, ◌-◌, ◌*◌, ◌/◌, ◌%◌, ◌^◌, ◌<◌, ◌≤◌}
 use native.Mathlib.Nat.{mul_assoc, add-div_right, add-mul-div_right, mul-mod_left}
 use native.Mathlib.Omega.{arith}
-use borrow.Author.Tests.{eq-eqb, eqb-false}
-use lib.Dec.{eqb, lit<}
+use borrow.Author.Tests.{eq-eqb, eqb-false, lt-ltb, le-ltb}
+use lib.Dec.{eqb, ltb, lit<}
 use lib.Pow.{pow_pos, pow-add, shl-shr, shr-shr, field, mod-mod-pow}
 use Rattle.lists.proofs.Numbers.{lt_or_le}
 use Rattle.window.specs.Window.{marked, moved}
@@ -50,6 +50,15 @@ moved_out m up h =
     let split : up - 32 + 32 ≡ up = omega arith in
     subst (λ t. m * 2 ^ t % 2 ^ 32 ≡ 0) split
     (ap (λ x. x % 2 ^ 32) (ap (λ x. m * x) (pow-add 2 (up - 32) 32) ∙ sym (mul_assoc m (2 ^ (up - 32)) (2 ^ 32))) ∙ mul-mod_left (m * 2 ^ (up - 32)) (2 ^ 32))
+
+-- a shift up from which all falls away at 32 or more
+pub moved_shift : (m up : ℕ) → cond (ltb up 32) (m * 2 ^ up % 2 ^ 32) 0 ≡ moved m up
+unfolding moved
+moved_shift m up = by (lt_or_le up 32)
+  where
+    by : (up < 32) ⊎ (32 ≤ up) → cond (ltb up 32) (m * 2 ^ up % 2 ^ 32) 0 ≡ m * 2 ^ up % 2 ^ 32
+    by (inl few) = rw (lt-ltb up 32 few)
+    by (inr many) = rw (le-ltb up 32 many) (sym (moved_out m up many))
 
 module _ (m up : ℕ) (higher : 0 < up) where
   -- marks moved up leave mark 0 free

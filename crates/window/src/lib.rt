@@ -5,6 +5,7 @@ ghost use Rattle.std.specs.Prelude.{◌≡◌, false, ◌<◌};
 ghost use Rattle.window.specs.Window as spec;
 
 // The highest accepted leaf, and 32 marks: bit i says that the leaf i below the highest was accepted.
+// Where none was, no mark is set. No `Option` says so, since C keeps these two numbers.
 #[derive(Clone, Copy)]
 pub struct Window {
     pub highest: u32,
@@ -12,6 +13,7 @@ pub struct Window {
 }
 
 // Whether mark i is set.
+#[tactic(auto, unfolding(crate::specs::Window::marked))]
 fn marked(marks: u32, i: u32) -> bool
     requires { i < 32 }
     ensures { result ≡ spec.marked marks i }
@@ -19,57 +21,38 @@ fn marked(marks: u32, i: u32) -> bool
     (marks >> i) % 2 == 1
 }
 
-// Whether a leaf is 32 or more below the highest, or already accepted. Where no mark is set, none is.
-pub fn passed(w: Window, leaf: u32) -> bool
-    ensures { result ≡ spec.passed w leaf }
-{
-    let highest = w.highest;
-    let marks = w.marks;
-    if marks == 0 {
-        return false;
+impl Window {
+    // Whether a leaf is 32 or more below the highest, or already accepted. Where no mark is set, none is.
+    #[tactic(auto, unfolding(crate::specs::Window::passed))]
+    pub fn passed(self, leaf: u32) -> bool
+        ensures { result ≡ spec.passed self leaf }
+    {
+        self.marks != 0
+            && leaf <= self.highest
+            && (32 <= self.highest - leaf || marked(self.marks, self.highest - leaf))
     }
-    if highest < leaf {
-        false
-    } else {
-        let below = highest - leaf;
-        if below < 32 {
-            marked(marks, below)
+
+    // The window once a leaf that is not passed was taken. Marks moved up to 32 or more fall away.
+    #[tactic(auto, unfolding(crate::specs::Window::taken))]
+    pub fn take(self, leaf: u32) -> Window
+        requires { spec.passed self leaf ≡ false }
+        ensures { result ≡ spec.taken self leaf }
+    {
+        if self.marks == 0 {
+            Window {
+                highest: leaf,
+                marks: 1,
+            }
+        } else if self.highest < leaf {
+            Window {
+                highest: leaf,
+                marks: self.marks.unbounded_shl(leaf - self.highest) + 1,
+            }
         } else {
-            true
-        }
-    }
-}
-
-// The marks moved up; those at 32 or more fall away.
-fn move_up(marks: u32, up: u32) -> u32
-    ensures { result ≡ spec.moved marks up }
-{
-    if up < 32 { marks << up } else { 0 }
-}
-
-// The window once a leaf that is not passed was taken.
-pub fn take(w: Window, leaf: u32) -> Window
-    requires { spec.passed w leaf ≡ false }
-    ensures { result ≡ spec.taken w leaf }
-{
-    let highest = w.highest;
-    let marks = w.marks;
-    if marks == 0 {
-        Window {
-            highest: leaf,
-            marks: 1,
-        }
-    } else if highest < leaf {
-        let up = move_up(marks, leaf - highest);
-        Window {
-            highest: leaf,
-            marks: up + 1,
-        }
-    } else {
-        let own = 1u32 << (highest - leaf);
-        Window {
-            highest: highest,
-            marks: marks + own,
+            Window {
+                marks: self.marks + (1 << (self.highest - leaf)),
+                ..self
+            }
         }
     }
 }

@@ -5,14 +5,15 @@ use mathlib.Core.Bool.{Bool, true, false, cond}
 use mathlib.Core.List.{List}
 use Prim.Native.Nat.{ℕ}
 use lib.Dec.{eqb}
+use Rattle.std.specs.Prelude.{Result}
 use Rattle.refusal.specs.Code.{outcome_code}
+use Rattle.refusal.specs.declared.Refusal.{Refusal}
 use Rattle.profile.specs.declared.Profile.{Profile}
 use Rattle.signing_key.specs.Counter.{cleared}
 use Rattle.signing_key.specs.Key.{key_with, recounted}
 use Rattle.signing_key.specs.declared.Counter.{Counter}
 use Rattle.signing_key.specs.declared.SigningKey.{SigningKey}
 use Rattle.signer.specs.Operations.{SigningCall, Signs, sign_code, key_after}
-use Rattle.signer.specs.declared.Signed.{Signed}
 use Rattle.verifier.specs.Verifying.{with_accepted}
 use Rattle.verifier.specs.Operations.{VerifyingCall, Verifies, verify_code, verifier_after}
 use Rattle.signature.specs.Signature.{leaf_in}
@@ -38,19 +39,20 @@ only_window v after leaf false e =
 
 -- of a profile
 module _ {p q : Profile} (e : p ≡ q) {r : ℕ} where
-  pub verify_call : {seed root : List ℕ} {highest marks : ℕ} {call : VerifyingCall} {work' : List ℕ} {a : Verdict}
-      → Verifies (verifier_of p seed root highest marks) call work' a → r ≡ outcome_code a.outcome
-      → VerifyCall (verifier_of q seed root highest marks) call work' a.verifier.window.highest a.verifier.window.marks a.steps r
+  pub verify_call : {seed root : List ℕ} {highest marks : ℕ} {call : VerifyingCall} {work' : List ℕ} {left : Verifier} {a : Verdict}
+      → Verifies (verifier_of p seed root highest marks) call work' left a → r ≡ outcome_code a.outcome
+      → VerifyCall (verifier_of q seed root highest marks) call work' left.window.highest left.window.marks a.steps r
   unfolding verifier_after
-  verify_call {seed} {root} {highest} {marks} {call} {work'} {a} h n =
+  verify_call {seed} {root} {highest} {marks} {call} {work'} {left} {a} h n =
       let v : Verifier = verifier_of p seed root highest marks in
-      let after = a.verifier.window in
+      let after = left.window in
       subst (λ (s : Profile). VerifyCall (verifier_of s seed root highest marks) call work' after.highest after.marks a.steps r) e
       (record {
+        left = left;
         answer = a;
         verifies = h;
         returned = n;
-        verifier_kept = only_window v a.verifier (leaf_in call.signature) (eqb (verify_code v call) 0) h.verifier;
+        verifier_kept = only_window v left (leaf_in call.signature) (eqb (verify_code v call) 0) h.verifier;
         steps_written = refl;
       })
 
@@ -61,15 +63,17 @@ key_of {seed} {secret} {c} e f = f ∙ ap (λ (s : Profile). key_with s seed sec
 
 -- of a key
 module _ {k key : SigningKey} (e : k ≡ key) {r : ℕ} where
-  pub sign-call : {call : SigningCall} {work' out' : List ℕ} {mark mark' : ℕ} {a : Signed} → Signs k call work' out' a → r ≡ outcome_code a.outcome
-      → mark' ≡ mark_left (outcome_code a.outcome) mark a.key.counter.mark → SignCall key call work' out' mark mark' r
+  pub sign-call : {call : SigningCall} {work' out' : List ℕ} {mark mark' : ℕ} {left : SigningKey} {a : Result (Unit {0}) Refusal}
+      → Signs k call work' out' left a → r ≡ outcome_code a → mark' ≡ mark_left (outcome_code a) mark left.counter.mark
+      → SignCall key call work' out' mark mark' r
   unfolding key_after
-  sign-call {call} {work'} {out'} {mark} {mark'} {a} h n m =
+  sign-call {call} {work'} {out'} {mark} {mark'} {left} {a} h n m =
       subst (λ (x : SigningKey). SignCall x call work' out' mark mark' r) e
       (record {
+        left = left;
         answer = a;
         signs = h;
         returned = n;
-        mark_written = m ∙ ap (λ c. mark_left c mark a.key.counter.mark) (sym n);
-        key_kept = only_mark k a.key (eqb (sign_code k call) 0) h.key';
+        mark_written = m ∙ ap (λ c. mark_left c mark left.counter.mark) (sym n);
+        key_kept = only_mark k left (eqb (sign_code k call) 0) h.key';
       })

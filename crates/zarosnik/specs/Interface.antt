@@ -1,9 +1,10 @@
 -- What each function of the C interface returns, writes through its pointers and leaves in the lent slices: the contract of its
 -- operation, carried over. A record names the operation's answer, says that the operation's own contract holds of it, that its code
--- is what the call returns, and that its values are what the call writes.
-use Rattle.std.specs.Prelude.{◌≡◌, Bool, cond, List, [], ◌∷◌, ℕ, eqb, replicate}
-use Rattle.refusal.specs.Code.{outcome_code}
-use Rattle.refusal.specs.declared.Outcome.{Outcome}
+-- is what the call returns, and that its value is what the call writes: zeros where it is refused.
+use Rattle.std.specs.Prelude.{◌≡◌, Bool, cond, List, [], ◌∷◌, ℕ, eqb, replicate, Result}
+use Rattle.std.specs.Result.{result_unwrap_or}
+use Rattle.refusal.specs.Code.{outcome_code, line_told}
+use Rattle.refusal.specs.declared.Refusal.{Refusal}
 use Rattle.numbers.specs.Number.{value}
 use Rattle.numbers.specs.Order.{order_code, Compares}
 use Rattle.numbers.specs.declared.number.Compared.{Compared}
@@ -14,29 +15,19 @@ use Rattle.profile.specs.declared.Profile.{Profile}
 use Rattle.signing_key.specs.Operations.{Reserves}
 use Rattle.signing_key.specs.Key.{key_with, recounted}
 use Rattle.signing_key.specs.declared.Counter.{Counter}
-use Rattle.signing_key.specs.declared.Reserved.{Reserved}
 use Rattle.signing_key.specs.declared.SigningKey.{SigningKey}
 use Rattle.counts.specs.Operations.{Counts}
-use Rattle.counts.specs.declared.table.Counted.{Counted}
 use Rattle.codewords.specs.Operations.{Unranks, Ranks}
-use Rattle.codewords.specs.declared.ranking.Ranked.{Ranked}
-use Rattle.one_time.specs.Operations.{LeafKeys, Reveals, Recovers}
-use Rattle.one_time.specs.declared.LeafKey.{LeafKey}
-use Rattle.one_time.specs.declared.Recovered.{Recovered}
+use Rattle.one_time.specs.Operations.{LeafKeys, Reveals, no_walk, Recovers}
+use Rattle.chains.specs.declared.steps.Walked.{Walked}
 use Rattle.tree.specs.Operations.{Roots}
-use Rattle.tree.specs.declared.TreeRoot.{TreeRoot}
 use Rattle.signer.specs.Operations.{SigningCall, Signs}
-use Rattle.signer.specs.declared.Signed.{Signed}
 use Rattle.verifier.specs.Operations.{VerifyingCall, Verifies}
 use Rattle.verifier.specs.declared.Verifier.{Verifier}
 use Rattle.verifier.specs.declared.Verdict.{Verdict}
 use Rattle.sheet_reader.specs.Operations.{ReadsSheet}
-use Rattle.sheet_reader.specs.declared.SheetRead.{SheetRead}
 use Rattle.sheet_writer.specs.Operations.{WritesSheet}
-use Rattle.sheet_writer.specs.declared.writer.SheetWritten.{SheetWritten}
-use Rattle.stored_key.specs.Operations.{WritesKey, ReadsKey}
-use Rattle.stored_key.specs.declared.writer.KeyWritten.{KeyWritten}
-use Rattle.stored_key.specs.declared.reader.KeyRead.{KeyRead}
+use Rattle.stored_key.specs.Operations.{WritesKey, no_key, ReadsKey}
 
 -- a shape by its three numbers
 abbrev pub shape_of : (l w s : ℕ) → Shape
@@ -78,23 +69,23 @@ pub record HashCall (bytes digest' : List ℕ) (r : ℕ) : Type 0 where
 
 -- Count
 pub record CountCall (p : Shape) (work work' number' : List ℕ) (r : ℕ) : Type 0 where
-  pub answer : Counted
+  pub answer : Result (List ℕ) Refusal
   pub counts : Counts p work work' answer
-  pub returned : r ≡ outcome_code answer.outcome
-  pub written : number' ≡ answer.count
+  pub returned : r ≡ outcome_code answer
+  pub written : number' ≡ result_unwrap_or answer (replicate 5 0)
 
 -- Spread
 pub record UnrankCall (p : Shape) (number work row work' row' : List ℕ) (r : ℕ) : Type 0 where
-  pub answer : Outcome
+  pub answer : Result (Unit {0}) Refusal
   pub unranks : Unranks p (value number) work row work' row' answer
   pub returned : r ≡ outcome_code answer
 
 -- Gather
 pub record RankCall (p : Shape) (row work work' number' : List ℕ) (r : ℕ) : Type 0 where
-  pub answer : Ranked
+  pub answer : Result (List ℕ) Refusal
   pub ranks : Ranks p row work work' answer
-  pub returned : r ≡ outcome_code answer.outcome
-  pub written : number' ≡ answer.number
+  pub returned : r ≡ outcome_code answer
+  pub written : number' ≡ result_unwrap_or answer (replicate 5 0)
 
 -- Compare, which nothing refuses (document 02, point 2): the number of the order, and the pairs looked at
 pub record CompareCall (first second : List ℕ) (order' looked' r : ℕ) : Type 0 where
@@ -106,86 +97,90 @@ pub record CompareCall (first second : List ℕ) (order' looked' r : ℕ) : Type
 
 -- Leaf key
 pub record LeafKeyCall (p : Profile) (seed secret : List ℕ) (leaf : ℕ) (key' : List ℕ) (r : ℕ) : Type 0 where
-  pub answer : LeafKey
+  pub answer : Result (List ℕ) Refusal
   pub leaf_keys : LeafKeys p seed secret leaf answer
-  pub returned : r ≡ outcome_code answer.outcome
-  pub written : key' ≡ answer.key
+  pub returned : r ≡ outcome_code answer
+  pub written : key' ≡ result_unwrap_or answer (replicate 16 0)
 
 -- Root
 pub record RootCall (p : Profile) (seed secret root' : List ℕ) (r : ℕ) : Type 0 where
-  pub answer : TreeRoot
+  pub answer : Result (List ℕ) Refusal
   pub roots : Roots p seed secret answer
-  pub returned : r ≡ outcome_code answer.outcome
-  pub written : root' ≡ answer.root
+  pub returned : r ≡ outcome_code answer
+  pub written : root' ≡ result_unwrap_or answer (replicate 16 0)
 
 -- Reveal
 pub record RevealCall (p : Profile) (seed secret : List ℕ) (leaf : ℕ) (number work values work' values' : List ℕ) (r : ℕ) : Type 0 where
-  pub answer : Outcome
+  pub answer : Result (Unit {0}) Refusal
   pub reveals : Reveals p seed secret leaf (value number) work values work' values' answer
   pub returned : r ≡ outcome_code answer
 
 -- Recover
 pub record RecoverCall (p : Profile) (seed : List ℕ) (leaf : ℕ) (number values work work' key' : List ℕ) (steps' r : ℕ) : Type 0 where
-  pub answer : Recovered
+  pub answer : Result Walked Refusal
   pub recovers : Recovers p seed leaf (value number) values work work' answer
-  pub returned : r ≡ outcome_code answer.outcome
-  pub key_written : key' ≡ answer.key
-  pub steps_written : steps' ≡ answer.steps
+  pub returned : r ≡ outcome_code answer
+  pub key_written : key' ≡ (result_unwrap_or answer no_walk).value
+  pub steps_written : steps' ≡ (result_unwrap_or answer no_walk).steps
 
--- Reserve: next leaf and mark are written back
+-- Reserve: next leaf and mark of the counter that it leaves are written back
 pub record ReserveCall (p : Profile) (next mark next' mark' code : ℕ) : Type 0 where
-  pub answer : Reserved
-  pub reserves : Reserves p (counter_of next mark) answer
-  pub returned : code ≡ outcome_code answer.outcome
-  pub next_written : next' ≡ answer.counter.next
-  pub mark_written : mark' ≡ mark_left code mark answer.counter.mark
+  pub left : Counter
+  pub answer : Result (Unit {0}) Refusal
+  pub reserves : Reserves p (counter_of next mark) left answer
+  pub returned : code ≡ outcome_code answer
+  pub next_written : next' ≡ left.next
+  pub mark_written : mark' ≡ mark_left code mark left.mark
 
--- Sign: the mark is written back, and the rest of the key that comes back is the rest of the key given
+-- Sign: the mark of the key that it leaves is written back, and the rest of that key is the rest of the key given
 pub record SignCall (key : SigningKey) (call : SigningCall) (work' out' : List ℕ) (mark mark' code : ℕ) : Type 0 where
-  pub answer : Signed
-  pub signs : Signs key call work' out' answer
-  pub returned : code ≡ outcome_code answer.outcome
-  pub mark_written : mark' ≡ mark_left code mark answer.key.counter.mark
-  pub key_kept : answer.key ≡ recounted key (record { next = key.counter.next; mark = answer.key.counter.mark })
+  pub left : SigningKey
+  pub answer : Result (Unit {0}) Refusal
+  pub signs : Signs key call work' out' left answer
+  pub returned : code ≡ outcome_code answer
+  pub mark_written : mark' ≡ mark_left code mark left.counter.mark
+  pub key_kept : left ≡ recounted key (record { next = key.counter.next; mark = left.counter.mark })
 
--- Check: the highest leaf and the marks are written back, and the rest of the cabinet that comes back is the rest of the cabinet given
+-- Check: the highest leaf and the marks of the cabinet that it leaves are written back, and the rest of that cabinet is the rest of the
+-- cabinet given
 pub record VerifyCall (v : Verifier) (call : VerifyingCall) (work' : List ℕ) (highest' marks' steps' code : ℕ) : Type 0 where
+  pub left : Verifier
   pub answer : Verdict
-  pub verifies : Verifies v call work' answer
+  pub verifies : Verifies v call work' left answer
   pub returned : code ≡ outcome_code answer.outcome
-  pub verifier_kept : answer.verifier ≡ verifier_of v.profile v.seed v.root highest' marks'
+  pub verifier_kept : left ≡ verifier_of v.profile v.seed v.root highest' marks'
   pub steps_written : steps' ≡ answer.steps
 
 -- Read sheet
 pub record ReadSheetCall (p : Profile) (sheet signature message signature' message' : List ℕ) (written' line' r : ℕ) : Type 0 where
-  pub answer : SheetRead
+  pub answer : Result ℕ Refusal
   pub reads : ReadsSheet p sheet signature message signature' message' answer
-  pub returned : r ≡ outcome_code answer.outcome
-  pub length_written : written' ≡ answer.length
-  pub line_written : line' ≡ answer.line
+  pub returned : r ≡ outcome_code answer
+  pub length_written : written' ≡ result_unwrap_or answer 0
+  pub line_written : line' ≡ line_told answer
 
 -- Write sheet
 pub record WriteSheetCall (p : Profile) (signature message sheet sheet' : List ℕ) (written' r : ℕ) : Type 0 where
-  pub answer : SheetWritten
+  pub answer : Result ℕ Refusal
   pub writes : WritesSheet p signature message sheet sheet' answer
-  pub returned : r ≡ outcome_code answer.outcome
-  pub length_written : written' ≡ answer.length
+  pub returned : r ≡ outcome_code answer
+  pub length_written : written' ≡ result_unwrap_or answer 0
 
 -- Write key
 pub record WriteKeyCall (key : SigningKey) (frame frame' : List ℕ) (written' r : ℕ) : Type 0 where
-  pub answer : KeyWritten
+  pub answer : Result ℕ Refusal
   pub writes : WritesKey key frame frame' answer
-  pub returned : r ≡ outcome_code answer.outcome
-  pub length_written : written' ≡ answer.length
+  pub returned : r ≡ outcome_code answer
+  pub length_written : written' ≡ result_unwrap_or answer 0
 
 -- Read key: the profile as l, w, s, h, edition
 pub record ReadKeyCall (frame fields' seed' secret' : List ℕ) (next' mark' line' r : ℕ) : Type 0 where
-  pub answer : KeyRead
+  pub answer : Result SigningKey Refusal
   pub reads : ReadsKey frame answer
-  pub returned : r ≡ outcome_code answer.outcome
-  pub fields_written : fields' ≡ numbers_of answer.key.profile
-  pub seed_written : seed' ≡ answer.key.seed
-  pub secret_written : secret' ≡ answer.key.secret
-  pub next_written : next' ≡ answer.key.counter.next
-  pub mark_written : mark' ≡ mark_word answer.key.counter.mark
-  pub line_written : line' ≡ answer.line
+  pub returned : r ≡ outcome_code answer
+  pub fields_written : fields' ≡ numbers_of (result_unwrap_or answer no_key).profile
+  pub seed_written : seed' ≡ (result_unwrap_or answer no_key).seed
+  pub secret_written : secret' ≡ (result_unwrap_or answer no_key).secret
+  pub next_written : next' ≡ (result_unwrap_or answer no_key).counter.next
+  pub mark_written : mark' ≡ mark_word (result_unwrap_or answer no_key).counter.mark
+  pub line_written : line' ≡ line_told answer

@@ -1,40 +1,40 @@
 // The C interface: one exported function an operation, which returns the code of the refusal, 0 for granted.
 // Parameters stand in the header's order. When they got their names, contracts had to quote `data` and names with an underscore: `bytes`,
 // `seed`, `secret`, `next`, `highest` and `written` are the header's `data`, `public_seed`, `secret_seed`, `next_leaf`, `highest_leaf` and
-// `message_written`, and `length` is its `sheet_written` or `frame_written`. `profile` is a function here: `fields` is the header's `profile`.
+// `message_written`, and `length` is its `sheet_written` or `frame_written`. `profile` is a function here: `fields` is the header's
+// `profile`. The numbers of a profile stay five parameters, since C hands them so.
 #![tactic(auto)]
 
-ghost use Rattle.std.specs.Prelude.{◌≡◌, cond, eqb, List, ℕ, replicate};
+ghost use Rattle.std.specs.Prelude.{◌≡◌};
 ghost use Rattle.refusal.specs.Code.{outcome_code};
-ghost use Rattle.sha256.specs.Digest.{digest as digestOf};
-ghost use Rattle.sha256.specs.Running.{started, add_code, Adds};
+ghost use Rattle.stored_key.specs.Operations.{no_key};
 ghost use Rattle.zarosnik.specs.Interface.{shape_of, profile_of, counter_of, signing_key_of, verifier_of, mark_word, mark_left};
 ghost use Rattle.zarosnik.specs.Interface.{HashCall, CountCall, UnrankCall, RankCall, CompareCall, LeafKeyCall, RootCall};
 ghost use Rattle.zarosnik.specs.Interface.{RevealCall, RecoverCall, ReserveCall, SignCall, VerifyCall};
 ghost use Rattle.zarosnik.specs.Interface.{ReadSheetCall, WriteSheetCall, WriteKeyCall, ReadKeyCall};
 
+use chains::steps::Walked;
 use codewords::ranking::rank;
 use codewords::unrank;
 use counts::table::codeword_count;
 use numbers::number::{compare, order_code};
 use one_time::{leaf_key, one_time_recover, one_time_sign};
 use profile::{Profile, Shape};
-use refusal::Outcome;
-use sha256::{Added, Hash};
+use refusal::{Refusal, line_told, outcome_code};
+use sha256::Hash;
 use sheet_reader::read_sheet;
 use sheet_writer::write_sheet;
 use signer::sign;
 use signing_key::{Counter, SigningKey, reserve};
 use stored_key::{read_key, write_key};
-use tree::root;
 use verifier::{Verifier, verify};
 use window::Window;
 
 // The code that a call returns.
-fn returned(o: Outcome) -> u32
-    ensures { result ≡ outcome_code o }
+fn returned<T>(answer: &Result<T, Refusal>) -> u32
+    ensures { result ≡ outcome_code answer.now }
 {
-    refusal::outcome_code(o) as u32
+    u32::from(outcome_code(answer))
 }
 
 fn shape(l: u32, w: u32, s: u32) -> Shape
@@ -61,16 +61,16 @@ fn profile(l: u32, w: u32, s: u32, h: u32, edition: u32) -> Profile
 fn mark_word(mark: bool) -> u32
     ensures { result ≡ mark_word mark }
 {
-    if mark { 1 } else { 0 }
+    u32::from(mark)
 }
 
 // The word of a mark that a call leaves: the new one where it is granted, else the old one, whatever that is.
-fn mark_left(o: Outcome, old: u32, mark: bool) -> u32
-    ensures { result ≡ mark_left (outcome_code o) old mark }
+fn mark_left<T>(answer: &Result<T, Refusal>, old: u32, mark: bool) -> u32
+    ensures { result ≡ mark_left (outcome_code answer.now) old mark }
 {
-    match o {
-        Outcome::Refused(_) => old,
-        Outcome::Granted => mark_word(mark),
+    match answer {
+        Err(_) => old,
+        Ok(_) => mark_word(mark),
     }
 }
 
@@ -84,28 +84,22 @@ fn counter(next: u32, mark: u32) -> Counter
     }
 }
 
+// The key of a refused answer.
+fn no_key() -> SigningKey
+    ensures { result ≡ no_key }
+{
+    signing_key(profile(0, 0, 0, 0, 0), &[0; 16], &[0; 16], 0, 0)
+}
+
 // A key by its fields.
 fn signing_key(p: Profile, seed: &[u8; 16], secret: &[u8; 16], next: u32, mark: u32) -> SigningKey
     ensures { result ≡ signing_key_of p seed.now secret.now next mark }
 {
-    let leaves = counter(next, mark);
     SigningKey {
         profile: p,
         seed: *seed,
         secret: *secret,
-        counter: leaves,
-    }
-}
-
-// The digest where the bytes were granted, else zero.
-fn digest_of(added: Added) -> [u8; 32]
-    ensures { (bytes : List ℕ) → Adds started bytes added
-        → result ≡ cond (eqb (add_code started bytes) 0) (digestOf bytes) (replicate 32 0) }
-{
-    let outcome = added.outcome;
-    match outcome {
-        Outcome::Refused(_) => [0; 32],
-        Outcome::Granted => added.hash.finish().digest(),
+        counter: counter(next, mark),
     }
 }
 
@@ -115,10 +109,11 @@ pub extern "C" fn zarosnik_hash(bytes: &[u8], digest: &mut [u8; 32]) -> u32
     ensures { HashCall bytes.now digest.new result }
 {
     let added = Hash::start().add(bytes);
-    let outcome = added.outcome;
-    let found = digest_of(added);
-    *digest = found;
-    returned(outcome)
+    *digest = match added.outcome {
+        Ok(()) => added.hash.finish().digest(),
+        Err(_) => [0; 32],
+    };
+    returned(&added.outcome)
 }
 
 // Count.
@@ -133,10 +128,8 @@ pub extern "C" fn zarosnik_count(
     ensures { CountCall (shape_of l w s) table.old table.new number.new result }
 {
     let counted = codeword_count(shape(l, w, s), table);
-    let count = counted.count;
-    *number = count;
-    let outcome = counted.outcome;
-    returned(outcome)
+    *number = counted.unwrap_or([0; 5]);
+    returned(&counted)
 }
 
 // Spread.
@@ -152,7 +145,7 @@ pub extern "C" fn zarosnik_unrank(
     ensures { UnrankCall (shape_of l w s) number.now table.old row.old
         table.new row.new result }
 {
-    returned(unrank(shape(l, w, s), *number, table, row))
+    returned(&unrank(shape(l, w, s), *number, table, row))
 }
 
 // Gather.
@@ -168,10 +161,8 @@ pub extern "C" fn zarosnik_rank(
     ensures { RankCall (shape_of l w s) row.now table.old table.new number.new result }
 {
     let ranked = rank(shape(l, w, s), row, table);
-    let found = ranked.number;
-    *number = found;
-    let outcome = ranked.outcome;
-    returned(outcome)
+    *number = ranked.unwrap_or([0; 5]);
+    returned(&ranked)
 }
 
 // Compare.
@@ -185,8 +176,7 @@ pub extern "C" fn zarosnik_compare(
     ensures { CompareCall first.now second.now order.new looked.new result }
 {
     let compared = compare(*first, *second);
-    let found = compared.order;
-    *order = order_code(found);
+    *order = order_code(compared.order);
     *looked = compared.looked;
     0
 }
@@ -207,10 +197,8 @@ pub extern "C" fn zarosnik_leaf_key(
     ensures { LeafKeyCall (profile_of l w s h edition) seed.now secret.now leaf key.new result }
 {
     let made = leaf_key(profile(l, w, s, h, edition), *seed, secret, leaf);
-    let found = made.key;
-    *key = found;
-    let outcome = made.outcome;
-    returned(outcome)
+    *key = made.unwrap_or([0; 16]);
+    returned(&made)
 }
 
 // Root.
@@ -228,10 +216,8 @@ pub extern "C" fn zarosnik_root(
     ensures { RootCall (profile_of l w s h edition) seed.now secret.now root.new result }
 {
     let made = tree::root(profile(l, w, s, h, edition), *seed, secret);
-    let found = made.root;
-    *root = found;
-    let outcome = made.outcome;
-    returned(outcome)
+    *root = made.unwrap_or([0; 16]);
+    returned(&made)
 }
 
 // Reveal.
@@ -252,15 +238,8 @@ pub extern "C" fn zarosnik_one_time_sign(
     ensures { RevealCall (profile_of l w s h edition) seed.now secret.now leaf
         number.now table.old values.old table.new values.new result }
 {
-    returned(one_time_sign(
-        profile(l, w, s, h, edition),
-        *seed,
-        secret,
-        leaf,
-        *number,
-        table,
-        values,
-    ))
+    let p = profile(l, w, s, h, edition);
+    returned(&one_time_sign(p, *seed, secret, leaf, *number, table, values))
 }
 
 // Recover.
@@ -282,19 +261,17 @@ pub extern "C" fn zarosnik_one_time_recover(
     ensures { RecoverCall (profile_of l w s h edition) seed.now leaf number.now
         values.now table.old table.new key.new steps.new result }
 {
-    let recovered = one_time_recover(
-        profile(l, w, s, h, edition),
-        *seed,
-        leaf,
-        *number,
-        values,
-        table,
-    );
-    let found = recovered.key;
-    *key = found;
-    *steps = recovered.steps;
-    let outcome = recovered.outcome;
-    returned(outcome)
+    let p = profile(l, w, s, h, edition);
+    let recovered = one_time_recover(p, *seed, leaf, *number, values, table);
+    let found = recovered.unwrap_or(Walked {
+        value: [0; 16],
+        steps: 0,
+    });
+    // In two steps: no proof is written of an array laid into a pointer from a field.
+    let value = found.value;
+    *key = value;
+    *steps = found.steps;
+    returned(&recovered)
 }
 
 // Reserve.
@@ -311,12 +288,11 @@ pub extern "C" fn zarosnik_reserve(
     ensures { ReserveCall (profile_of l w s h edition) next.old mark.old
         next.new mark.new result }
 {
-    let found = counter(*next, *mark);
-    let reserved = reserve(profile(l, w, s, h, edition), found);
-    let outcome = reserved.outcome;
-    *next = reserved.counter.next;
-    *mark = mark_left(outcome, *mark, reserved.counter.mark);
-    returned(outcome)
+    let mut leaves = counter(*next, *mark);
+    let reserved = reserve(profile(l, w, s, h, edition), &mut leaves);
+    *next = leaves.next;
+    *mark = mark_left(&reserved, *mark, leaves.mark);
+    returned(&reserved)
 }
 
 // Sign.
@@ -341,11 +317,10 @@ pub extern "C" fn zarosnik_sign(
         (record { r = r.entry.now; message = message.now; work = table.old; out = signature.old })
         table.new signature.new mark.old mark.new result }
 {
-    let key = signing_key(profile(l, w, s, h, edition), seed, secret, next, *mark);
-    let signed = sign(key, *r, message, table, signature);
-    let outcome = signed.outcome;
-    *mark = mark_left(outcome, *mark, signed.key.counter.mark);
-    returned(outcome)
+    let mut key = signing_key(profile(l, w, s, h, edition), seed, secret, next, *mark);
+    let signed = sign(&mut key, *r, message, table, signature);
+    *mark = mark_left(&signed, *mark, key.counter.mark);
+    returned(&signed)
 }
 
 // Check.
@@ -370,7 +345,7 @@ pub extern "C" fn zarosnik_verify(
         (record { message = message.entry.now; signature = signature.now; work = table.old })
         table.new highest.new marks.new steps.new result }
 {
-    let verifier = Verifier {
+    let mut verifier = Verifier {
         profile: profile(l, w, s, h, edition),
         seed: *seed,
         root: *root,
@@ -379,12 +354,11 @@ pub extern "C" fn zarosnik_verify(
             marks: *marks,
         },
     };
-    let verdict = verify(verifier, message, signature, table);
-    *highest = verdict.verifier.window.highest;
-    *marks = verdict.verifier.window.marks;
+    let verdict = verify(&mut verifier, message, signature, table);
+    *highest = verifier.window.highest;
+    *marks = verifier.window.marks;
     *steps = verdict.steps;
-    let outcome = verdict.outcome;
-    returned(outcome)
+    returned(&verdict.outcome)
 }
 
 // Read sheet.
@@ -405,10 +379,9 @@ pub extern "C" fn zarosnik_read_sheet(
         message.old signature.new message.new written.new line.new result }
 {
     let read = read_sheet(profile(l, w, s, h, edition), sheet, signature, message);
-    *written = read.length as usize;
-    *line = read.line;
-    let outcome = read.outcome;
-    returned(outcome)
+    *written = read.unwrap_or(0);
+    *line = line_told(&read);
+    returned(&read)
 }
 
 // Write sheet.
@@ -428,9 +401,8 @@ pub extern "C" fn zarosnik_write_sheet(
         sheet.old sheet.new length.new result }
 {
     let made = write_sheet(profile(l, w, s, h, edition), signature, message, sheet);
-    *length = made.length;
-    let outcome = made.outcome;
-    returned(outcome)
+    *length = made.unwrap_or(0);
+    returned(&made)
 }
 
 // Write key.
@@ -454,9 +426,8 @@ pub extern "C" fn zarosnik_write_key(
 {
     let key = signing_key(profile(l, w, s, h, edition), seed, secret, next, mark);
     let made = write_key(key, frame);
-    *length = made.length;
-    let outcome = made.outcome;
-    returned(outcome)
+    *length = made.unwrap_or(0);
+    returned(&made)
 }
 
 // Read key.
@@ -474,18 +445,21 @@ pub extern "C" fn zarosnik_read_key(
         next.new mark.new line.new result }
 {
     let read = read_key(frame);
-    let key = read.key;
-    let shape = key.profile.shape;
-    let seed_read = key.seed;
-    let secret_read = key.secret;
-    let height = key.profile.height;
-    let edition = key.profile.edition;
-    *fields = [shape.chains, shape.width, shape.sum, height, edition];
+    let key = read.unwrap_or(no_key());
+    let p = key.profile;
+    *fields = [
+        p.shape.chains,
+        p.shape.width,
+        p.shape.sum,
+        p.height,
+        p.edition,
+    ];
+    // In two steps, as above.
+    let (seed_read, secret_read) = (key.seed, key.secret);
     *seed = seed_read;
     *secret = secret_read;
     *next = key.counter.next;
     *mark = mark_word(key.counter.mark);
-    *line = read.line;
-    let outcome = read.outcome;
-    returned(outcome)
+    *line = line_told(&read);
+    returned(&read)
 }

@@ -23,9 +23,8 @@ pub returns-in-3 : goal.returns-in-3
 unfolding frames
 returns-in-3 c = at-number c.args.p c.in-3.is refl refl refl (omega arith) (omega arith) c.sized-in-3.ensures
 
-pub returns-then-k-count : goal.returns-then-k-count
-returns-then-k-count c =
-    numbered-size c.args.p c.args.k (omega arith) (omega (arith, c.frame_count-count.ensures)) c.sized-then-k-count.ensures
+pub returns-in_default : goal.returns-in_default
+returns-in_default c = numbered-size c.args.p c.args.k (omega arith) (omega (arith, c.frame_count.ensures)) c.sized-in_default.ensures
 
-pub returns-else-k-count : goal.returns-else-k-count
-returns-else-k-count c = text-size c.args.p c.args.k (omega (arith, c.frame_count-count.ensures))
+pub returns-in_default-2 : goal.returns-in_default-2
+returns-in_default-2 c = text-size c.args.p c.args.k (omega (arith, c.frame_count.ensures))

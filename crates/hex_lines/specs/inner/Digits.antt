@@ -1,16 +1,19 @@
 -- A line as the reader takes it: two characters at a time, and then its ending.
-use Rattle.std.specs.Prelude.{◌≡◌, Bool, true, false, cond, List, [], ◌∷◌, ◌++◌, ℕ, ◌+◌, ◌*◌, ltb, eqb, length, get_or, take, drop}
+use Rattle.std.specs.Prelude.{◌≡◌, Bool, true, false, cond, Option, Some, None, List, [], ◌∷◌, ◌++◌, ℕ, ◌+◌, ◌*◌, ltb, eqb}
+use Rattle.std.specs.Prelude.{length, get_or, take, drop}
 use Rattle.hex_lines.specs.Hex.{digit_of, Line, wrong, right, read_line}
-use Rattle.hex_lines.specs.declared.Digits.{Digits}
-use Rattle.hex_lines.specs.declared.Digits.TheVariants.{Wrong, Byte}
+
+-- the digit that a character is
+abbrev pub digit_in : (c : ℕ) → Option ℕ
+digit_in c = cond (ltb (digit_of c) 16) (Some (digit_of c)) None
 
 -- the byte that two characters are
-unfoldable pub byte_of : (c d : ℕ) → Digits
-byte_of c d = cond (ltb (digit_of c) 16) (cond (ltb (digit_of d) 16) (Byte (16 * digit_of c + digit_of d)) Wrong) Wrong
+unfoldable pub byte_of : (c d : ℕ) → Option ℕ
+byte_of c d = cond (ltb (digit_of c) 16) (cond (ltb (digit_of d) 16) (Some (16 * digit_of c + digit_of d)) None) None
 
--- the byte that stands from index `at` on; wrong where the characters end before
-unfoldable pub byte_at : (chars : List ℕ) (at : ℕ) → Digits
-byte_at chars at = cond (ltb (length chars) (at + 2)) Wrong (byte_of (get_or chars at 0) (get_or chars (at + 1) 0))
+-- the byte that stands from index `at` on; none where the characters end before
+unfoldable pub byte_at : (chars : List ℕ) (at : ℕ) → Option ℕ
+byte_at chars at = cond (ltb (length chars) (at + 2)) None (byte_of (get_or chars at 0) (get_or chars (at + 1) 0))
 
 -- whether a line is right and has exactly n bytes
 unfoldable pub has_bytes : (n : ℕ) → Line → Bool
@@ -18,9 +21,9 @@ has_bytes n wrong = false
 has_bytes n (right bytes rest) = eqb (length bytes) n
 
 -- a byte in front of what follows it; where there is none, what stood there stays
-unfoldable pub or_kept : Digits → (next old : List ℕ) → List ℕ
-or_kept Wrong next old = old
-or_kept (Byte b) next old = b ∷ next
+unfoldable pub or_kept : Option ℕ → (next old : List ℕ) → List ℕ
+or_kept None next old = old
+or_kept (Some b) next old = b ∷ next
 
 -- what a slice holds once bytes are read into it from index `at` on: those up to the first that is wrong, and behind them
 -- what stood there

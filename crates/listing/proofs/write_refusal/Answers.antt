@@ -6,4 +6,4 @@ use Rattle.listing.proofs.write_refusal.Goals as goal
 
 pub returns : goal.returns
 unfolding refusal_line
-returns c = (c.write_line.ensures.0 ∙ zero-add _, c.write_line.ensures.1)
+returns c = rw (← c.code.ensures) (c.write_line.ensures.0 ∙ zero-add _, c.write_line.ensures.1)

@@ -1,10 +1,7 @@
 -- The lines of the first n numbers are printed.
-use Rattle.std.proofs.Common.{◌≡◌, ◌-◌, ◌*◌, ◌≤◌}
+use Rattle.std.proofs.Common.{◌≡◌, ◌*◌}
 use Rattle.listing.proofs.Rows.{line_length, Printed}
 use Rattle.listing.proofs.write_rows.Given as goal
 
 abbrev pub invariant-loop-n : goal.invariant-loop-n
-invariant-loop-n l = (l.n ≤ l.lines) × (l.at ≡ line_length l.shape * l.n) × Printed l.shape l.n l.fn.out l.out
-
-abbrev pub decreases-loop-n : goal.decreases-loop-n
-decreases-loop-n l = l.lines - l.n
+invariant-loop-n l = (l.at ≡ line_length l.limited.shape * l.n) × Printed l.limited.shape l.n l.fn.out l.out

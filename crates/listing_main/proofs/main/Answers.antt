@@ -8,6 +8,6 @@ pub loop-byte-smaller : goal.loop-byte-smaller
 loop-byte-smaller c =
     let n = c.in_ok-n.n in
     let byte = c.read.new.buf in
-    let after = c.after-input.ensures in
-    fewer_left c.loop-byte.input c.after-input.result (take n byte) (omega (arith, c.left.ensures))
-    (omega (arith, length-take n byte, c.read.auto.buf)) after.0 after.2
+    let taken = c.take.ensures in
+    fewer_left c.loop-byte.input c.take.new.self (take n byte) (omega (arith, c.left.ensures))
+    (omega (arith, length-take n byte, c.read.auto.buf)) taken.0 taken.1

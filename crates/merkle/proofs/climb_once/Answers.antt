@@ -1,4 +1,4 @@
--- `climb_once` meets its contract: a left child goes before its sibling, a right child behind it.
+-- A left child goes before its sibling, a right child behind it.
 use Rattle.merkle.proofs.NodeLaws.{left-climbed, right-climbed}
 use Rattle.merkle.proofs.climb_once.Goals as goal
 

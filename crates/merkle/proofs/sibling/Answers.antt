@@ -1,4 +1,4 @@
--- `sibling` meets its contract: of an even index the next one, of an odd index the one before.
+-- Of an even index the next one, of an odd index the one before.
 use Rattle.merkle.specs.Nodes.{sibling}
 use Rattle.merkle.proofs.Indices.{left_even, right_odd}
 use Rattle.merkle.proofs.sibling.Goals as goal

@@ -12,7 +12,6 @@ returns c =
     let taken =
     all-taken a.r.now a.seed.now a.root.now a.leaf.now a.message.now
     short.0 short.1 short.2 short.3 short.4 c.start.ensures
-    c.add-with_r.ensures.state c.add-with_seed.ensures.state c.add-with_root.ensures.state c.add-with_leaf.ensures.state
-    c.add-with_message.ensures.state in
+    c.add.ensures.state c.add-2.ensures.state c.add-3.ensures.state c.add-4.ensures.state c.add-5.ensures.state in
     digest-made (a.r.now ++ a.seed.now ++ a.root.now ++ a.leaf.now ++ a.message.now) taken
     (c.digest.ensures ∙ ap (λ (h : Hash). word_bytes h.words) c.finish.ensures)

@@ -9,6 +9,6 @@ pub returns : goal.returns
 unfolding message_digest
 returns c =
     let a = c.args in
-    let part : take c.leaf_bytes-taken.result c.word_bytes-bytes.result ≡ leaf_part a.edition a.leaf =
-    rw (c.leaf_bytes-taken.ensures, c.word_bytes-bytes.ensures) (part-taken a.edition a.leaf) in
+    let part : take c.leaf_bytes.result c.word_bytes.result ≡ leaf_part a.edition a.leaf =
+    rw (c.leaf_bytes.ensures, c.word_bytes.ensures) (part-taken a.edition a.leaf) in
     c.joined_digest.ensures ∙ ap (λ leaf. digest (a.r ++ a.seed ++ a.root ++ leaf ++ a.message.now)) part

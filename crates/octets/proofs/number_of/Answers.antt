@@ -1,20 +1,28 @@
 -- A turn takes one byte more into the number, for which what stands so far leaves room.
-use Rattle.std.proofs.Common.{arith, refl}
+use Rattle.std.proofs.Common.{◌≡◌, length, arith, refl, ap, ◌∙◌}
 use Rattle.std.proofs.Math.Dec.{lit<}
+use Rattle.std.proofs.Math.Seq.{take-length}
 use Rattle.octets.specs.Bytes.{from_bytes}
 use Rattle.octets.proofs.ByteLaws.{front-next, front_wider, front-small}
 use Rattle.octets.proofs.number_of.Goals as goal
 
-pub loop-i-init : goal.loop-i-init
+pub loop-byte-init : goal.loop-byte-init
 unfolding from_bytes
-loop-i-init c = record { within = omega arith; front = refl; fits = lit< tt }
+loop-byte-init c = record { front = refl; fits = lit< tt }
 
 pub overflow_mul-number : goal.overflow_mul-number
-overflow_mul-number c = omega (arith, front-small c.loop-i.invariant.fits (omega arith))
+overflow_mul-number c = omega (arith, front-small c.loop-byte.invariant.fits (omega arith))
 
-pub loop-i-preserved : goal.loop-i-preserved
-loop-i-preserved c = record {
-  within = omega arith;
-  front = rw (c.loop-i.invariant.front, front-next c.args.bytes.now c.loop-i.i (omega arith));
-  fits = front_wider c.loop-i.i c.loop-i.invariant.fits (omega (arith, c.type_inv.bytes c.loop-i.i));
+pub overflow_add-number : goal.overflow_add-number
+overflow_add-number c = omega (arith, front-small c.loop-byte.invariant.fits (omega arith), c.from.ensures, c.type_inv.bytes c.loop-byte.byte-index)
+
+pub loop-byte-preserved : goal.loop-byte-preserved
+loop-byte-preserved c = record {
+  front = rw (c.from.ensures, c.loop-byte.invariant.front, front-next c.args.bytes.now c.loop-byte.byte-index c.loop-byte-test.true);
+  fits = front_wider c.loop-byte.byte-index c.loop-byte.invariant.fits (omega (arith, c.from.ensures, c.type_inv.bytes c.loop-byte.byte-index));
 }
+
+pub returns : goal.returns
+returns c =
+    let all : c.loop-byte.byte-index ≡ length c.args.bytes.now = omega arith in
+    rw all at c.loop-byte.invariant.front ∙ ap from_bytes (take-length c.args.bytes.now)

@@ -2,12 +2,14 @@
 use Rattle.one_time.proofs.Answers.{recover_room, recover_granted}
 use Rattle.one_time.proofs.one_time_recover.Goals as goal
 
-pub recover_key-found-requires-clause-chains_fit : goal.recover_key-found-requires-clause-chains_fit
-recover_key-found-requires-clause-chains_fit c =
-    rw c.chains_of-chains.ensures (recover_room c.args.values.now c.place_row-outcome.ensures c.in-Granted.is)
+pub invariant_of-limited : goal.invariant_of-limited
+invariant_of-limited c = record { limits = (recover_room c.args.values.now c.row_of_number.ensures c.in_ok-row.was).0 }
 
-pub returns-in-Granted : goal.returns-in-Granted
-returns-in-Granted c =
-    recover_granted c.args.values.now c.place_row-outcome.ensures c.args.seed c.in-Granted.is
-    (rw (c.first_hasher-hasher.ensures.domain, c.chains_of-chains.ensures) at c.recover_key-found.ensures.key)
-    (rw c.chains_of-chains.ensures at c.recover_key-found.ensures.steps)
+pub recover_key-requires : goal.recover_key-requires
+recover_key-requires c = rw c.limited_chains-chains.ensures (recover_room c.args.values.now c.row_of_number.ensures c.in_ok-row.was).1
+
+pub returns : goal.returns
+returns c =
+    recover_granted c.args.values.now c.row_of_number.ensures c.in_ok-row.was c.args.seed
+    (rw (c.first_hasher-hasher.ensures, c.limited_chains-chains.ensures) at c.recover_key.ensures.value)
+    (rw c.limited_chains-chains.ensures at c.recover_key.ensures.steps)

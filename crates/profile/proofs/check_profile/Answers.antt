@@ -1,14 +1,27 @@
--- The checks of the shape, then the height, and then the edition.
-use Rattle.std.proofs.Common.{refl}
-use Rattle.refusal.proofs.Causes.{chain_begins, chain_next}
+-- What the checks of the shape refuse is refused; granted, the height and the edition count.
+use Rattle.std.proofs.Common.{rules}
+use Rattle.refusal.proofs.Causes.{refused_first, granted_first}
 use Rattle.profile.specs.Checks.{shape_causes, profile_causes}
-use Rattle.profile.proofs.Limits.{shape-numbered}
+use Rattle.profile.proofs.Limits.{others, shape-numbered}
 use Rattle.profile.proofs.check_profile.Goals as goal
+
+pub returns-in_err-check_shape : goal.returns-in_err-check_shape
+unfolding profile_causes
+returns-in_err-check_shape c =
+    let p = c.args.p in
+    let refused = refused_first (shape_causes p.shape) (others p) c.in_err-check_shape.was c.check_shape.ensures in
+    search rules
+
+pub returns-in_err-refuse_if : goal.returns-in_err-refuse_if
+unfolding profile_causes
+returns-in_err-refuse_if c =
+    let p = c.args.p in
+    let granted = granted_first (shape_causes p.shape) (others p) (shape-numbered p.shape) c.in_ok-check_shape.was c.check_shape.ensures in
+    search rules
 
 pub returns : goal.returns
 unfolding profile_causes
 returns c =
-    let shape = c.args.p.shape in
-    let shaped = chain_begins (shape_causes shape) (shape-numbered shape) c.check_shape.ensures in
-    let height = chain_next 4 refl shaped c.outside.ensures c.then.ensures in
-    (chain_next 22 refl height c.outside-2.ensures c.then-2.ensures).answer
+    let p = c.args.p in
+    let granted = granted_first (shape_causes p.shape) (others p) (shape-numbered p.shape) c.in_ok-check_shape.was c.check_shape.ensures in
+    search rules

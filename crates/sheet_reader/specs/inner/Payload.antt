@@ -1,20 +1,14 @@
 -- Bytes that stand as hex in a sheet, and those behind the fixed ones of frames, line after line.
 use Rattle.std.specs.Prelude.{List, [], ◌∷◌, ◌++◌, ℕ, zero, suc, ◌+◌, ◌*◌, length}
+use Rattle.std.specs.Option.{unwrap_or}
 use Rattle.hex_lines.specs.inner.Digits.{byte_at}
-use Rattle.hex_lines.specs.declared.Digits.{Digits}
-use Rattle.hex_lines.specs.declared.Digits.TheVariants.{Wrong, Byte}
 use Rattle.frames.specs.Frames.{Frame}
 use Rattle.frames.specs.inner.Size.{behind_frame}
 
--- the byte that two characters are; 0 where they are none
-unfoldable pub byte_or : Digits → ℕ
-byte_or Wrong = 0
-byte_or (Byte b) = b
-
--- n bytes from an index on
+-- n bytes from an index on; 0 where two characters are no byte
 unfoldable pub bytes_in : (sheet : List ℕ) (at n : ℕ) → List ℕ
 bytes_in sheet at zero = []
-bytes_in sheet at (suc n) = byte_or (byte_at sheet at) ∷ bytes_in sheet (at + 2) n
+bytes_in sheet at (suc n) = unwrap_or (byte_at sheet at) 0 ∷ bytes_in sheet (at + 2) n
 
 -- the bytes behind the fixed ones, frame after frame
 unfoldable pub payloads : (sheet : List ℕ) (at : ℕ) → List Frame → List ℕ

@@ -1,12 +1,11 @@
--- What inner functions say of a frame's bytes, the kind among them, and of the answer to a wrong one.
-use Rattle.std.specs.Prelude.{◌≡◌, Bool, ◌&&◌, cond, List, ◌∷◌, ◌++◌, ℕ, ◌+◌, ◌-◌, ltb, eqb, get_or}
-use Rattle.refusal.specs.Code.{outcome_code}
+-- What inner functions say of a frame's bytes, the kind among them, and of the key that is found.
+use Rattle.std.specs.Prelude.{Bool, ◌&&◌, cond, Option, Some, None, List, ◌∷◌, ◌++◌, ℕ, ◌+◌, ◌-◌, ltb, eqb, get_or}
 use Rattle.octets.specs.Bytes.{to_bytes}
 use Rattle.profile.specs.declared.Profile.{Profile}
 use Rattle.frames.specs.Frames.{edition_byte}
+use Rattle.signing_key.specs.declared.SigningKey.{SigningKey}
 use Rattle.stored_key.specs.KeyFields.{next_field, mark_field, offset, key_length}
-use Rattle.stored_key.specs.Operations.{no_key}
-use Rattle.stored_key.specs.declared.reader.KeyRead.{KeyRead}
+use Rattle.stored_key.specs.KeyFrame.{Stored, wrong_frame, stored}
 
 -- where a field stands in a frame's bytes: the kind is in front of all
 abbrev pub field_place : (field : ℕ) → ℕ
@@ -32,8 +31,7 @@ last_bytes next mark edition = to_bytes 4 next ++ (cond mark 1 0 ∷ edition_byt
 abbrev pub framed_test : (bytes : List ℕ) → Bool
 framed_test bytes = eqb (get_or bytes 0 0) 7 && (ltb (get_or bytes (field_place mark_field) 0) 2 && eqb (get_or bytes frame_length 2) 2)
 
--- the answer to a wrong frame
-pub record RefusesFrame (r : KeyRead) : Type 0 where
-  pub code : outcome_code r.outcome ≡ 17
-  pub line : r.line ≡ 1
-  pub key : r.key ≡ no_key
+-- the key that is found, where the frame is right
+unfoldable pub key_found : Stored → Option SigningKey
+key_found wrong_frame = None
+key_found (stored key) = Some key

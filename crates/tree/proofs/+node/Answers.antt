@@ -8,22 +8,20 @@ use Rattle.tree.proofs.+node.Goals as goal
 pub returns-then-height-eq0 : goal.returns-then-height-eq0
 returns-then-height-eq0 t c =
     let a = c.args in
-    node_leaf a.hasher.domain (leaf_key a.hasher.domain a.chains a.secret.now) a.height a.index c.if-height-eq0.true c.key_of_leaf.ensures
+    node_leaf a.hasher.domain (leaf_key a.hasher.domain a.limited.chains a.secret.now) a.height a.index c.if-height-eq0.true c.key_of_leaf.ensures
 
 pub node-left-requires : goal.node-left-requires
 node-left-requires t c =
-    let fit = c.requires.chains_fit in
-    let within = child_within c.args.height (omega arith) fit.1 fit.2 in
-    (omega arith, (c.requires.seeded, (fit.0, omega arith, omega (arith, within))))
+    let within = child_within c.args.height (omega arith) c.requires.low c.requires.index_within in
+    (omega arith, (omega arith, omega (arith, within)))
 
 pub node-right-requires : goal.node-right-requires
 node-right-requires t c =
-    let fit = c.requires.chains_fit in
-    let within = child_within c.args.height (omega arith) fit.1 fit.2 in
-    (omega arith, (c.requires.seeded, (fit.0, omega arith, within)))
+    let within = child_within c.args.height (omega arith) c.requires.low c.requires.index_within in
+    (omega arith, (omega arith, within))
 
 pub returns : goal.returns
 returns t c =
     let a = c.args in
-    let leaves = leaf_key a.hasher.domain a.chains a.secret.now in
+    let leaves = leaf_key a.hasher.domain a.limited.chains a.secret.now in
     node-above a.hasher.domain leaves a.height a.index (omega arith) c.node-left.ensures c.node-right.ensures c.parent.ensures

@@ -2,6 +2,6 @@
 use Rattle.tree.specs.Tree.{recovered_root}
 use Rattle.tree.proofs.recover_root.Goals as goal
 
-pub returns-clause-root : goal.returns-clause-root
+pub returns-clause-value : goal.returns-clause-value
 unfolding recovered_root
-returns-clause-root c = rw (← c.recover_key-found.ensures.key) c.climb_path-root.ensures
+returns-clause-value c = rw (← c.recover_key-found.ensures.value) c.climb_path.ensures

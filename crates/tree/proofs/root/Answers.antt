@@ -1,25 +1,30 @@
--- Refused, the root is zero; granted, it is the node of the profile's height.
-use Rattle.std.proofs.Common.{◌-◌, [], arith}
+-- Granted, the profile is within its limits, and the root is the node of its height.
+use Rattle.std.proofs.Common.{◌-◌, arith, rules}
 use Rattle.std.proofs.Math.Pow.{pow_mono}
 use Rattle.refusal.proofs.Causes.{granted-none}
 use Rattle.profile.specs.Checks.{profile_causes}
 use Rattle.profile.proofs.Limits.{profile-limits}
-use Rattle.chains.proofs.LeafLaws.{chains_fit}
 use Rattle.tree.proofs.Answer.{root-refused, root-granted}
 use Rattle.tree.proofs.root.Goals as goal
 
-pub node-requires-clause-chains_fit : goal.node-requires-clause-chains_fit
-node-requires-clause-chains_fit c =
+pub invariant_of-limited : goal.invariant_of-limited
+invariant_of-limited c =
     let p = c.args.p in
-    let limits = profile-limits p (granted-none (profile_causes p) [] _ c.check_profile-outcome.ensures c.in-Granted.is) in
+    record { limits = (profile-limits p (granted-none (profile_causes p) c.in_ok-check_profile.was c.check_profile.ensures)).0 }
+
+pub node-requires : goal.node-requires
+node-requires c =
+    let p = c.args.p in
+    let limits = profile-limits p (granted-none (profile_causes p) c.in_ok-check_profile.was c.check_profile.ensures) in
     let room = pow_mono {i = 1} {j = 31 - p.height} (omega (arith, limits.1)) in
-    (rw c.chains_of-chains.ensures (chains_fit p.shape limits.0), omega (arith, limits.1), omega (arith, room))
+    record { low = omega (arith, limits.1); index_within = omega (arith, room) }
 
-pub returns-in-Refused : goal.returns-in-Refused
-returns-in-Refused c =
-    root-refused c.args.p c.args.seed c.args.secret.now _ c.check_profile-outcome.ensures _ c.in-Refused.is
+pub returns-in_err-check_profile : goal.returns-in_err-check_profile
+returns-in_err-check_profile c =
+    let refused = root-refused c.args.p c.args.seed c.args.secret.now c.check_profile.ensures c.in_err-check_profile.was in
+    search rules
 
-pub returns-in-Granted : goal.returns-in-Granted
-returns-in-Granted c =
-    let top = rw (c.first_hasher-hasher.ensures.domain, c.chains_of-chains.ensures) at c.node.ensures in
-    root-granted c.args.p c.args.seed c.args.secret.now _ c.check_profile-outcome.ensures _ c.in-Granted.is top
+pub returns : goal.returns
+returns c =
+    root-granted c.args.p c.args.seed c.args.secret.now c.check_profile.ensures c.in_ok-check_profile.was
+    (rw (c.first_hasher.ensures, c.limited_chains.ensures) at c.node.ensures)

@@ -1,15 +1,9 @@
 -- The running hash has taken the first c tops.
-use Rattle.std.proofs.Common.{◌≡◌, ◌-◌, ◌≤◌}
+use Rattle.std.proofs.Common.{◌≡◌}
 use Rattle.sha256.specs.Running.{hashed}
 use Rattle.chains.specs.Leaves.{top_value}
 use Rattle.chains.proofs.LeafLaws.{taken}
 use Rattle.chains.proofs.leaves.key_of_leaf.Given as goal
 
 abbrev pub invariant-loop-c : goal.invariant-loop-c
-invariant-loop-c l = record {
-  in_range : l.c ≤ l.chains.count;
-  has_taken : l.hash ≡ hashed (taken l.hasher.domain l.leaf.0 (top_value l.hasher.domain l.chains l.secret l.leaf.0) l.c);
-}
-
-abbrev pub decreases-loop-c : goal.decreases-loop-c
-decreases-loop-c l = l.chains.count - l.c
+invariant-loop-c l = l.hash ≡ hashed (taken l.hasher.domain l.leaf.0 (top_value l.hasher.domain l.chains l.secret l.leaf.0) l.c)

@@ -1,4 +1,4 @@
--- Each turn of the loop is a step, from no step at the lowest height to all at the highest.
+-- Each turn is a step, from no step at the lowest height to all at the highest.
 use Rattle.std.proofs.Common.{◌≡◌, ◌-◌, arith}
 use Rattle.std.proofs.Math.Nat.{sub_self}
 use Rattle.chains.specs.Chains.{walked}
@@ -7,17 +7,16 @@ use Rattle.chains.proofs.steps.walk.Goals as goal
 
 pub loop-k-init : goal.loop-k-init
 unfolding walked
-loop-k-init c = record { from_low = omega arith; within = omega arith; counted = omega arith; reached = rw sub_self }
+loop-k-init c = record { within = omega arith; counted = omega arith; reached = rw sub_self }
 
 pub loop-k-preserved : goal.loop-k-preserved
 loop-k-preserved c =
     let a = c.args in
     let next = walked_next a.hasher.domain a.leaf.0 a.chain.0 a.low c.loop-k.k _ _ _ in
     record {
-      from_low = omega arith;
       within = omega arith;
       counted = omega arith;
-      reached = next c.loop-k.invariant.from_low c.loop-k.invariant.reached c.chain_step-next.ensures;
+      reached = next (omega arith) c.loop-k.invariant.reached c.chain_step.ensures;
     }
 
 pub returns : goal.returns

@@ -5,11 +5,7 @@ use Rattle.chains.proofs.steps.walk.Given as goal
 
 abbrev pub invariant-loop-k : goal.invariant-loop-k
 invariant-loop-k l = record {
-  from_low : l.low ≤ l.k;
   within : l.k - l.low ≤ l.high - l.low;
-  counted : l.steps ≡ l.k - l.low;
-  reached : l.v ≡ walked l.hasher.domain l.leaf.0 l.chain.0 l.low (l.k - l.low) l.fn.value;
+  counted : l.walked.steps ≡ l.k - l.low;
+  reached : l.walked.value ≡ walked l.hasher.domain l.leaf.0 l.chain.0 l.low (l.k - l.low) l.fn.value;
 }
-
-abbrev pub decreases-loop-k : goal.decreases-loop-k
-decreases-loop-k l = l.high - l.k

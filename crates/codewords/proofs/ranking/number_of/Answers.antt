@@ -18,15 +18,17 @@ skip-next-requires-clause-number_value c =
 
 pub skip-next-requires-clause-digit_bound : goal.skip-next-requires-clause-digit_bound
 skip-next-requires-clause-digit_bound c =
-    skipped-small c.requires.le_width c.requires.codeword c.loop-place-test.true c.loop-place.invariant c.args.table.now c.requires.table_value
+    rw c.from-digit.ensures
+    (skipped-small c.requires.le_width c.requires.codeword c.loop-place-test.true c.loop-place.invariant c.args.table.now c.requires.table_value)
 
 pub overflow_sub-left : goal.overflow_sub-left
-overflow_sub-left c = digit-within c.requires.le_width c.requires.codeword c.loop-place-test.true c.loop-place.invariant
+overflow_sub-left c = rw c.from-digit.ensures (digit-within c.requires.le_width c.requires.codeword c.loop-place-test.true c.loop-place.invariant)
 
 pub loop-place-preserved : goal.loop-place-preserved
 loop-place-preserved c =
-    left-next c.requires.le_width c.requires.codeword c.loop-place-test.true c.loop-place.invariant c.args.table.now c.requires.table_value
-    c.skip-next.ensures
+    rw c.from-digit.ensures
+    (left-next c.requires.le_width c.requires.codeword c.loop-place-test.true c.loop-place.invariant c.args.table.now c.requires.table_value
+    (rw c.from-digit.ensures at c.skip-next.ensures))
 
 pub returns : goal.returns
 returns c = left-ends c.loop-place-test.false c.loop-place.invariant

@@ -1,15 +1,12 @@
--- A length above w − 1 ends the loop, and any other leaves the answer to the lengths behind it.
-use Rattle.std.proofs.Common.{arith, sym, ◌∙◌}
-use Rattle.codewords.proofs.RankLaws.{above-here, above-later, above_end}
+-- `any` looks at each length as the definition does.
+use Rattle.std.proofs.Common.{leb, sym, ◌∙◌, rules, tests}
+use Rattle.std.proofs.lemmas.Iterator.{YieldsList-from_slice}
+use Rattle.std.proofs.lemmas.Iterator.Search.{any_from_yields_List}
+use Rattle.codewords.proofs.RankLaws.{above-any}
 use Rattle.codewords.proofs.ranking.some_above.Goals as goal
 
-pub returns-then-width-row : goal.returns-then-width-row
-returns-then-width-row c =
-    sym (c.loop-i.invariant.1 ∙ above-here c.args.row.now c.loop-i.i (omega arith) c.args.width (omega arith))
-
-pub loop-i-preserved : goal.loop-i-preserved
-loop-i-preserved c =
-    (omega arith, c.loop-i.invariant.1 ∙ above-later c.args.row.now c.loop-i.i (omega arith) c.args.width (omega arith))
-
 pub returns : goal.returns
-returns c = sym (c.loop-i.invariant.1 ∙ above_end c.args.row.now c.loop-i.i (omega arith) c.args.width)
+returns c =
+    let row = c.args.row.now in
+    any_from_yields_List (leb c.args.width) _ _ _ c.any.ensures.ran (YieldsList-from_slice row cc) (λ x b q k. search (rules, tests))
+    ∙ sym (above-any c.args.width row)

@@ -14,7 +14,7 @@ use Rattle.counts.specs.Table.{rows, table_length, Holds}
 use Rattle.counts.proofs.CountLaws.{D-small}
 use Rattle.counts.proofs.TableLaws.{cell_of, cell_within}
 use Rattle.codewords.specs.Codeword.{place as search-from, codeword}
-use Rattle.codewords.proofs.PlaceLaws.{one_more, next-within, one_less, behind-within, behind-few, from-few}
+use Rattle.codewords.proofs.PlaceLaws.{one_more, one_less, behind-within, behind-few, from-few}
 use Rattle.codewords.proofs.PlaceLaws.{less_left, left-within, share-at, share-within, not_above}
 use Rattle.codewords.proofs.SearchLaws.{still, skipped, searched, found, number-next, row_next, holds, too_small, taken_off}
 use Rattle.codewords.proofs.unranking.write_codeword.Goals as goal
@@ -32,43 +32,43 @@ table_is shape work held = held
 
 -- the places behind this one
 abbrev places : At-loop-share → ℕ
-places c = c.args.shape.chains - 1 - c.loop-place.place
+places c = c.args.limited.shape.chains - 1 - c.loop-place.place
 
 -- the number lies in one of the shares
-number-below : (c : At-loop-share) → value c.loop-place.n < sum_to (share (D c.args.shape.width (places c)) c.loop-place.left) c.args.shape.width
+number-below : (c : At-loop-share) → value c.loop-place.n < sum_to (share (D c.args.limited.shape.width (places c)) c.loop-place.left) c.args.limited.shape.width
 unfolding D
-number-below c = rw (one_more c.args.shape.chains c.loop-place.place c.loop-place-test.true) at c.loop-place.invariant.below
+number-below c = rw (one_more c.args.limited.shape.chains c.loop-place.place c.loop-place-test.true) at c.loop-place.invariant.below
 
 -- the length looked at is one that can be placed
-placing : (c : At-loop-share) → (c.loop-share.j < c.args.shape.width) × (c.loop-share.j ≤ c.loop-place.left)
+placing : (c : At-loop-share) → (c.loop-share.j < c.args.limited.shape.width) × (c.loop-share.j ≤ c.loop-place.left)
 placing c =
-    still (D c.args.shape.width (places c)) c.loop-place.left c.args.shape.width c.loop-share.j (value c.loop-place.n) (value c.loop-share.n)
+    still (D c.args.limited.shape.width (places c)) c.loop-place.left c.args.limited.shape.width c.loop-share.j (value c.loop-place.n) (value c.loop-share.n)
     c.loop-share.invariant.split (number-below c)
 
 few : (c : At-loop-share) → places c ≤ 40
-few c = behind-few c.args.shape.chains c.loop-place.place (limits c.args.shape c.requires.in_limits).2
+few c = behind-few c.args.limited.shape.chains c.loop-place.place (limits c.args.limited.shape c.args.limited.limits).2
 
-read-room : (c : At-loop-share) → 5 * (places c * (c.args.shape.sum + 1) + c.loop-place.left) + 5 ≤ length c.args.table.now
+read-room : (c : At-loop-share) → 5 * (places c * (c.args.limited.shape.sum + 1) + c.loop-place.left) + 5 ≤ length c.args.table.now
 read-room c =
-    let shape = c.args.shape in
+    let shape = c.args.limited.shape in
     cell_within shape.width shape.sum (shape.chains + 1) c.args.table.now (table_is shape c.args.table.now c.requires.holds) (places c) c.loop-place.left
     (behind-within shape.chains c.loop-place.place) c.loop-place.invariant.most
 
 -- the number left fits five words
 small : (c : At-loop-share) → value c.loop-share.n < 2 ^ 160
 small c =
-    let shape = c.args.shape in
+    let shape = c.args.limited.shape in
     let l = c.loop-place in
-    let h = limits shape c.requires.in_limits in
+    let h = limits shape c.args.limited.limits in
     lt_of_le_of_lt (not_above (sum_to (share (D shape.width (places c)) l.left) c.loop-share.j) (value c.loop-share.n) c.loop-share.invariant.split)
     (lt_trans l.invariant.below (D-small shape.width (shape.chains - l.place) l.left h.0 h.1 (from-few shape.chains l.place h.2)))
 
 -- the number read is the share of the length
 share-read : (c : At-loop-share) {s : List ℕ}
-    → s ≡ take 5 (drop (5 * (places c * (c.args.shape.sum + 1) + c.loop-place.left - c.loop-share.j)) c.args.table.now)
-    → s ≡ to_words 5 (D c.args.shape.width (places c) (c.loop-place.left - c.loop-share.j))
+    → s ≡ take 5 (drop (5 * (places c * (c.args.limited.shape.sum + 1) + c.loop-place.left - c.loop-share.j)) c.args.table.now)
+    → s ≡ to_words 5 (D c.args.limited.shape.width (places c) (c.loop-place.left - c.loop-share.j))
 share-read c read =
-    let shape = c.args.shape in
+    let shape = c.args.limited.shape in
     let table = c.args.table.now in
     let left = c.loop-place.left in
     let at = share-at (places c * (shape.sum + 1)) left c.loop-share.j (placing c).1 in
@@ -77,21 +77,20 @@ share-read c read =
     (behind-within shape.chains c.loop-place.place) (left-within left c.loop-share.j c.loop-place.invariant.most)
 
 -- the length found is that of the definition
-found_here : (c : At-loop-share) (s : List ℕ) → s ≡ to_words 5 (D c.args.shape.width (places c) (c.loop-place.left - c.loop-share.j))
+found_here : (c : At-loop-share) (s : List ℕ) → s ≡ to_words 5 (D c.args.limited.shape.width (places c) (c.loop-place.left - c.loop-share.j))
     → ltb (value c.loop-share.n) (value s) ≡ true
-    → search-from (share (D c.args.shape.width (places c)) c.loop-place.left) c.args.shape.width 0 (value c.loop-place.n)
+    → search-from (share (D c.args.limited.shape.width (places c)) c.loop-place.left) c.args.limited.shape.width 0 (value c.loop-place.n)
     ≡ record { digit = c.loop-share.j; number = value c.loop-share.n }
 found_here c s read test =
-    let w = c.args.shape.width in
+    let w = c.args.limited.shape.width in
     let left = c.loop-place.left in
-    let h = limits c.args.shape c.requires.in_limits in
+    let h = limits c.args.limited.shape c.args.limited.limits in
     let inside = holds w (places c) left c.loop-share.j h.0 h.1 (few c) (placing c).1 c.loop-share.n s read test in
     sym c.loop-share.invariant.searched ∙ found (share (D w (places c)) left) w c.loop-share.j (value c.loop-share.n) (placing c).0 inside
 
 pub loop-place-init : goal.loop-place-init
 unfolding count
 loop-place-init c = record {
-  within = omega arith;
   most = omega arith;
   same_length = refl;
   below = rw sub-zero c.requires.number_bound;
@@ -109,10 +108,10 @@ overflow_sub-above-in-loop-share c = omega (arith, (placing (goal.at.overflow_su
 pub load-share-requires : goal.load-share-requires
 load-share-requires c =
     let q = (goal.at.load-share-requires c).At-loop-share in
-    share-within (places q * (c.args.shape.sum + 1)) c.loop-place.left c.loop-share.j (read-room q)
+    share-within (places q * (c.args.limited.shape.sum + 1)) c.loop-place.left c.loop-share.j (read-room q)
 
 pub overflow_add-j : goal.overflow_add-j
-overflow_add-j c = omega (arith, (placing (goal.at.overflow_add-j c).At-loop-share).0, limits c.args.shape c.requires.in_limits)
+overflow_add-j c = omega (arith, (placing (goal.at.overflow_add-j c).At-loop-share).0, limits c.args.limited.shape c.args.limited.limits)
 
 pub loop-share-smaller : goal.loop-share-smaller
 loop-share-smaller c = omega (arith, (placing (goal.at.loop-share-smaller c).At-loop-share).0)
@@ -121,11 +120,11 @@ pub loop-share-preserved : goal.loop-share-preserved
 loop-share-preserved c =
     let q = (goal.at.loop-share-preserved c).At-loop-share in
     let read = share-read q c.load-share.ensures in
-    let w = c.args.shape.width in
+    let w = c.args.limited.shape.width in
     let left = c.loop-place.left in
     let j = c.loop-share.j in
     let n = c.loop-share.n in
-    let h = limits c.args.shape c.requires.in_limits in
+    let h = limits c.args.limited.shape c.args.limited.limits in
     let f = share (D w (places q)) left in
     let more = too_small w (places q) left j h.0 h.1 (few q) (placing q).1 n _ read (sym c.if-less.ensures) in
     let off = taken_off w (places q) left j h.0 h.1 (few q) (placing q).1 n _ read _ (small q) c.subtract-rest.ensures in
@@ -135,7 +134,7 @@ loop-share-preserved c =
     }
 
 pub overflow_cast-row : goal.overflow_cast-row
-overflow_cast-row c = omega (arith, (placing (goal.at.overflow_cast-row c).At-loop-share).0, limits c.args.shape c.requires.in_limits)
+overflow_cast-row c = omega (arith, (placing (goal.at.overflow_cast-row c).At-loop-share).0, limits c.args.limited.shape c.args.limited.limits)
 
 pub overflow_sub-left : goal.overflow_sub-left
 overflow_sub-left c = (placing (goal.at.overflow_sub-left c).At-loop-share).1
@@ -143,7 +142,7 @@ overflow_sub-left c = (placing (goal.at.overflow_sub-left c).At-loop-share).1
 pub loop-place-preserved : goal.loop-place-preserved
 loop-place-preserved c =
     let q = (goal.at.loop-place-preserved c).At-loop-share in
-    let shape = c.args.shape in
+    let shape = c.args.limited.shape in
     let l = c.loop-place in
     let j = c.loop-share.j in
     let m = value c.loop-share.n in
@@ -152,7 +151,6 @@ loop-place-preserved c =
     let e = found_here q _ (share-read q c.load-share.ensures) (sym c.if-less.ensures) in
     let inside : l.place < length l.row = omega (arith, c.requires.chains_in_bounds, l.invariant.same_length) in
     record {
-      within = next-within shape.chains l.place c.loop-place-test.true;
       most = less_left l.left j l.invariant.most;
       same_length = simp length-set l.invariant.same_length;
       below = rw behind (number-next shape.width (places q) l.left (value l.n) j m e (rw here at l.invariant.below));
@@ -165,8 +163,8 @@ unfolding codeword
 returns c =
     let l = c.loop-place in
     let a = c.args in
-    let all : l.place ≡ a.shape.chains = omega arith in
-    let none : a.shape.chains - l.place ≡ 0 = omega arith in
+    let all : l.place ≡ a.limited.shape.chains = omega arith in
+    let none : a.limited.shape.chains - l.place ≡ 0 = omega arith in
     let whole = sym (append-nil (take l.place l.row)) ∙ rw none at l.invariant.written in
     sym (take-append-drop l.place l.row) ∙ ap (λ front. front ++ drop l.place l.row) whole
-    ∙ ap (λ rest. codeword a.shape.width a.shape.chains a.shape.sum (value a.number) ++ rest) (l.invariant.behind ∙ ap (λ k. drop k a.row.now) all)
+    ∙ ap (λ rest. codeword a.limited.shape.width a.limited.shape.chains a.limited.shape.sum (value a.number) ++ rest) (l.invariant.behind ∙ ap (λ k. drop k a.row.now) all)

@@ -1,14 +1,19 @@
--- Five stores, one after another, are a paste of the number's five words.
-use Rattle.std.proofs.Common.{rules, arith, ◌≡◌, ◌+◌, ◌*◌, length, take, drop, List, ℕ, ◌++◌, slice_index_or, sym, ap, ◌∙◌}
-use Rattle.lists.proofs.Lists.{part_5}
-use Rattle.lists.proofs.Fill.{store_5}
+-- A turn writes one word more.
+use Rattle.std.proofs.Common.{◌≡◌, ◌*◌, length, arith, rules}
+use Rattle.std.proofs.Math.Seq.{paste-zero}
+use Rattle.std.proofs.lemmas.List.Edits.{paste_more}
 use Rattle.counts.proofs.cells.store.Goals as goal
+
+pub loop-i-init : goal.loop-i-init
+loop-i-init c = paste-zero c.args.table.now (5 * c.args.k) c.args.n
+
+pub loop-i-preserved : goal.loop-i-preserved
+loop-i-preserved c =
+    let long : length c.args.n ≡ 5 = search rules in
+    rw c.loop-i.invariant (paste_more c.args.table.now (5 * c.args.k) c.args.n c.loop-i.i 0 (omega arith) (omega arith))
 
 pub returns : goal.returns
 returns c =
-    let table = c.args.table.now in
-    let at = 5 * c.args.k in
-    let n : List ℕ = c.args.n in
-    let long : length n ≡ 5 = search rules in
-    store_5 table at (slice_index_or n 0 0) (slice_index_or n 1 0) (slice_index_or n 2 0) (slice_index_or n 3 0) (slice_index_or n 4 0) c.requires
-    ∙ ap (λ v. take at table ++ v ++ drop (at + 5) table) (sym (part_5 0 n 0 (omega arith)))
+    let long : length c.args.n ≡ 5 = search rules in
+    let all : c.loop-i.i ≡ 5 = omega arith in
+    rw all at c.loop-i.invariant

@@ -9,10 +9,9 @@ use Rattle.counts.proofs.table.fill_row.Goals as goal
 pub loop-t-init : goal.loop-t-init
 unfolding value
 loop-t-init c = record {
-  within = omega arith;
   same_length = refl;
   filled = row_begins c.args.width c.args.sum c.args.i c.args.table.now c.requires.table_value;
-  last = c.from_words-n.ensures ∙ sym (share-start (D c.args.width c.args.i));
+  last = c.from-n.ensures ∙ sym (share-start (D c.args.width c.args.i));
 }
 
 pub cell-n-requires : goal.cell-n-requires
@@ -34,9 +33,8 @@ loop-t-preserved c =
     let a = c.args in
     let t = c.loop-t.t in
     let room : 5 * (a.i * (a.sum + 1) + t) + 5 ≤ length a.table.now = omega (arith, row_end a.i a.sum, c.requires.sum_in_bounds) in
-    let words = c.to_words.ensures ∙ ap (to_words 5) c.cell-n.ensures in
+    let words = c.from.ensures ∙ ap (to_words 5) c.cell-n.ensures in
     record {
-      within = omega arith;
       same_length = c.store.auto.table ∙ c.loop-t.invariant.same_length;
       filled = next_cell a.width a.sum a.i t a.table.now _ _ _ room c.loop-t.invariant.filled words c.store.ensures;
       last = c.cell-n.ensures ∙ sym (share-before (D a.width a.i) t);

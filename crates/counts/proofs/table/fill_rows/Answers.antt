@@ -10,8 +10,6 @@ first_row-requires c = omega (arith, row_end c.args.chains c.args.sum)
 pub loop-i-init : goal.loop-i-init
 loop-i-init c = record {
   filled = c.first_row.ensures c.args.width;
-  below_first = omega arith;
-  within = omega arith;
   same_length = c.first_row.auto.table;
 }
 
@@ -22,7 +20,7 @@ fill_row-requires c =
     let limits = c.requires.le_width in
     let within : (i + 1) * (a.sum + 1) ≤ (a.chains + 1) * (a.sum + 1) = mul-le-mul_right (a.sum + 1) (omega arith) in
     record {
-      le_width = (limits.0, limits.1, c.loop-i.invariant.below_first, omega arith, limits.3);
+      le_width = (limits.0, limits.1, omega arith, omega arith, limits.3);
       table_value = above_row a.width a.sum i _ _ c.loop-i.invariant.filled;
       sum_in_bounds = omega (arith, c.requires.sum_in_bounds, c.loop-i.invariant.same_length);
     }
@@ -30,8 +28,6 @@ fill_row-requires c =
 pub loop-i-preserved : goal.loop-i-preserved
 loop-i-preserved c = record {
   filled = rows-over c.args.width c.args.sum (omega arith) _ c.loop-i.invariant.filled c.fill_row.ensures;
-  below_first = omega arith;
-  within = omega arith;
   same_length = c.fill_row.auto.table ∙ c.loop-i.invariant.same_length;
 }
 

@@ -1,15 +1,10 @@
 -- The rows above i are there, and what is behind them is as it was.
-use Rattle.std.proofs.Common.{◌-◌, ◌≡◌, ◌++◌, ◌+◌, ◌*◌, ◌≤◌, length, drop}
+use Rattle.std.proofs.Common.{◌≡◌, ◌++◌, ◌+◌, ◌*◌, length, drop}
 use Rattle.counts.specs.Table.{rows}
 use Rattle.counts.proofs.table.fill_rows.Given as goal
 
 abbrev pub invariant-loop-i : goal.invariant-loop-i
 invariant-loop-i l = record {
   filled : l.table ≡ rows l.width l.sum l.i ++ drop (5 * (l.i * (l.sum + 1))) l.fn.table;
-  below_first : 1 ≤ l.i;
-  within : l.i ≤ l.chains + 1;
   same_length : length l.table ≡ length l.fn.table;
 }
-
-abbrev pub decreases-loop-i : goal.decreases-loop-i
-decreases-loop-i l = l.chains + 1 - l.i

@@ -1,10 +1,7 @@
--- So far what is left is the number shifted by whole words, and not 0 once anything was.
+-- So far no word from place `i` on is not 0.
+use Rattle.std.proofs.Common.{◌≡◌, take}
 use Rattle.numbers.specs.Number.{value}
-use Rattle.numbers.proofs.PowerLaws.{Shifted}
 use Rattle.numbers.proofs.powers.log2.Given as goal
 
-abbrev pub invariant-loop-rest : goal.invariant-loop-rest
-invariant-loop-rest l = Shifted (value l.initial.rest) l.log (value l.rest)
-
-abbrev pub decreases-loop-rest : goal.decreases-loop-rest
-decreases-loop-rest l = value l.rest
+abbrev pub invariant-loop-i : goal.invariant-loop-i
+invariant-loop-i l = value l.n ≡ value (take l.i l.n)

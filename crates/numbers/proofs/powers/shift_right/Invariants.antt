@@ -1,10 +1,7 @@
--- So far what is left to shift, of what is left, gives the same.
-use Rattle.std.proofs.Common.{◌≡◌, ◌/◌, ◌^◌}
+-- So far what is left is the number shifted by the words that are done.
+use Rattle.std.proofs.Common.{◌≡◌, ◌*◌, ◌/◌, ◌^◌}
 use Rattle.numbers.specs.Number.{value}
 use Rattle.numbers.proofs.powers.shift_right.Given as goal
 
-abbrev pub invariant-loop-left : goal.invariant-loop-left
-invariant-loop-left l = value l.rest / 2 ^ l.left ≡ value l.initial.rest / 2 ^ l.bits
-
-abbrev pub decreases-loop-left : goal.decreases-loop-left
-decreases-loop-left l = l.left
+abbrev pub invariant-loop : goal.invariant-loop
+invariant-loop l = value l.rest ≡ value l.fn.n / 2 ^ (32 * l.counter)

@@ -1,11 +1,10 @@
--- The loop of `absorb`: what is still to be absorbed, absorbed into v, gives the whole.
-use Rattle.std.proofs.Common.{◌≡◌, ◌-◌, ◌≤◌, length, drop}
+-- What is still to be absorbed, absorbed into the words, gives the whole.
+use Rattle.std.proofs.Common.{◌≡◌}
 use Rattle.sha256.specs.Digest.{compress_all}
 use Rattle.sha256.proofs.running.absorb.Given as goal
 
-abbrev pub invariant-loop-at : goal.invariant-loop-at
-invariant-loop-at l =
-    record { in_range : l.at ≤ length l.bytes; words : compress_all l.v (drop l.at l.bytes) ≡ compress_all l.initial.v l.bytes }
-
-abbrev pub decreases-loop-at : goal.decreases-loop-at
-decreases-loop-at l = length l.bytes - l.at
+abbrev pub invariant-loop-block : goal.invariant-loop-block
+invariant-loop-block l = record {
+  whole : l.block-iterator.size ≡ 64;
+  words : compress_all l.words l.block-iterator.rest.now ≡ compress_all l.initial.words l.bytes;
+}

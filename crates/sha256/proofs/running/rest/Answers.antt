@@ -1,14 +1,14 @@
--- `rest` meets its contract: the bytes behind the last whole block are pasted into zeros.
-use Rattle.std.proofs.Common.{◌≡◌, [], ◌+◌, ◌*◌, ◌/◌, ◌%◌, length, drop, refl, ◌∙◌, arith, length-drop}
-use Rattle.lists.proofs.Fill.{paste_next, part_to_end}
+-- The bytes behind the last whole block are copied into zeros.
+use Rattle.std.proofs.Common.{◌≡◌, [], ◌+◌, ◌-◌, ◌*◌, ◌/◌, ◌%◌, length, drop, refl, ap, ◌∙◌, arith, length-drop}
 use Rattle.sha256.specs.Running.{rest}
+use Rattle.sha256.proofs.Extension.{copied}
 use Rattle.sha256.proofs.running.rest.Goals as goal
 
 pub returns : goal.returns
 unfolding rest
 returns c =
     let bytes = c.args.bytes.now in
-    let at = length bytes / 64 * 64 in
-    let left : length bytes % 64 ≡ 0 + length (drop at bytes) = omega (arith, length-drop at bytes) in
-    let put = rw part_to_end at c.put.ensures in
-    rw left (put ∙ paste_next [] 0 (drop at bytes) 0 64 refl (omega (arith, length-drop at bytes)))
+    let front : length bytes - length bytes % 64 ≡ length bytes / 64 * 64 = omega arith in
+    let behind : c.remainder.result.now ≡ drop (length bytes / 64 * 64) bytes = rw front at (c.remainder.ensures ∙ c.chunks_exact.ensures.remainder) in
+    let left : 0 + length c.remainder.result.now ≡ length bytes % 64 = omega (arith, ap length behind ∙ length-drop (length bytes / 64 * 64) bytes) in
+    copied [] c.remainder.result.now 0 refl (omega arith) refl c.copy.ensures ∙ rw (left, behind)

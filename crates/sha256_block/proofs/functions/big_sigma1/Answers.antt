@@ -1,8 +1,7 @@
--- `big_sigma1` meets its contract: the rotations are what `rotr` ensures.
-use Rattle.sha256_block.specs.Functions.{Σ₁}
-use Rattle.sha256_block.proofs.Words.{xored}
+-- `big_sigma1` meets its contract: the library's rotations are those of the standard.
+use Rattle.sha256_block.specs.Functions.{Σ₁, rotr, shr, shl}
 use Rattle.sha256_block.proofs.functions.big_sigma1.Goals as goal
 
 pub returns : goal.returns
-unfolding Σ₁
-returns c = xored c.rotr.ensures c.rotr-2.ensures c.rotr-3.ensures
+unfolding Σ₁ rotr shr shl
+returns c = rw (c.rotate_right.ensures, c.rotate_right-2.ensures, c.rotate_right-3.ensures)

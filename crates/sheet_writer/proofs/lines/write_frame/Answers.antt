@@ -7,19 +7,19 @@ use Rattle.sheet_writer.proofs.lines.write_frame.Goals as goal
 
 pub write_head-requires : goal.write_head-requires
 write_head-requires c =
-    let size = c.frame_size-size.ensures in (
+    let size = c.frame_size-fixed.ensures in (
       c.requires.0,
-      c.requires.1,
       size.fixed,
-      omega (arith, c.requires.2, line-long (frame_at c.args.p c.args.k).head c.args.bytes.now, size.fixed),
+      omega (arith, c.requires.1, line-long (frame_at c.args.limited.profile c.args.k).head c.args.bytes.now, size.fixed),
     )
 
 pub write_line-requires : goal.write_line-requires
 write_line-requires c =
-    omega (arith, c.requires.2, line-long (frame_at c.args.p c.args.k).head c.args.bytes.now, c.frame_size-size.ensures.fixed, c.write_head.auto.sheet)
+    let head = (frame_at c.args.limited.profile c.args.k).head in
+    omega (arith, c.requires.1, line-long head c.args.bytes.now, c.frame_size-fixed.ensures.fixed, c.write_head.auto.sheet)
 
 pub returns : goal.returns
 returns c =
-    let size = c.frame_size-size in
-    frame_written c.args.sheet.now c.args.at (frame_at c.args.p c.args.k) c.args.bytes.now size.result.fixed size.ensures.fixed
-    c.requires.2 c.write_head.ensures c.write_line.ensures.0 c.write_line.ensures.1
+    let size = c.frame_size-fixed in
+    frame_written c.args.sheet.now c.args.at (frame_at c.args.limited.profile c.args.k) c.args.bytes.now size.result.fixed size.ensures.fixed
+    c.requires.1 c.write_head.ensures c.write_line.ensures.0 c.write_line.ensures.1

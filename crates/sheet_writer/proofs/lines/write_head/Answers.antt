@@ -7,22 +7,17 @@ use Rattle.frames.specs.Frames.{frame_at}
 use Rattle.sheet_writer.proofs.lines.write_head.Goals as goal
 
 pub loop-i-init : goal.loop-i-init
-loop-i-init c = record {
-  in_range = omega arith;
-  pairs = write_start (pair_of (frame_at c.args.p c.args.k).head) 2 c.args.at c.args.sheet.now;
-}
+loop-i-init c = write_start (pair_of (frame_at c.args.limited.profile c.args.k).head) 2 c.args.at c.args.sheet.now
 
 pub loop-i-preserved : goal.loop-i-preserved
 loop-i-preserved c =
-    let head = (frame_at c.args.p c.args.k).head in
-    record {
-      in_range = omega arith;
-      pairs = write_next (pair_of head) 2 c.args.fixed (λ i h. pair_long head i) c.args.at c.args.sheet.now c.requires.3 c.loop-i.i
-          (omega arith) (ap (λ b. hex_of (b ∷ [])) c.head_byte.ensures) c.loop-i.invariant.pairs c.write_byte.ensures;
-    }
+    let head = (frame_at c.args.limited.profile c.args.k).head in
+    write_next (pair_of head) 2 c.args.fixed (λ i h. pair_long head i) c.args.at c.args.sheet.now c.requires.2 c.loop-i.i (omega arith)
+    (ap (λ b. hex_of (b ∷ [])) c.head_byte.ensures) c.loop-i.invariant c.write_byte.ensures
 
 pub returns : goal.returns
 returns c =
-    let all : c.loop-i.i ≡ length (frame_at c.args.p c.args.k).head = omega (arith, c.requires.2) in
-    let fixed : c.args.fixed ≡ length (frame_at c.args.p c.args.k).head = c.requires.2 in
-    c.loop-i.invariant.pairs ∙ rw (all, fixed, all-joined)
+    let head = (frame_at c.args.limited.profile c.args.k).head in
+    let all : c.loop-i.i ≡ length head = omega (arith, c.requires.1) in
+    let fixed : c.args.fixed ≡ length head = c.requires.1 in
+    c.loop-i.invariant ∙ rw (all, fixed, all-joined)

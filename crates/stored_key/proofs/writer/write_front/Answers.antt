@@ -8,5 +8,6 @@ returns c =
     let a = c.args in
     let seed_long : length a.seed ≡ 16 = search rules in
     let secret_long : length a.secret ≡ 16 = search rules in
-    front-written a.p a.seed a.secret a.frame.now seed_long secret_long (rw (front-taken a.p c.profile_head-front.ensures) at c.write_bytes.ensures)
+    let front = front-taken a.limited.profile (rw c.byte.ensures at c.profile_head-front.ensures) in
+    front-written a.limited.profile a.seed a.secret a.frame.now seed_long secret_long (rw front at c.write_bytes.ensures)
     c.write_bytes-2.ensures c.write_bytes-3.ensures

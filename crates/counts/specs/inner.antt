@@ -1,2 +1,0 @@
--- What only inner functions need.
-pub mod Filling

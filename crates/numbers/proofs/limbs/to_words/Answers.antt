@@ -1,7 +1,0 @@
--- A limb is two words.
-use Rattle.std.proofs.Common.{rules}
-use Rattle.numbers.proofs.LimbLaws.{words-number}
-use Rattle.numbers.proofs.limbs.to_words.Goals as goal
-
-pub returns : goal.returns
-returns c = words-number c.args.n (search rules) (search rules) (search rules)
