@@ -132,31 +132,30 @@ module _ (v : Verifier) (message signature : List ℕ) where
     root_found climb =
         climb ∙ rw (own, recovered-front (chains_of v.profile.shape) row placed (first_domain v.seed) (values_in v.profile signature) (leaf_in signature))
 
-    pub root_compared : {top : List ℕ} {unequal : Bool}
+    -- past 19, the comparison of the roots decides: granted, the leaf is taken
+    pub judge_decided : {o : Result (Unit {0}) Refusal} {left : Verifier} {top : List ℕ} {unequal : Bool} {steps : ℕ} → few ≡ false
         → top
         ≡ recovered_root (first_domain v.seed) (chains_of v.profile.shape) v.profile.height leaf row (values_in v.profile signature)
         (siblings_in v.profile signature)
-        → unequal ≡ not (bytes_eq top v.root) → unequal ≡ differs
-    root_compared {top} climb looked = looked ∙ ap not (same_compared top v.root) ∙ rw (root_found climb) refl
-
-    pub steps_found : {steps : ℕ} → steps ≡ steps_left (chains_of v.profile.shape) row → steps ≡ steps_in v message signature
-    steps_found made = made ∙ steps-left-front (chains_of v.profile.shape) row placed
+        → steps ≡ steps_left (chains_of v.profile.shape) row → unequal ≡ not (bytes_eq top v.root)
+        → outcome_code o ≡ first_cause ((unequal, 15) ∷ [])
+        → left ≡ cond (is_ok o) (with_accepted v (leaf_in signature)) v
+        → Judges v message signature left (record { outcome = o; steps = steps })
+    unfolding judge_code judge_steps
+    judge_decided {o} {top} {unequal} enough climb made compared looked kept =
+        let same : unequal ≡ differs = compared ∙ ap not (same_compared top v.root) ∙ rw (root_found climb) refl in
+        let code : outcome_code o ≡ first_cause (judge_causes v message signature) = looked ∙ rw (enough, same) in
+        record {
+          code = code;
+          verifier = kept ∙ rw (← granted_exactly o, code);
+          steps = made ∙ steps-left-front (chains_of v.profile.shape) row placed ∙ rw enough;
+        }
 
   -- the cabinet once its window has taken the leaf
   pub leaf_accepted : {leaf : ℕ} {window : Window} → leaf ≡ leaf_in signature → window ≡ taken v.window leaf
       → record { profile = v.profile; seed = v.seed; root = v.root; window = window } ≡ with_accepted v (leaf_in signature)
   unfolding with_accepted
   leaf_accepted own e = rw (e, own) refl
-
-  -- past 19, the comparison of the roots decides: granted, the leaf is taken
-  pub judge_decided : {o : Result (Unit {0}) Refusal} {left : Verifier} {unequal : Bool} {steps : ℕ} → few ≡ false
-      → outcome_code o ≡ first_cause ((unequal, 15) ∷ []) → unequal ≡ differs
-      → left ≡ cond (is_ok o) (with_accepted v (leaf_in signature)) v → steps ≡ steps_in v message signature
-      → Judges v message signature left (record { outcome = o; steps = steps })
-  unfolding judge_code judge_steps
-  judge_decided {o} enough looked compared kept made =
-      let code : outcome_code o ≡ first_cause (judge_causes v message signature) = looked ∙ rw (enough, compared) in
-      record { code = code; verifier = kept ∙ rw (← granted_exactly o, code); steps = made ∙ rw enough }
 
 -- Check: the causes before the table, and the judging behind it
 module _ (v : Verifier) (call : VerifyingCall) where
