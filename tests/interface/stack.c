@@ -1,4 +1,5 @@
-/* Makes a call on a stack of its own and tells how much of it the call has taken; built and used by stack.py. */
+/* Makes a call on a stack of its own and tells how much of it the call has taken, and how often a secret stands there when it
+ * has returned; built and used by stack.py. */
 #define _GNU_SOURCE
 
 #include <stdint.h>
@@ -18,6 +19,10 @@ static function *called;
 static const uint64_t *a;
 static uint32_t outcome;
 static uint8_t *frame;
+
+/* The 16 bytes that are looked for, and how often they stand in what the last call has left below its caller. */
+const uint8_t *secret;
+size_t copies;
 
 static void run(void)
 {
@@ -49,6 +54,9 @@ size_t stack_taken(function *to_call, const uint64_t *arguments, int paint, uint
     while (stack[untouched] == (uint8_t)paint)
         untouched++;
     size_t taken = (size_t)(frame - (stack + untouched));
+    copies = 0;
+    for (uint8_t *p = stack + untouched; p + 16 <= frame; p++)
+        copies += memcmp(p, secret, 16) == 0;
     munmap(memory, GUARD + SIZE);
     return taken;
 }

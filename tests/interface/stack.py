@@ -1,5 +1,6 @@
 """Measures the stack that each function of the C interface takes, and holds it to the bound that
-docs/INTERFACE.md states.
+docs/INTERFACE.md states. At the gate profile in both editions it also counts the copies of the
+secret seed that are left there, and holds them to what docs/SECURITY.md states.
 
     python3 tests/interface/stack.py [--archive FILE]
 
@@ -15,6 +16,7 @@ import re
 import sys
 import tempfile
 from collections import Counter
+from itertools import count
 
 from paths import ROOT, fail, say
 
@@ -22,8 +24,17 @@ from archived import archive_of, archive_parser, shared_object
 from operations import MOST_HASHED, ORDERS, TABLE, length_of, parameters, unit_of
 from keys import right_frame
 from sheets import right_sheet
-from signatures import GATE, GATE_2, LEAST_COUNT, Profile, count_of, reserved_key, signature_length
-from zarosnik import number_words, table_length
+from signatures import (
+    GATE,
+    GATE_2,
+    LEAST_COUNT,
+    Profile,
+    count_of,
+    message_number,
+    reserved_key,
+    signature_length,
+)
+from zarosnik import number_of, number_words, row_of, table_length
 
 PAINTS = (0xA5, 0x5A)
 ARGUMENTS = 16
@@ -32,12 +43,25 @@ ARGUMENTS = 16
 SUMS = (0, 2, 133, 300, 598, 600)
 PROFILES = [GATE, GATE_2, *(Profile(40, 16, s, 10, 2) for s in SUMS)]
 PAGE = ROOT / "docs" / "INTERFACE.md"
+SECURITY = ROOT / "docs" / "SECURITY.md"
+PUBLIC_SEED, SECRET_SEED = bytes(range(1, 17)), bytes(range(0xC0, 0xD0))
+# The functions that are lent the secret seed, or a frame that holds it, by the page's names.
+LENT = {
+    "leaf_key": "Leaf key",
+    "root": "Root",
+    "one_time_sign": "Reveal",
+    "write_key": "Write key",
+    "sign": "Sign",
+    "read_key": "Read key",
+}
+NUMBERS = ["no", "one", "two", "three", "four", "five", "six", "seven", "eight", "nine"]
 
 
 def built(archive, folder):
     options = ["-std=c11", "-O2", "-fPIC", "-Wall", "-Wextra", "-Wpedantic", "-Werror"]
     library = ctypes.CDLL(shared_object(archive, folder, *options, "tests/interface/stack.c"))
     library.stack_taken.restype = ctypes.c_size_t
+    ctypes.c_char_p.in_dll(library, "secret").value = SECRET_SEED
     return library
 
 
@@ -50,7 +74,7 @@ class Caller:
     """Calls functions at one profile. What a call writes, the next may read."""
 
     def __init__(self, library, p):
-        self.library, self.p, self.taken = library, p, Counter()
+        self.library, self.p, self.taken, self.copies = library, p, Counter(), Counter()
         signature, text = bytes(signature_length(p)), bytes(range(200))
         slices = {
             "data": bytes(MOST_HASHED),
@@ -60,7 +84,9 @@ class Caller:
             "message": text,
             "signature": signature,
             "sheet": right_sheet(p, signature, text),
-            "frame": right_frame(reserved_key(p, bytes(16), bytes(16), 0)),
+            "frame": right_frame(reserved_key(p, PUBLIC_SEED, SECRET_SEED, 0)),
+            "public_seed": PUBLIC_SEED,
+            "secret_seed": SECRET_SEED,
         }
         self.memory = {name: memory(name, content) for name, content in slices.items()}
         for name in {q.name for operation in TABLE for q in parameters(operation)} - slices.keys():
@@ -90,20 +116,42 @@ class Caller:
                 told = f"answered {outcome.value}, took {taken} bytes"
                 fail(f"{operation} at {self.p} must answer {expected}: {told}")
             self.taken[operation] = max(self.taken[operation], taken)
+            left = ctypes.c_size_t.in_dll(self.library, "copies").value
+            self.copies[operation] = max(self.copies[operation], left)
 
     def granted(self):
         """Every function; where the count is too small, an order is refused by 19. What Count has
         filled and Reveal, Sign and the writers have written, the others read."""
-        count = count_of(self.p)
-        order = 0 if count >= LEAST_COUNT else 19
-        self.memory["number"][:] = number_words(count // 2)
+        rows = count_of(self.p)
+        order = 0 if rows >= LEAST_COUNT else 19
+        self.memory["number"][:] = number_words(rows // 2)
         for operation in TABLE:
             self.call(operation, order if operation in ORDERS else 0)
             if operation == "count":
-                self.memory["number"][:] = number_words(count // 2)
+                self.memory["number"][:] = number_words(rows // 2)
         if order == 0:
             self.memory["message"][0] ^= 1
             self.call("verify", 15)
+
+    def shown_at_its_start(self):
+        """Reveal and Sign with a row whose last length is 0: what they leave of the seed depends on
+        whether the last chain is walked."""
+        p = self.p
+        high = p.s // (p.w - 1)
+        row = bytes([p.w - 1] * high + [p.s % (p.w - 1)] + [0] * (p.l - high - 1))
+        if row[-1]:
+            fail(f"no such row at {p}")
+        self.memory["number"][:] = number_words(number_of(p.w, p.s, row))
+        self.call("one_time_sign", 0)
+        leaf, root = (1 << p.h) - 1, bytes(self.memory["root"])
+        for drawn in count():
+            r = drawn.to_bytes(16, "big")
+            text = bytes(self.memory["message"])
+            number = message_number(p, r, PUBLIC_SEED, root, leaf, text)
+            if row_of(p.l, p.w, p.s, number)[-1] == 0:
+                break
+        self.memory["r"][:] = r
+        self.call("sign", 0)
 
     def refused(self):
         """By the last cause of each, on what the granted calls left."""
@@ -119,6 +167,28 @@ class Caller:
             self.call(operation, cause)
 
 
+def sentence(copies):
+    """What the page says of the copies that are left."""
+    none = [name for operation, name in LENT.items() if copies[operation] == 0]
+    some = [f"{name} at most {NUMBERS[copies[o]]}" for o, name in LENT.items() if copies[o]]
+    leave = f"{', '.join(none[:-1])} and {none[-1]} leave no copy of the secret seed"
+    return f"{', '.join([leave, *some[:-1]])} and {some[-1]}"
+
+
+def hold_copies(callers):
+    """The most that a call has left at the gate profile, which where no secret is lent is none."""
+    copies = Counter()
+    for caller in callers:
+        if caller.p in (GATE, GATE_2):
+            copies |= caller.copies
+    if copies.keys() - LENT.keys():
+        fail(f"copies of the secret seed where it is not lent: {dict(copies)}")
+    told = sentence(copies)
+    if told not in SECURITY.read_text(encoding="utf-8"):
+        fail(f"docs/SECURITY.md must say '{told}'")
+    say(told)
+
+
 def main():
     archive = archive_of(archive_parser("Measures the stack of the C interface.").parse_args())
     with tempfile.TemporaryDirectory() as folder:
@@ -126,7 +196,10 @@ def main():
         callers = [Caller(library, p) for p in PROFILES]
         for caller in callers:
             caller.granted()
+            if caller.p in (GATE, GATE_2):
+                caller.shown_at_its_start()
             caller.refused()
+    hold_copies(callers)
     taken = {name: [caller.taken[name] for caller in callers] for name in TABLE}
     for operation, numbers in taken.items():
         say(f"zarosnik_{operation}: {', '.join(map(str, numbers))} bytes")

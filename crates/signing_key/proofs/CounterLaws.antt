@@ -6,12 +6,14 @@ use Prim.Native.Nat.{ℕ, ◌+◌, ◌^◌, ◌≤◌, ◌<◌}
 use native.Mathlib.Omega.{arith}
 use borrow.Author.Tests.{leb-true, leb-false, le-leb, lt-leb}
 use lib.Dec.{leb}
-use Rattle.refusal.specs.Code.{first_cause}
-use Rattle.refusal.proofs.Causes.{none_here, none_then, none-of-append}
+use Rattle.std.specs.Prelude.{Result, Ok, Err}
+use Rattle.refusal.specs.Code.{outcome_code, first_cause}
+use Rattle.refusal.specs.declared.Refusal.{Refusal}
+use Rattle.refusal.proofs.Causes.{none_here, none_then, none-of-append, refused-number, refused_first, granted_first}
 use Rattle.profile.specs.Checks.{outside, profile_causes, counted_leaves}
 use Rattle.profile.specs.declared.Profile.{Profile}
 use Rattle.profile.proofs.Limits.{inside, not_outside, profile-numbered, counted-leaves}
-use Rattle.signing_key.specs.Counter.{mark_counts, spent, reserved, cleared, counter_causes, counter_after}
+use Rattle.signing_key.specs.Counter.{mark_counts, spent, reserved, cleared, counter_causes, counter_code, counter_after}
 use Rattle.signing_key.specs.Operations.{reserve_code}
 use Rattle.signing_key.specs.declared.Counter.{Counter}
 
@@ -53,6 +55,15 @@ unfolding mark_counts
 mark-counted h c word = rw (counted-leaves h c.next word).1
 
 module _ (p : Profile) (c : Counter) where
+  -- behind what a profile's checks answered, over as many leaves as its tree has, the causes of the counter are those of Reserve
+  pub checked-code : {A : Type 0} (r : Result A Refusal) {leaves : ℕ} → outcome_code r ≡ first_cause (profile_causes p)
+      → (outcome_code r ≡ 0 → leaves ≡ 2 ^ p.height) → counter_code (outcome_code r) leaves c ≡ reserve_code p c
+  unfolding counter_code reserve_code
+  checked-code {A} (Ok value) checked counted =
+      rw (counted refl) (sym (granted_first {A = A} {r = Ok value} (profile_causes p) (counter_causes (2 ^ p.height) c) {v = value} (profile-numbered p) refl checked))
+  checked-code {A} (Err cause) checked counted =
+      rw (refused-number {A = A} {r = Err cause} refl refl) (refused_first {A = A} {r = Err cause} (profile_causes p) (counter_causes (2 ^ p.height) c) refl checked)
+
   -- past the causes of Reserve the profile is within its limits, and a leaf is left
   pub can_reserve : reserve_code p c ≡ 0 → (first_cause (profile_causes p) ≡ 0) × LeafLeft (2 ^ p.height) c
   unfolding reserve_code

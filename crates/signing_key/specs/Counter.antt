@@ -1,7 +1,7 @@
 -- Document 02, point 5: "Reserve marks the next leaf and advances the key". What of a key counts its leaves, and what Reserve does to it,
 -- over any number of leaves.
 use Rattle.std.specs.Prelude.{◌≡◌, Bool, true, false, not, ◌&&◌, cond, List, [], ◌∷◌, ℕ, ◌+◌, ◌-◌, eqb, leb, Result}
-use Rattle.refusal.specs.Code.{outcome_code}
+use Rattle.refusal.specs.Code.{outcome_code, first_cause}
 use Rattle.refusal.specs.declared.Refusal.{Refusal}
 use Rattle.profile.specs.Checks.{outside}
 use Rattle.signing_key.specs.declared.Counter.{Counter}
@@ -33,6 +33,10 @@ cleared c = record { next = c.next; mark = false }
 -- "21 when reserve finds a mark, before 12"
 abbrev pub counter_causes : (leaves : ℕ) → Counter → List (Bool × ℕ)
 counter_causes leaves c = (mark_counts leaves c, 21) ∷ (spent leaves c, 12) ∷ []
+
+-- the code of the first of them that holds, behind a code so far: what is refused stays refused
+unfoldable pub counter_code : (checked leaves : ℕ) → Counter → ℕ
+counter_code checked leaves c = cond (eqb checked 0) (first_cause (counter_causes leaves c)) checked
 
 -- the counter that is left with the number of a cause, or 0: refused, as it came, an idle mark included
 unfoldable pub counter_after : (number : ℕ) → Counter → Counter

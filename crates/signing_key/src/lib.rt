@@ -2,7 +2,7 @@
 #![tactic(auto)]
 
 ghost use Rattle.std.specs.Prelude.{◌≡◌, ◌^◌, ◌<◌};
-ghost use Rattle.refusal.specs.Code.{first_cause};
+ghost use Rattle.refusal.specs.Code.{outcome_code};
 ghost use Rattle.signing_key.specs.Counter as spec;
 ghost use Rattle.signing_key.specs.Key.{restarted_key};
 ghost use Rattle.signing_key.specs.Operations.{Reserves};
@@ -50,12 +50,17 @@ fn spent(leaves: u64, c: Counter) -> bool
     leaves <= u64::from(c.next)
 }
 
-// Reserve over a number of leaves: refused for 21, then for 12, the counter is as it was.
-#[tactic(auto, unfolding(crate::specs::Counter::counter_after, crate::specs::Counter::spent))]
-pub fn reserve_leaf(leaves: u64, counter: &mut Counter) -> Result<(), Refusal>
-    requires { leaves < 2 ^ 32 }
-    ensures { spec.AnswersWith (first_cause (spec.counter_causes leaves counter.old)) counter.old counter.new result }
+// Reserve over a number of leaves, behind what a key's checks answered: refused there, for 21 or for 12, the counter is as it was.
+#[tactic(auto, unfolding(crate::specs::Counter::counter_after, crate::specs::Counter::counter_code, crate::specs::Counter::spent))]
+pub fn reserve_leaf(
+    checked: Result<(), Refusal>,
+    leaves: u64,
+    counter: &mut Counter,
+) -> Result<(), Refusal>
+    requires { outcome_code checked ≡ 0 → leaves < 2 ^ 32 }
+    ensures { spec.AnswersWith (spec.counter_code (outcome_code checked) leaves counter.old) counter.old counter.new result }
 {
+    checked?;
     refuse_if(mark_counts(leaves, *counter), Refusal::MarkStands)?;
     refuse_if(spent(leaves, *counter), Refusal::KeySpent)?;
     *counter = Counter {
@@ -69,8 +74,7 @@ pub fn reserve_leaf(leaves: u64, counter: &mut Counter) -> Result<(), Refusal>
 pub fn reserve(p: Profile, counter: &mut Counter) -> Result<(), Refusal>
     ensures { Reserves p counter.old counter.new result }
 {
-    check_profile(p)?;
-    reserve_leaf(leaf_count(p.height), counter)
+    reserve_leaf(check_profile(p), leaf_count(p.height), counter)
 }
 
 // The key with which a desk goes on after a restart, from the one that was stored: without a mark, since the stored key

@@ -9,9 +9,8 @@ use lib.Dec.{ltb, eqb}
 use lib.ListN.{length, get_or, take, drop, length-drop, drop_of_length-le}
 use lib.Seq.{drop-cons, drop-drop, get_or-drop}
 use Rattle.std.specs.Prelude.{Some, None, Result, Ok, Err}
-use Rattle.std.specs.Prelude.{is_some}
 use Rattle.std.specs.Option.{ok_or}
-use Rattle.std.specs.Result.{result_ok}
+use Rattle.std.specs.Result.{is_err}
 use Rattle.refusal.specs.Code.{code, outcome_code, first_cause}
 use Rattle.refusal.proofs.Positive.{code-positive}
 use Rattle.refusal.specs.declared.Refusal.{Refusal}
@@ -86,14 +85,14 @@ module _ (bytes : List ℕ) (long : frame_length ≤ length bytes) where
         get_or-drop 1 bytes (offset mark_field) 0,
       )
 
--- the value of an answer is there where it is granted
-pub value-granted : (r : Result (Unit {0}) Refusal) → {v : Unit {0}} → result_ok r ≡ Some v → outcome_code r ≡ 0
-value-granted (Ok v) q = refl
-value-granted (Err e) {v} q = absurd (true≢false (sym (ap is_some q)))
+-- an answer that is no refusal has the code 0, and one that is has another
+pub right-granted : (r : Result (Unit {0}) Refusal) → is_err r ≡ false → outcome_code r ≡ 0
+right-granted (Ok v) q = refl
+right-granted (Err e) q = absurd (true≢false q)
 
-pub none-refused : (r : Result (Unit {0}) Refusal) → result_ok r ≡ None → outcome_code r ≡ 0 → ⊥
-none-refused (Ok v) q z = true≢false (ap is_some q)
-none-refused (Err e) q z = let positive : 0 < code e = code-positive e in omega arith
+pub wrong-refused : (r : Result (Unit {0}) Refusal) → is_err r ≡ true → outcome_code r ≡ 0 → ⊥
+wrong-refused (Ok v) q z = true≢false (sym q)
+wrong-refused (Err e) q z = let positive : 0 < code e = code-positive e in omega arith
 
 module _ (frame : List ℕ) where
   -- a frame that is refused
@@ -119,6 +118,13 @@ module _ (frame : List ℕ) where
       by : (s : Stored) → read_stored frame ≡ s → ReadsKey frame (ok_or (key_found s) (SheetLine 1))
       by wrong_frame q = record { code = rw q; line = rw q; key = rw q }
       by (stored key) q = record { code = rw q; line = rw q; key = rw q }
+
+  -- a frame that is wrong is refused by 17 with line 1
+  pub wrong-answer : {cause : Refusal} {r : Result SigningKey Refusal} → key_found (read_stored frame) ≡ None → cause ≡ SheetLine 1 → r ≡ Err cause → ReadsKey frame r
+  wrong-answer none same told = key-answer (told ∙ rw (none, same) refl)
+
+  pub right-answer : {key : SigningKey} → key_found (read_stored frame) ≡ Some key → ReadsKey frame (Ok key)
+  right-answer found = key-answer (rw found refl)
 
   -- a line of other than the slice's bytes is no right frame of its length
   pub other-line : (old new : List ℕ) → length frame ≡ 2 * length old + 1 → ReadsLine frame 0 old new false → (bytes : List ℕ) → RightFrame frame bytes → ⊥

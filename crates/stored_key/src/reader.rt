@@ -1,9 +1,9 @@
 // Read key: the key of a frame.
 ghost use Rattle.std.specs.Prelude.{◌≡◌, cond, ◌+◌, ◌*◌, ◌≤◌, eqb, length, drop};
 ghost use Rattle.stored_key.specs.KeyFields.{key_length};
-ghost use Rattle.stored_key.specs.KeyFrame.{key_in, without_idle_mark, read_stored};
+ghost use Rattle.stored_key.specs.KeyFrame.{key_in, without_idle_mark};
 ghost use Rattle.stored_key.specs.Operations.{ReadsKey};
-ghost use Rattle.stored_key.specs.inner.Parts.{frame_length, framed_test, key_found};
+ghost use Rattle.stored_key.specs.inner.Parts.{frame_length, framed_test};
 
 use super::fields::{
     CHAINS_AT, FRAME_BYTES, HEIGHT_AT, LINE_LENGTH, MARK_AT, NEXT_AT, SECRET_AT, SEED_AT, SUM_AT,
@@ -13,7 +13,7 @@ use frames::Kind;
 use hex_lines::read_line;
 use octets::{array_at, word_at};
 use profile::{Profile, Shape, check_profile};
-use refusal::Refusal;
+use refusal::{Refusal, refuse_if};
 use signing_key::{Counter, SigningKey, mark_stands};
 
 // Whether the kind, the mark and the edition's byte of a frame's bytes are right. The last stands in edition 2 alone.
@@ -70,18 +70,19 @@ fn key_in(bytes: &[u8]) -> SigningKey
     }
 }
 
-// The key of a frame as long as a line of so many bytes as the slice has, into which it is read.
-fn read_sized(frame: &[u8], bytes: &mut [u8]) -> Option<SigningKey>
+// Read key for a frame as long as a line of so many bytes as the slice has, into which it is read. It answers as Read key does: a step
+// that handed the key on in another form would leave one more copy of the secret seed on the stack.
+fn read_sized(frame: &[u8], bytes: &mut [u8]) -> Result<SigningKey, Refusal>
     requires { (frame_length ≤ length bytes.old) × (length bytes.old ≤ frame_length + 1)
         × (length frame.now ≡ 2 * length bytes.old + 1) }
-    ensures { result ≡ key_found (read_stored frame.now) }
+    ensures { ReadsKey frame.now result }
 {
     if !read_line(frame, 0, bytes) || !is_framed(bytes) {
-        return None;
+        return Err(Refusal::SheetLine(1));
     }
     let key = key_in(bytes);
-    check_profile(key.profile).ok()?;
-    Some(key)
+    refuse_if(check_profile(key.profile).is_err(), Refusal::SheetLine(1))?;
+    Ok(key)
 }
 
 // Read key: a frame of the fields alone is of edition 1, and one with a byte more of edition 2. A wrong frame is line 1.
@@ -89,12 +90,11 @@ pub fn read_key(frame: &[u8]) -> Result<SigningKey, Refusal>
     ensures { ReadsKey frame.now result }
 {
     let mut bytes = [0; FRAME_BYTES + 1];
-    let found = if frame.len() == LINE_LENGTH {
+    if frame.len() == LINE_LENGTH {
         read_sized(frame, &mut bytes[..FRAME_BYTES])
     } else if frame.len() == LINE_LENGTH + 2 {
         read_sized(frame, &mut bytes)
     } else {
-        None
-    };
-    found.ok_or(Refusal::SheetLine(1))
+        Err(Refusal::SheetLine(1))
+    }
 }

@@ -9,7 +9,7 @@ use lib.Dec.{eqb}
 use lib.ListN.{length, take}
 use Rattle.std.specs.Prelude.{Result, Ok, Err, is_ok}
 use Rattle.std.specs.Str.{bytes_eq}
-use Rattle.refusal.specs.Code.{outcome_code, first_cause}
+use Rattle.refusal.specs.Code.{code, outcome_code, first_cause}
 use Rattle.refusal.specs.declared.Refusal.{Refusal}
 use Rattle.refusal.specs.declared.Refusal.TheVariants.{CountTooSmall}
 use Rattle.refusal.proofs.Causes.{Avoids, none_here, avoids_append, refused-number, refused_first, granted-none, granted_first}
@@ -32,7 +32,7 @@ use Rattle.window.specs.Window.{passed, taken}
 use Rattle.window.specs.declared.Window.{Window}
 use Rattle.verifier.specs.Verifying.{with_accepted, number_in, row_in, root_along, root_in, steps_in, same_bytes}
 use Rattle.verifier.specs.Operations.{VerifyingCall, verify_causes, causes_before_root, verify_code, verifier_after, steps_made, Verifies}
-use Rattle.verifier.specs.inner.Judging.{Ready, judge_causes, judge_code, judge_steps, Judges, causes_before_table, Fills}
+use Rattle.verifier.specs.inner.Judging.{Ready, judge_causes, judge_code, judge_steps, Judges, JudgesBehind, causes_before_table, Fills}
 use Rattle.verifier.specs.declared.Verifier.{Verifier}
 use Rattle.verifier.specs.declared.Verdict.{Verdict}
 use Rattle.verifier.proofs.SameLaws.{same_compared}
@@ -194,19 +194,20 @@ module _ (v : Verifier) (call : VerifyingCall) where
       which false false = refl
 
   module _ {work' : List ℕ} {r : Result (List ℕ) Refusal} (fills : Fills v call.message call.signature call.work work' r) where
-    pub verify_refused : {cause : Refusal} → r ≡ Err cause → Verifies v call work' v (record { outcome = Err cause; steps = 0 })
+    verify_refused : {cause : Refusal} {left : Verifier} {answer : Verdict} → r ≡ Err cause → outcome_code answer.outcome ≡ code cause → left ≡ v
+        → answer.steps ≡ 0 → Verifies v call work' left answer
     unfolding verifier_after steps_made
-    verify_refused was =
+    verify_refused was told same none =
         let refuses = refused before after early causes fills.code was in
         let kept : work' ≡ call.work = rw was at fills.kept in
         record {
-          code = refuses.answer;
-          verifier = rw refuses.some refl;
-          steps = rw (refuses.some, refuses.not_fifteen) refl;
+          code = told ∙ refuses.answer;
+          verifier = same ∙ rw refuses.some refl;
+          steps = none ∙ rw (refuses.some, refuses.not_fifteen) refl;
           table = kept ∙ refuses.untouched v.profile.shape call.work;
         }
 
-    pub verify_judged : {counted : List ℕ} {left : Verifier} {answer : Verdict} → r ≡ Ok counted → Judges v call.message call.signature left answer
+    verify_judged : {counted : List ℕ} {left : Verifier} {answer : Verdict} → r ≡ Ok counted → Judges v call.message call.signature left answer
         → Verifies v call work' left answer
     unfolding verifier_after judge_code
     verify_judged was judged =
@@ -218,3 +219,11 @@ module _ (v : Verifier) (call : VerifyingCall) where
           steps = judged.steps ∙ same_steps rest;
           table = table-left after (refl, (refl, tt)) rest v.profile.shape call.work filled;
         }
+
+    -- the judging behind those causes answers what Check does
+    pub verify_behind : {left : Verifier} {answer : Verdict} → JudgesBehind r v call.message call.signature left answer → Verifies v call work' left answer
+    verify_behind {left} {answer} judged = by r refl judged
+      where
+        by : (s : Result (List ℕ) Refusal) → r ≡ s → JudgesBehind s v call.message call.signature left answer → Verifies v call work' left answer
+        by (Ok counted) was behind = verify_judged was behind.granted
+        by (Err cause) was behind = verify_refused was behind.code behind.verifier behind.steps

@@ -1,7 +1,7 @@
 // The checking cabinet: Check.
 #![tactic(auto)]
 
-ghost use Rattle.std.specs.Prelude.{◌≡◌, false, ◌≤◌, length, take};
+ghost use Rattle.std.specs.Prelude.{◌≡◌, false, ◌≤◌, IfOk, length, take};
 ghost use Rattle.refusal.specs.Code.{outcome_code, first_cause};
 ghost use Rattle.numbers.specs.Number.{value};
 ghost use Rattle.signature.specs.Signature.{signature_length, leaf_in, values_in, siblings_in};
@@ -13,7 +13,7 @@ ghost use Rattle.tree.specs.Tree.{recovered_root};
 ghost use Rattle.message.specs.Message.{count_too_small};
 ghost use Rattle.verifier.specs.Verifying.{number_in, row_in};
 ghost use Rattle.verifier.specs.Operations.{verify_causes, Verifies};
-ghost use Rattle.verifier.specs.inner.Judging.{Fills, Ready, Judges};
+ghost use Rattle.verifier.specs.inner.Judging.{Fills, Ready, Judges, JudgesBehind};
 
 use chains::limited_chains;
 use chains::steps::Walked;
@@ -139,9 +139,9 @@ fn fill_checked(
     Ok(fill(limited, table))
 }
 
-// Judges one order behind the causes before the table, which is filled: 19 by the count, 15 by the root that the signature
+// Judges one order past the causes before the table, which is filled: 19 by the count, 15 by the root that the signature
 // leads to. A cabinet that accepts has taken the leaf.
-pub fn judge(
+fn judge_order(
     v: &mut Verifier,
     count: [u32; 5],
     message: &[u8],
@@ -173,17 +173,33 @@ pub fn judge(
     }
 }
 
+// Judges one order behind what the causes before the table answered, with the count of the table that is filled where none of them
+// holds. Refused by them, the cabinet is as it was.
+pub fn judge(
+    early: Result<[u32; 5], Refusal>,
+    v: &mut Verifier,
+    message: &[u8],
+    signature: &[u8],
+    table: &[u32],
+) -> Verdict
+    requires { IfOk early (λ count. Ready v.old count message.now signature.now table.now) }
+    ensures { JudgesBehind early v.old message.now signature.now v.new result }
+{
+    match early {
+        Ok(count) => judge_order(v, count, message, signature, table),
+        Err(refusal) => Verdict {
+            outcome: Err(refusal),
+            steps: 0,
+        },
+    }
+}
+
 // Check: whether the signature of the message leads to the cabinet's root.
 pub fn verify(v: &mut Verifier, message: &[u8], signature: &[u8], table: &mut [u32]) -> Verdict
     ensures { Verifies v.old
         (record { message = message.entry.now; signature = signature.now; work = table.old })
         table.new v.new result }
 {
-    match fill_checked(v, message, signature, table) {
-        Ok(count) => judge(v, count, message, signature, table),
-        Err(refusal) => Verdict {
-            outcome: Err(refusal),
-            steps: 0,
-        },
-    }
+    let early = fill_checked(v, message, signature, table);
+    judge(early, v, message, signature, table)
 }

@@ -445,7 +445,12 @@ pub extern "C" fn zarosnik_read_key(
         next.new mark.new line.new result }
 {
     let read = read_key(frame);
-    let key = read.unwrap_or(no_key());
+    // Borrowed: to unwrap the key would leave one more copy of the secret seed on the stack.
+    let none = no_key();
+    let key = match &read {
+        Ok(key) => key,
+        Err(_) => &none,
+    };
     let p = key.profile;
     *fields = [
         p.shape.chains,
@@ -455,8 +460,9 @@ pub extern "C" fn zarosnik_read_key(
         p.edition,
     ];
     // In two steps, as above.
-    let (seed_read, secret_read) = (key.seed, key.secret);
+    let seed_read = key.seed;
     *seed = seed_read;
+    let secret_read = key.secret;
     *secret = secret_read;
     *next = key.counter.next;
     *mark = mark_word(key.counter.mark);

@@ -44,6 +44,14 @@ pub record Judges (v : Verifier) (message signature : List ℕ) (left : Verifier
   pub verifier : left ≡ cond (eqb (judge_code v message signature) 0) (with_accepted v (leaf_in signature)) v
   pub steps : answer.steps ≡ judge_steps v message signature
 
+-- and behind the causes before them: refused there, that code is answered, the cabinet is as it was, and no step is made
+pub record JudgesBehind (early : Result (List ℕ) Refusal) (v : Verifier) (message signature : List ℕ) (left : Verifier)
+    (answer : Verdict) : Type 0 where
+  pub granted : OnOk early (Judges v message signature left answer)
+  pub code : OnErr early (outcome_code answer.outcome ≡ outcome_code early)
+  pub verifier : OnErr early (left ≡ v)
+  pub steps : OnErr early (answer.steps ≡ 0)
+
 -- the causes before the table
 abbrev pub causes_before_table : Verifier → (message signature work : List ℕ) → List (Bool × ℕ)
 causes_before_table v message signature work = table_causes v.profile (length work) ++ verify_causes v (length message) signature
