@@ -445,7 +445,7 @@ pub extern "C" fn zarosnik_read_key(
         next.new mark.new line.new result }
 {
     let read = read_key(frame);
-    // Borrowed: to unwrap the key would leave one more copy of the secret seed on the stack.
+    // Borrowed: to unwrap the key would leave more copies of the secret seed on the stack.
     let none = no_key();
     let key = match &read {
         Ok(key) => key,
