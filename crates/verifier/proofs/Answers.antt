@@ -194,7 +194,7 @@ module _ (v : Verifier) (call : VerifyingCall) where
       which false false = refl
 
   module _ {work' : List ℕ} {r : Result (List ℕ) Refusal} (fills : Fills v call.message call.signature call.work work' r) where
-    verify_refused : {cause : Refusal} {left : Verifier} {answer : Verdict} → r ≡ Err cause → outcome_code answer.outcome ≡ code cause → left ≡ v
+    pub verify_refused : {cause : Refusal} {left : Verifier} {answer : Verdict} → r ≡ Err cause → outcome_code answer.outcome ≡ code cause → left ≡ v
         → answer.steps ≡ 0 → Verifies v call work' left answer
     unfolding verifier_after steps_made
     verify_refused was told same none =
@@ -207,7 +207,7 @@ module _ (v : Verifier) (call : VerifyingCall) where
           table = kept ∙ refuses.untouched v.profile.shape call.work;
         }
 
-    verify_judged : {counted : List ℕ} {left : Verifier} {answer : Verdict} → r ≡ Ok counted → Judges v call.message call.signature left answer
+    pub verify_judged : {counted : List ℕ} {left : Verifier} {answer : Verdict} → r ≡ Ok counted → Judges v call.message call.signature left answer
         → Verifies v call work' left answer
     unfolding verifier_after judge_code
     verify_judged was judged =
